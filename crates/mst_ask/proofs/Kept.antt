@@ -24,15 +24,9 @@ use Rattle.mst_engine.specs.report.Planned.{planned_state}
 use Rattle.mst_engine.specs.report.State.{State, IsState, empty_state}
 use Rattle.mst_engine.proofs.Steps.{none_lack}
 use Rattle.mst_print.specs.declared.form.Shape.{Shape}
-use Rattle.mst_ask.specs.Kept.{SameScript, line_row, lines_kept as all_lines, lines_net, made_by, made_in, net_of_script, net_or, script_net, standing_of}
+use Rattle.mst_ask.specs.Kept.{line_row, lines_kept as all_lines, lines_net, made_by, made_in, net_of_script, net_or, script_net, standing_of}
 use Rattle.mst_ask.specs.Standing.{IsStanding, back, undone_rows}
 use Rattle.mst_ask.specs.declared.standing.Standing.{Standing}
-
-pub same_script : (a : Standing) → SameScript a a
-same_script a = record { form = refl; version = refl; script = refl }
-
-pub same_both : (a b c : Standing) → SameScript a b → SameScript b c → SameScript a c
-same_both a b c f g = record { form = g.form ∙ f.form; version = g.version ∙ f.version; script = g.script ∙ f.script }
 
 module _ (version : Version) where
   pub lines_net-append : (net : Net) (xs ys : List (List ℕ)) → lines_net version net (xs ++ ys) ≡ lines_net version (lines_net version net xs) ys

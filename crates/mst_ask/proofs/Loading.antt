@@ -7,8 +7,8 @@ use Rattle.std.proofs.KnownBytes.{Appends-trans}
 use Rattle.mst_io.specs.Written.{AppendsFront}
 use Rattle.mst_io.proofs.Known.{AppendsFront-after, AppendsFront-longer}
 use Rattle.mst_lang.specs.declared.line.Version.{Version}
-use Rattle.mst_engine.specs.Engine.{Tally, does, tallied, version_from}
-use Rattle.mst_engine.specs.Feeding.{IsCounted}
+use Rattle.mst_drive.specs.Words.{WroteFront}
+use Rattle.mst_engine.specs.Engine.{IsCounted, Tally, does, tallied, version_from}
 use Rattle.mst_engine.specs.Script.{Loads, LoadsAll, version_of}
 use Rattle.mst_engine.specs.Steps.{Step, RunsBy, left_by, lacks_of, refusals_of, texts_of}
 use Rattle.mst_engine.specs.declared.engine.Input.TheVariants.{Network}
@@ -17,7 +17,7 @@ use Rattle.mst_engine.proofs.Steps.{left_by-append, runs-none, runs-first}
 use Rattle.mst_print.specs.Shape.{of_script}
 use Rattle.mst_print.specs.declared.form.Form.{Form}
 use Rattle.mst_print.specs.declared.form.Shape.{Shape}
-use Rattle.mst_ask.specs.Answering.{IsFront}
+use Rattle.mst_ask.specs.Answering.{LoadsLines}
 
 -- what the engine has served of the lines, where these are left
 pub record Loading (shape : Shape) (lines left : List (List ℕ)) (t : Tally) (done : List Step) : Type 0 where
@@ -90,18 +90,20 @@ AlwaysLoads = (shape : Shape) (version : Version) (number : ℕ) (now : State) (
 
 -- the writer failed in what a line prints
 pub loading_breaks : AlwaysLoads → (form : Form) (lines : List (List ℕ)) (t : Tally) (done : List Step) (line : List ℕ) (left rest : List (List ℕ)) (made : Step) (written mid now : Option (List ℕ)) → left ≡ line ∷ rest → Loading (of_script form) lines left t done
-    → does (Network (of_script form)) t.version t.number t.state line made → IsState made.state → Appends written mid (texts_of done) → AppendsFront mid now made.text → IsFront form lines written now
+    → does (Network (of_script form)) t.version t.number t.state line made → IsState made.state → Appends written mid (texts_of done) → AppendsFront mid now made.text → WroteFront written now (LoadsLines form lines)
 loading_breaks always form lines t done line left rest made written mid now cut was served network went front =
     let shape = of_script form in
     let more = always shape (version_of lines) (t.number + 1) made.state rest network in
     let says : version_from t.version (line ∷ []) ≡ version_of lines = sym (first_says t.version line rest) ∙ ap (version_from t.version) (sym cut) ∙ was.version in
     let serves : Loads shape (version_of lines) t.number t.state line made = subst (λ version. Loads shape version t.number t.state line made) says served in
-    record {
-      loads = done ++ made ∷ more.0;
-      loaded = was.goes (made ∷ more.0) (subst (λ l. RunsBy (Loads shape (version_of lines)) t.number t.state l (made ∷ more.0)) (sym cut) (runs-first (Loads shape (version_of lines)) t.number t.state line rest made more.0 serves more.1));
-      front = subst (AppendsFront written now) (sym (flat_map-append (λ (s : Step). s.text) done (made ∷ more.0)))
-          (AppendsFront-after written mid now (texts_of done) (texts_of (made ∷ more.0)) went (AppendsFront-longer mid now made.text (texts_of more.0) front));
-    }
+    let steps = done ++ made ∷ more.0 in
+    let runs = runs-first (Loads shape (version_of lines)) t.number t.state line rest made more.0 serves more.1 in
+    let loaded = was.goes (made ∷ more.0) (subst (λ l. RunsBy (Loads shape (version_of lines)) t.number t.state l (made ∷ more.0)) (sym cut) runs) in (
+      texts_of steps,
+      record { loads = steps; loaded = loaded; printed = refl },
+      subst (AppendsFront written now) (sym (flat_map-append (λ (s : Step). s.text) done (made ∷ more.0)))
+          (AppendsFront-after written mid now (texts_of done) (texts_of (made ∷ more.0)) went (AppendsFront-longer mid now made.text (texts_of more.0) front)),
+    )
 
 -- what a front of the lines prints is a front of what all of them print
 pub runs-append : (Does : ℕ → State → List ℕ → Step → Type 0) (n : ℕ) (now : State) (xs ys : List (List ℕ)) (a b : List Step) → RunsBy Does n now xs a → RunsBy Does (n + length xs) (left_by now a) ys b → RunsBy Does n now (xs ++ ys) (a ++ b)

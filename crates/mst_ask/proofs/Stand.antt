@@ -1,242 +1,167 @@
--- What answering questions of a script has printed, by what loading it and serving them have.
-use Rattle.std.proofs.Common.{◌≡◌, ℕ, ◌+◌, Bool, true, false, List, [], ◌∷◌, ◌++◌, length, Option, Some, None, refl, sym, ap, subst, ◌∙◌, inl, inr, append-nil}
-use Rattle.std.specs.Io.KnownBytes.{Consumes}
+-- What answering questions of a script has printed, by what loading it and answering them have.
+use Rattle.std.proofs.Common.{◌≡◌, ℕ, ◌+◌, List, [], ◌∷◌, ◌++◌, Option, Result, Err, refl, ap, subst, ◌∙◌, arith, inl, inr}
+use Rattle.std.specs.Prelude.{IsOk}
+use Rattle.std.specs.Io.KnownBytes.{Appends}
 use Rattle.std.specs.Option.{unwrap_or}
-use Rattle.std.proofs.KnownBytes.{Appends-nil, Appends-trans}
-use Rattle.std.proofs.lemmas.Grind.{flat_map-append}
-use Rattle.mst_io.specs.Devices.{Told}
+use Rattle.mst_drive.specs.Turned.{Turned, Turning}
+use Rattle.mst_drive.specs.Words.{AreRead, Inputs, IsUnread, MayTell, Wrote, WroteFront}
+use Rattle.mst_drive.proofs.Words.{front_then, read_three, unread_three, wrote_still, wrote_then}
+use Rattle.mst_io.specs.Devices.{Seen, stopped_by}
 use Rattle.mst_io.specs.Written.{AppendsFront, Reads}
 use Rattle.mst_io.specs.declared.outcome.Outcome.{Outcome}
 use Rattle.mst_io.specs.declared.outcome.RunFault.{RunFault}
-use Rattle.mst_io.specs.declared.outcome.RunFault.TheVariants.{Read, Write, Memory}
-use Rattle.mst_io.proofs.Known.{AppendsFront-after, AppendsFront-longer}
-use Rattle.mst_io.proofs.ReadBytes.{Reads-rest, Reads-all}
+use Rattle.mst_io.specs.declared.outcome.RunFault.TheVariants.{Read}
+use Rattle.mst_io.proofs.Known.{AppendsFront-longer}
 use Rattle.mst_lang.specs.Lines.{lines_of, ended_lines}
 use Rattle.mst_lang.specs.declared.line.Version.{Version}
-use Rattle.mst_engine.specs.Script.{Loads, LoadsAll, version_of}
-use Rattle.mst_engine.specs.Steps.{Step, RunsBy, left_by, lacking_of as lines_lacking, lacks_of as lines_lack, texts_of}
-use Rattle.mst_engine.specs.report.State.{IsState, empty_state}
-use Rattle.mst_engine.proofs.Steps.{runs-none}
+use Rattle.mst_engine.specs.Script.{LoadsAll, version_of}
+use Rattle.mst_engine.specs.Steps as steps
+use Rattle.mst_engine.specs.Steps.{Step}
 use Rattle.mst_policy.specs.Lines.{policy_from}
 use Rattle.mst_policy.specs.declared.policy.PolicyLine.{PolicyLine}
 use Rattle.mst_print.specs.Shape.{of_script}
 use Rattle.mst_print.specs.declared.form.Form.{Form}
-use Rattle.mst_print.specs.declared.form.Shape.{Shape}
 use Rattle.mst_tool.specs.Lines.{AreLines}
-use Rattle.mst_tool.specs.Load.{LoadsEnded, LoadsFront}
-use Rattle.mst_ask.specs.Answering.{Answered, AnsweredEnded, AnsweredFront, IsFront, IsScript}
-use Rattle.mst_ask.specs.Asking.{Answers, AnswersEnded, Begins, Stands, StandsFront, loaded_by, opening}
+use Rattle.mst_tool.specs.Load.{LoadsScript}
+use Rattle.mst_ask.specs.Answering.{Answered, AnsweredEnded, PrintsAnswers}
+use Rattle.mst_ask.specs.Asking.{Answers, AnswersEnded, Begins, Stands, loaded_by, opening, standing}
 use Rattle.mst_ask.specs.Kept.{standing_of}
-use Rattle.mst_ask.specs.Lines.{lines_in}
-use Rattle.mst_ask.specs.Opening.{IsBrokenAfter, IsPrinted, Opens, OpensNot}
-use Rattle.mst_ask.specs.Standing.{Standing, Turn, AsksBy, IsStanding, answers_of, lacking_of}
-use Rattle.mst_ask.specs.Turning.{tally_of}
-use Rattle.mst_ask.specs.declared.feed.Asking.{Asking}
-use Rattle.mst_ask.specs.declared.script.Script.{Script}
-use Rattle.mst_ask.proofs.Lines.{ended_then}
-use Rattle.mst_ask.proofs.Loading.{AlwaysLoads, runs-append}
+use Rattle.mst_ask.specs.Opening.{IsOpened, MayOpen, Opens}
+use Rattle.mst_ask.specs.Standing.{Standing, Turn, AsksBy, IsStanding, answers_of, differing_of, lacking_of, lacks_of, refusals_of}
+use Rattle.mst_ask.specs.declared.questions.Asking.{Asking}
+use Rattle.mst_ask.specs.Questions.{judged_by}
+use Rattle.mst_ask.proofs.Opened.{opened_with}
+use Rattle.mst_ask.proofs.ScriptTold.{reads_all}
 use Rattle.mst_ask.proofs.Turns.{AlwaysAsks}
 
--- what the laws say: lines load in one way where the same of them lack memory, and a script where none does; it leaves a network with
--- its mark; and questions are answered in one way, too, of what stands then
-abbrev pub OneLoad : Type 0
-OneLoad = (shape : Shape) (lines : List (List ℕ)) (a b : List Step) → LoadsAll shape lines a → LoadsAll shape lines b → lines_lacking a ≡ lines_lacking b → a ≡ b
-
-abbrev pub OneScript : Type 0
-OneScript = (shape : Shape) (script : List ℕ) (a b : List Step) → LoadsAll shape (lines_of script) a → LoadsAll shape (lines_of script) b → lines_lack a ≡ 0 → lines_lack b ≡ 0 → a ≡ b
-
-abbrev pub LeavesState : Type 0
-LeavesState = (shape : Shape) (lines : List (List ℕ)) (steps : List Step) → LoadsAll shape lines steps → IsState (left_by empty_state steps)
-
+-- what the laws say: questions can be answered, and in one way, of what a script leaves
 abbrev pub OneAsking : Type 0
 OneAsking = (form : Form) (version : Version) (number : ℕ) (now : Standing) (lines : List (List ℕ)) (a b : List Turn) → IsStanding now → AsksBy form version number now lines a → AsksBy form version number now lines b → lacking_of a ≡ lacking_of b → a ≡ b
 
 abbrev pub LeavesStanding : Type 0
 LeavesStanding = (form : Form) (lines : List (List ℕ)) (loads : List Step) (policy : List PolicyLine) → LoadsAll (of_script form) lines loads → IsStanding (loaded_by loads policy)
 
-pub record Ways : Type 0 where
-  pub loads : AlwaysLoads
-  pub one_load : OneLoad
-  pub one_script : OneScript
-  pub states : LeavesState
+pub record AskWays : Type 0 where
   pub asks : AlwaysAsks
   pub one_asking : OneAsking
   pub standings : LeavesStanding
 
-pub ways_by : AlwaysLoads → OneLoad → OneScript → LeavesState → AlwaysAsks → OneAsking → LeavesStanding → Ways
-ways_by loads one_load one_script states asks one_asking standings = record { loads = loads; one_load = one_load; one_script = one_script; states = states; asks = asks; one_asking = one_asking; standings = standings }
+pub ask_ways : AlwaysAsks → OneAsking → LeavesStanding → AskWays
+ask_ways asks one_asking standings = record { asks = asks; one_asking = one_asking; standings = standings }
 
--- of no line there is no step
-no_step : (shape : Shape) (s : Step) (loads : List Step) → LoadsAll shape [] (s ∷ loads) → ⊥
-unfolding RunsBy
-no_step shape s loads h = h
+-- some lines of a policy
+some_policy : (policies : Option (List ℕ)) → AreLines policies (policy_from 1 (lines_of (unwrap_or policies [])))
+some_policy policies = (unwrap_or policies [], reads_all policies, refl)
 
-reads_all : (reads : Option (List ℕ)) → Reads reads (unwrap_or reads [])
-reads_all None = tt
-reads_all (Some bytes) = refl
-
--- and some lines of a policy
-some_lines : (policies : Option (List ℕ)) → AreLines policies (policy_from 1 (lines_of (unwrap_or policies [])))
-some_lines policies = (unwrap_or policies [], reads_all policies, refl)
-
-module _ (ways : Ways) (form : Form) where
-  empty_is : IsState empty_state
-  empty_is = ways.states (of_script form) [] [] (runs-none (Loads (of_script form) (version_of [])) 1 empty_state)
-
-  -- ---- stopped in the script
-  -- a front of what all of its lines print
-  front_of : (scripts written now : Option (List ℕ)) (script : List ℕ) (loads : List Step) → Reads scripts script → LoadsAll (of_script form) (lines_of script) loads → AppendsFront written now (texts_of loads) → LoadsFront (of_script form) scripts written now
-  front_of scripts written now script loads read loaded front = record {
-    script = script;
-    steps = loads;
-    read = read;
-    loads = loaded;
-    printed = front;
-    only = λ others again. ways.one_load (of_script form) (lines_of script) others loads again loaded;
-  }
-
-  -- nothing was written
-  pub nothing_loaded : (scripts written : Option (List ℕ)) → LoadsFront (of_script form) scripts written written
-  nothing_loaded scripts written =
-      let script = unwrap_or scripts [] in
-      let all = ways.loads (of_script form) (version_of (lines_of script)) 1 empty_state (lines_of script) empty_is in
-      front_of scripts written written script all.0 (reads_all scripts) all.1 (record { front = []; rest = texts_of all.0; whole = refl; written = Appends-nil written })
-
-  -- lines behind those that were loaded
-  more_lines : (first others : List (List ℕ)) (loads : List Step) → LoadsAll (of_script form) first loads → (more : List Step) × LoadsAll (of_script form) (first ++ others) (loads ++ more)
-  more_lines [] others [] loaded = let all = ways.loads (of_script form) (version_of others) 1 empty_state others empty_is in (all.0, all.1)
-  more_lines [] others (s ∷ loads) loaded = absurd (no_step (of_script form) s loads loaded)
-  more_lines (x ∷ xs) others loads loaded =
-      let version = version_of (x ∷ xs) in
-      let more = ways.loads (of_script form) version (1 + length (x ∷ xs)) (left_by empty_state loads) others (ways.states (of_script form) (x ∷ xs) loads loaded) in
-      (more.0, runs-append (Loads (of_script form) version) 1 empty_state (x ∷ xs) others loads more.0 loaded more.1)
-
-  cut_front : (turns : ℕ) (scripts left written now : Option (List ℕ)) (bytes : List ℕ) (loads : List Step) → Consumes scripts left bytes → LoadsAll (of_script form) (ended_lines bytes) loads → AppendsFront written now (texts_of loads) → LoadsFront (of_script form) scripts written now
-  cut_front turns scripts left written now bytes loads consumed loaded front =
-      let rest = unwrap_or left [] in
-      let then = ended_then bytes rest [] in
-      let more = more_lines (ended_lines bytes) then.0 loads loaded in
-      front_of scripts written now (bytes ++ rest) (loads ++ more.0) (Reads-rest scripts left bytes consumed) (subst (λ lines. LoadsAll (of_script form) lines (loads ++ more.0)) (sym then.1) more.1)
-      (subst (AppendsFront written now) (sym (flat_map-append (λ (s : Step). s.text) loads more.0)) (AppendsFront-longer written now (texts_of loads) (texts_of more.0) front))
-
-  pub script_front : (turns : ℕ) (scripts left written now : Option (List ℕ)) (old new : Told) (script : Script) → IsScript turns scripts left old new script → IsFront form (lines_in script.is_whole script.bytes.items) written now → LoadsFront (of_script form) scripts written now
-  script_front turns scripts left written now old new script is f = by script.is_whole refl f
-    where
-      by : (whole : Bool) → script.is_whole ≡ whole → IsFront form (lines_in whole script.bytes.items) written now → LoadsFront (of_script form) scripts written now
-      by true e f = front_of scripts written now script.bytes.items f.loads (Reads-all scripts left script.bytes.items is.consumed (is.whole e).0) f.loaded f.front
-      by false e f = cut_front turns scripts left written now script.bytes.items f.loads is.consumed f.loaded f.front
-
-  printed_front : (lines : List (List ℕ)) (written now : Option (List ℕ)) → IsPrinted form lines written now → IsFront form lines written now
-  printed_front lines written now p = record { loads = p.loads; loaded = p.loaded; front = record { front = texts_of p.loads; rest = []; whole = sym (append-nil (texts_of p.loads)); written = p.printed } }
-
-  pub script_printed : (turns : ℕ) (scripts left written now : Option (List ℕ)) (old new : Told) (script : Script) → IsScript turns scripts left old new script → IsPrinted form (lines_in script.is_whole script.bytes.items) written now → LoadsFront (of_script form) scripts written now
-  script_printed turns scripts left written now old new script is p = script_front turns scripts left written now old new script is (printed_front (lines_in script.is_whole script.bytes.items) written now p)
-
-  -- and the whole of what those print that were complete
-  pub script_ended : (turns : ℕ) (scripts left written now : Option (List ℕ)) (old new : Told) (script : Script) → IsScript turns scripts left old new script → script.is_whole ≡ false → IsPrinted form (lines_in script.is_whole script.bytes.items) written now → LoadsEnded (of_script form) scripts left written now
-  script_ended turns scripts left written now old new script is cut printed =
-      let p = subst (λ whole. IsPrinted form (lines_in whole script.bytes.items) written now) cut printed in
-      record {
-        read = script.bytes.items;
-        steps = p.loads;
-        consumed = is.consumed;
-        loads = p.loaded;
-        printed = p.printed;
-        only = λ others again. ways.one_load (of_script form) (ended_lines script.bytes.items) others p.loads again p.loaded;
-      }
-
-  -- ---- after the script
-  abbrev answers_by : (scripts policies : Option (List ℕ)) (script : List ℕ) (loads : List Step) (policy : List PolicyLine) (lines : List (List ℕ)) (turns : List Turn) → Reads scripts script → LoadsAll (of_script form) (lines_of script) loads → lines_lack loads ≡ 0
-      → AreLines policies policy → AsksBy form (version_of (lines_of script)) 1 (loaded_by loads policy) lines turns → Answers form scripts policies lines
-  answers_by scripts policies script loads policy lines turns read loaded full are asks = record {
-    script = script;
-    loads = loads;
+module _ (ways : AskWays) (form : Form) (scripts policies : Option (List ℕ)) (text : List ℕ) (b : Begins form scripts text) where
+  -- what is asked behind the script
+  abbrev answers_by : (policy : List PolicyLine) (lines : List (List ℕ)) (turns : List Turn) → AreLines policies policy → AsksBy form (version_of (lines_of b.script)) 1 (loaded_by b.loads policy) lines turns → Answers form scripts policies lines
+  answers_by policy lines turns are asks = record {
+    script = b.script;
+    loads = b.loads;
     policy = policy;
     turns = turns;
-    script_read = read;
-    loaded = loaded;
-    full = full;
+    script_read = b.script_read;
+    loaded = b.loaded;
+    full = b.full;
     are_lines = are;
     answered = asks;
-    only_script = λ others again too. ways.one_script (of_script form) script others loads again loaded too full;
-    only_turns = λ others again. ways.one_asking form (version_of (lines_of script)) 1 (loaded_by loads policy) lines others turns (ways.standings form (lines_of script) loads policy loaded) again asks;
+    only_script = b.only_script;
+    only_turns = λ others again. ways.one_asking form (version_of (lines_of b.script)) 1 (loaded_by b.loads policy) lines others turns (ways.standings form (lines_of b.script) b.loads policy b.loaded) again asks;
   }
 
-  -- a front of what is told before the first question
-  begun_front : (scripts policies questions written now : Option (List ℕ)) (script : List ℕ) (loads : List Step) → Reads scripts script → LoadsAll (of_script form) (lines_of script) loads → lines_lack loads ≡ 0 → AppendsFront written now (opening form loads)
-      → StandsFront form scripts policies questions written now
-  begun_front scripts policies questions written now script loads read loaded full front =
+  -- there is always something
+  begins_told : (questions : Option (List ℕ)) → (rest : List ℕ) × (outcome : Outcome) × Stands form scripts policies questions (text ++ rest) outcome
+  begins_told questions =
       let asked = unwrap_or questions [] in
       let policy = policy_from 1 (lines_of (unwrap_or policies [])) in
-      let more = ways.asks form (version_of (lines_of script)) 1 (loaded_by loads policy) (lines_of asked) (ways.standings form (lines_of script) loads policy loaded) in
-      inr (record {
-        asked = asked;
-        answers = answers_by scripts policies script loads policy (lines_of asked) more.0 read loaded full (some_lines policies) more.1;
-        questions_read = reads_all questions;
-        printed = AppendsFront-longer written now (opening form loads) (answers_of more.0) front;
-      })
+      let more = ways.asks form (version_of (lines_of b.script)) 1 (loaded_by b.loads policy) (lines_of asked) (ways.standings form (lines_of b.script) b.loads policy b.loaded) in (
+        answers_of more.0,
+        record { refused = steps.refusals_of b.loads + refusals_of more.0; memory = lacks_of more.0; differing = differing_of more.0 },
+        record {
+          asked = asked;
+          answers = answers_by policy (lines_of asked) more.0 (some_policy policies) more.1;
+          questions_read = reads_all questions;
+          printed = λ i. b.printed i ++ answers_of more.0;
+          memory = refl;
+          refused = refl;
+          differing = refl;
+        },
+      )
 
-  pub broken_after : (turns : ℕ) (scripts left policies questions written now : Option (List ℕ)) (old new : Told) (script : Script) → IsScript turns scripts left old new script → IsBrokenAfter form script written now → StandsFront form scripts policies questions written now
-  broken_after turns scripts left policies questions written now old new script is b =
-      begun_front scripts policies questions written now script.bytes.items b.loads (Reads-all scripts left script.bytes.items is.consumed (is.whole b.whole).0) b.loaded b.full b.front
+  -- what was asked, from what the script left on
+  module _ (policy : List PolicyLine) (asking : Asking) (o : IsOpened form b.script b.loads policy asking) (are : AreLines policies policy) where
+    abbrev asked_by : (lines : List (List ℕ)) (turns : List Turn) → AsksBy asking.standing.form asking.standing.version 1 (standing_of asking.standing) lines turns → Answers form scripts policies lines
+    asked_by lines turns asks =
+        answers_by policy lines turns are
+        (subst (λ from. AsksBy form (version_of (lines_of b.script)) 1 from lines turns) o.standing
+        (subst (λ version. AsksBy form version 1 (standing_of asking.standing) lines turns) o.version (subst (λ form. AsksBy form asking.standing.version 1 (standing_of asking.standing) lines turns) o.prints asks)))
 
-  -- why it wasn't loaded
-  pub not_opened : (turns : ℕ) (scripts left policies questions written now : Option (List ℕ)) (old new : Told) (script : Script) (fault : RunFault) → IsScript turns scripts left old new script → OpensNot form script written now fault → StandsFront form scripts policies questions written now
-  not_opened turns scripts left policies questions written now old new script Read is p = inl (script_printed turns scripts left written now old new script is p.1)
-  not_opened turns scripts left policies questions written now old new script Write is (inl f) = inl (script_front turns scripts left written now old new script is f)
-  not_opened turns scripts left policies questions written now old new script Write is (inr b) = broken_after turns scripts left policies questions written now old new script is b
-  not_opened turns scripts left policies questions written now old new script Memory is p = inl (script_printed turns scripts left written now old new script is p.1)
-
-  module _ (turns : ℕ) (scripts left policies questions written mid : Option (List ℕ)) (old new : Told) (script : Script) (policy : List PolicyLine) (asking : Asking) (is : IsScript turns scripts left old new script)
-      (o : Opens form script policy written mid asking) where
-    -- it was loaded, and nothing else was done
-    pub begins : Begins form scripts written mid
-    begins = record {
-      script = script.bytes.items;
-      loads = o.loads;
-      script_read = Reads-all scripts left script.bytes.items is.consumed (is.whole o.whole).0;
-      loaded = o.loaded;
-      full = o.full;
-      printed = o.printed;
-      only_script = λ others again too. ways.one_script (of_script form) script.bytes.items others o.loads again o.loaded too o.full;
+    stands : (questions : Option (List ℕ)) (told : List ℕ) (counted outcome : Outcome) → Answered asking.standing questions told counted → outcome ≡ record counted { refused = asking.loaded + counted.refused }
+        → Stands form scripts policies questions (text ++ told) outcome
+    stands questions told counted outcome a is = record {
+      asked = a.bytes;
+      answers = asked_by (lines_of a.bytes) a.turns a.asks;
+      questions_read = a.read;
+      printed = λ i. b.printed i ++ a.printed i;
+      memory = ap (λ (x : Outcome). x.memory) is ∙ a.memory;
+      refused = ap (λ (x : Outcome). x.refused) is ∙ (λ i. o.refused i + a.refused i);
+      differing = ap (λ (x : Outcome). x.differing) is ∙ a.differing;
     }
 
-    pub begins_front : StandsFront form scripts policies questions written mid
-    begins_front =
-        begun_front scripts policies questions written mid script.bytes.items o.loads (Reads-all scripts left script.bytes.items is.consumed (is.whole o.whole).0) o.loaded o.full
-        (record { front = opening form o.loads; rest = []; whole = sym (append-nil (opening form o.loads)); written = o.printed })
+    stands_somehow : (questions : Option (List ℕ)) (told : List ℕ) → PrintsAnswers asking.standing questions told → (outcome : Outcome) × Stands form scripts policies questions (text ++ told) outcome
+    stands_somehow questions told p = let outcome = record p.0 { refused = asking.loaded + p.0.refused } in (outcome, stands questions told p.0 outcome p.1 refl)
 
-    module _ (now : Option (List ℕ)) (are : AreLines policies policy) where
-      -- what was asked, from what the script left on
-      abbrev asked_by : (lines : List (List ℕ)) (done : List Turn) → AsksBy form asking.standing.version 1 (standing_of asking.standing) lines done → Answers form scripts policies lines
-      asked_by lines done asks =
-          answers_by scripts policies script.bytes.items o.loads policy lines done (Reads-all scripts left script.bytes.items is.consumed (is.whole o.whole).0) o.loaded o.full are
-          (subst (λ from. AsksBy form (version_of (lines_of script.bytes.items)) 1 from lines done) o.standing (subst (λ version. AsksBy form version 1 (standing_of asking.standing) lines done) o.version asks))
+    stands_ended : (questions left : Option (List ℕ)) (told : List ℕ) → AnsweredEnded asking.standing questions left told → AnswersEnded form scripts policies questions left (text ++ told)
+    stands_ended questions left told a = record {
+      read = a.read;
+      answers = asked_by (ended_lines a.read) a.turns a.asks;
+      consumed = a.consumed;
+      printed = λ i. b.printed i ++ a.printed i;
+    }
 
-      pub stands : (after : Asking) (outcome : Outcome) → Answered form asking.standing.version (standing_of asking.standing) questions mid now (tally_of after) → outcome ≡ record after.outcome { refused = after.loaded + after.outcome.refused } → after.loaded ≡ asking.loaded
-          → Stands form scripts policies questions written now outcome
-      stands after outcome a counted same = record {
-        asked = a.bytes;
-        answers = asked_by (lines_of a.bytes) a.turns a.asks;
-        questions_read = a.read;
-        printed = Appends-trans written mid now (opening form o.loads) (answers_of a.turns) o.printed a.printed;
-        memory = ap (λ (x : Outcome). x.memory) counted ∙ a.memory;
-        refused = ap (λ (x : Outcome). x.refused) counted ∙ (λ i. (same ∙ o.refused) i + a.refused i);
-        differing = ap (λ (x : Outcome). x.differing) counted ∙ a.differing;
-      }
+-- what was printed a front of, where it was stopped before the first question
+pub may_tell : AskWays → (form : Form) (given : Inputs) (written now : Option (List ℕ)) → WroteFront written now (MayOpen form given.first) → WroteFront written now (MayTell (standing form) given)
+may_tell ways form given written now w = by w.0 w.1 w.2
+  where
+    by : (text : List ℕ) → MayOpen form given.first text → AppendsFront written now text → WroteFront written now (MayTell (standing form) given)
+    by text (inl loads) front = (text, inl loads, front)
+    by text (inr begins) front = let t = begins_told ways form given.first given.third text begins given.second in (text ++ t.0, inr (t.1, t.2), AppendsFront-longer written now text t.0 front)
 
-      pub stands_front : AnsweredFront form asking.standing.version (standing_of asking.standing) questions mid now → StandsFront form scripts policies questions written now
-      stands_front a = inr (record {
-        asked = a.bytes;
-        answers = asked_by (lines_of a.bytes) a.turns a.asks;
-        questions_read = a.read;
-        printed = AppendsFront-after written mid now (opening form o.loads) (answers_of a.turns) o.printed a.printed;
-      })
+-- ---- behind a script that was loaded, and a policy of which nothing is told yet
+module _ (ways : AskWays) (form : Form) (given : Inputs) (written mid sent now : Option (List ℕ)) (opened asking : Asking) (policy : List PolicyLine) (w : Wrote written mid (Opens form given.first opened)) (nothing : Appends mid sent []) (are : AreLines given.third policy)
+    (is : asking ≡ judged_by opened policy) where
+  abbrev pub told : Wrote written sent (Opens form given.first opened)
+  told = wrote_still written mid sent (Opens form given.first opened) w nothing
 
-      pub stands_ended : (left_over : Option (List ℕ)) → AnsweredEnded form asking.standing.version (standing_of asking.standing) questions left_over mid now → AnswersEnded form scripts policies questions left_over written now
-      stands_ended left_over a = record {
-        read = a.read;
-        answers = asked_by (ended_lines a.read) a.turns a.asks;
-        consumed = a.consumed;
-        printed = Appends-trans written mid now (opening form o.loads) (answers_of a.turns) o.printed a.printed;
-      }
+  abbrev pub begins : Begins form given.first told.0
+  begins = (told.1).0
+
+  pub is_opened : IsOpened form begins.script begins.loads policy asking
+  is_opened = opened_with form begins.script begins.loads policy opened asking is (told.1).1
+
+  pub asked_all : (counted outcome : Outcome) (loaded : ℕ) → Wrote sent now (λ text. Answered asking.standing given.second text counted) → outcome ≡ record counted { refused = loaded + counted.refused } → loaded ≡ asking.loaded
+      → Wrote written now (λ text. Stands form given.first given.third given.second text outcome)
+  asked_all counted outcome loaded a all same = wrote_then written sent now told.0 a.0 _ (stands ways form given.first given.third told.0 begins policy asking is_opened are given.second a.0 counted outcome a.1 (all ∙ ap (λ n. record counted { refused = n + counted.refused }) same)) told.2 a.2
+
+  pub asked_front : WroteFront sent now (PrintsAnswers asking.standing given.second) → WroteFront written now (MayTell (standing form) given)
+  asked_front a = front_then written sent now told.0 a.0 _ (inr (stands_somehow ways form given.first given.third told.0 begins policy asking is_opened are given.second a.0 a.1)) told.2 a.2
+
+  pub asked_ended : (left : Inputs) → Wrote sent now (AnsweredEnded asking.standing given.second left.second) → Wrote written now ((standing form).cut given left)
+  asked_ended left a = wrote_then written sent now told.0 a.0 _ (inr (inr (stands_ended ways form given.first given.third told.0 begins policy asking is_opened are given.second left.second a.0 a.1))) told.2 a.2
+
+-- ---- the sources, of which the questions come last
+pub sources_read : (turns : ℕ) (script policy questions : Turning) (sink sink_now : Seen) (result : Result Outcome RunFault) → Turned turns (script ∷ policy ∷ questions ∷ []) sink sink_now (stopped_by result) → IsOk result
+    → AreRead 3 script.before.told script.now.told questions.before.told questions.now.told policy.before.told policy.now.told
+sources_read turns script policy questions sink sink_now result turned ok =
+    let read = read_three turns result sink sink_now script policy questions turned ok in
+    record { is_first = read.is_first; is_second = λ more. read.is_third (omega arith); is_third = λ more. read.is_second (omega arith) }
+
+pub sources_unread : (turns : ℕ) (script policy questions : Turning) (sink sink_now : Seen) (result : Result Outcome RunFault) → Turned turns (script ∷ policy ∷ questions ∷ []) sink sink_now (stopped_by result) → result ≡ Err Read
+    → IsUnread 3 turns script.before.told script.now.told questions.before.told questions.now.told policy.before.told policy.now.told
+sources_unread turns script policy questions sink sink_now result turned is = by (unread_three turns result sink sink_now script policy questions turned is)
+  where
+    by : IsUnread 3 turns script.before.told script.now.told policy.before.told policy.now.told questions.before.told questions.now.told → IsUnread 3 turns script.before.told script.now.told questions.before.told questions.now.told policy.before.told policy.now.told
+    by (inl cut) = inl cut
+    by (inr (inl cut)) = inr (inr (omega arith, cut.1))
+    by (inr (inr cut)) = inr (inl (omega arith, cut.1))

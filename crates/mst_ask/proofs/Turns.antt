@@ -1,16 +1,12 @@
 -- Turns that lines can do.
-use Rattle.std.proofs.Common.{◌≡◌, ℕ, ◌+◌, Bool, List, [], ◌∷◌, ◌++◌, refl, ap}
+use Rattle.std.proofs.Common.{◌≡◌, ℕ, ◌+◌, Bool, List, [], ◌∷◌, ap}
 use Rattle.mst_lang.specs.declared.line.Version.{Version}
 use Rattle.mst_print.specs.declared.form.Form.{Form}
-use Rattle.mst_ask.specs.Standing.{Standing, Turn, AsksBy, AsksLine, IsStanding, lacking_of, left_after}
+use Rattle.mst_ask.specs.Standing.{Standing, Turn, AsksBy, AsksLine, IsStanding, lacking_of}
 
 -- any lines can be asked, whatever stands
 abbrev pub AlwaysAsks : Type 0
 AlwaysAsks = (form : Form) (version : Version) (number : ℕ) (now : Standing) (lines : List (List ℕ)) → IsStanding now → (turns : List Turn) × AsksBy form version number now lines turns
-
-pub left_after-append : (now : Standing) (d e : List Turn) → left_after now (d ++ e) ≡ left_after (left_after now d) e
-left_after-append now [] e = refl
-left_after-append now (t ∷ d) e = left_after-append t.standing d e
 
 -- of two lists of turns that lack memory at the same lines the first do both or neither, and so do the others
 pub alike_both : (s t : Turn) (a b : List Turn) → lacking_of (s ∷ a) ≡ lacking_of (t ∷ b) → (s.lacking ≡ t.lacking) × (lacking_of a ≡ lacking_of b)

@@ -1,10 +1,10 @@
 -- What serving the lines of a script and questions promises.
-use Rattle.std.specs.Prelude.{◌≡◌, ◌≤◌, ◌<◌, ◌+◌, ◌*◌, ℕ, true, false, length, List, [], Option}
-use Rattle.std.specs.Io.KnownBytes.{Appends, Consumes, IsAtEnd}
+use Rattle.std.specs.Prelude.{◌≡◌, ◌⊎◌, ◌≤◌, ◌<◌, ◌+◌, ◌*◌, ℕ, true, false, length, List, [], Option}
+use Rattle.std.specs.Io.KnownBytes.{Consumes, IsAtEnd}
 use Rattle.mst_io.specs.Devices.{Told, IsCut, IsRead, Works}
-use Rattle.mst_io.specs.Written.{AppendsFront, Reads}
+use Rattle.mst_io.specs.Written.{Reads}
+use Rattle.mst_io.specs.declared.outcome.Outcome.{Outcome}
 use Rattle.mst_lang.specs.Lines.{lines_of, ended_lines}
-use Rattle.mst_lang.specs.declared.line.Version.{Version}
 use Rattle.mst_engine.specs.Engine.{version_from}
 use Rattle.mst_engine.specs.Script.{LoadsAll, version_of}
 use Rattle.mst_engine.specs.Steps as steps
@@ -14,9 +14,10 @@ use Rattle.mst_engine.specs.report.Planned.{planned_state}
 use Rattle.mst_engine.specs.report.State.{empty_state}
 use Rattle.mst_print.specs.Shape.{of_script}
 use Rattle.mst_print.specs.declared.form.Form.{Form}
-use Rattle.mst_ask.specs.Standing.{Standing, Turn, AsksBy, answers_of, differing_of, lacks_of, refusals_of}
-use Rattle.mst_ask.specs.Turning.{Tally}
+use Rattle.mst_ask.specs.Kept.{standing_of}
+use Rattle.mst_ask.specs.Standing.{Turn, AsksBy, answers_of, differing_of, lacks_of, refusals_of}
 use Rattle.mst_ask.specs.declared.script.Script.{Script}
+use Rattle.mst_ask.specs.declared.standing.Standing.{Standing}
 
 -- ---- the script
 -- It was read to its end, or was cut: the source failed, or all turns were used
@@ -32,46 +33,46 @@ pub record IsLeft (turns : ℕ) (old new : Told) : Type 0 where
   pub works : Works old new
   pub few : new.calls < old.calls + turns
 
--- the lines were loaded, and what they print was written. They were counted, and the version is known
-pub record IsLoaded (form : Form) (lines : List (List ℕ)) (written now : Option (List ℕ)) (engine : Engine) : Type 0 where
+-- some of it was read, or all
+abbrev pub IsBegun : Script → Type 0
+IsBegun script = (0 < length script.bytes.items) ⊎ (script.is_whole ≡ true)
+
+-- the lines were loaded, and this is what they print. They were counted, and the version is known
+pub record IsLoaded (form : Form) (lines : List (List ℕ)) (text : List ℕ) (engine : Engine) : Type 0 where
   pub loads : List Step
   pub loaded : LoadsAll (of_script form) lines loads
-  pub printed : Appends written now (texts_of loads)
+  pub printed : text ≡ texts_of loads
   pub state : planned_state engine.planner ≡ left_by empty_state loads
   pub refused : engine.refused ≡ steps.refusals_of loads
   pub memory : engine.memory ≡ steps.lacks_of loads
   pub version : version_from engine.version [] ≡ version_of lines
 
--- a front of what the lines print was written
-pub record IsFront (form : Form) (lines : List (List ℕ)) (written now : Option (List ℕ)) : Type 0 where
+-- loading the lines prints this
+pub record LoadsLines (form : Form) (lines : List (List ℕ)) (text : List ℕ) : Type 0 where
   pub loads : List Step
   pub loaded : LoadsAll (of_script form) lines loads
-  pub front : AppendsFront written now (texts_of loads)
+  pub printed : text ≡ texts_of loads
 
 -- ---- the questions
--- all were answered, from what stood, and what they print was written. They were counted
-pub record Answered (form : Form) (version : Version) (from : Standing) (reads written now : Option (List ℕ)) (t : Tally) : Type 0 where
+-- all were answered, from what stood, and this is what they print. They were counted
+pub record Answered (kept : Standing) (reads : Option (List ℕ)) (text : List ℕ) (outcome : Outcome) : Type 0 where
   pub bytes : List ℕ
   pub turns : List Turn
   pub read : Reads reads bytes
-  pub asks : AsksBy form version 1 from (lines_of bytes) turns
-  pub printed : Appends written now (answers_of turns)
-  pub memory : t.memory ≡ lacks_of turns
-  pub refused : t.refused ≡ refusals_of turns
-  pub differing : t.differing ≡ differing_of turns
+  pub asks : AsksBy kept.form kept.version 1 (standing_of kept) (lines_of bytes) turns
+  pub printed : text ≡ answers_of turns
+  pub memory : outcome.memory ≡ lacks_of turns
+  pub refused : outcome.refused ≡ refusals_of turns
+  pub differing : outcome.differing ≡ differing_of turns
 
--- a front of what they print was written
-pub record AnsweredFront (form : Form) (version : Version) (from : Standing) (reads written now : Option (List ℕ)) : Type 0 where
-  pub bytes : List ℕ
-  pub turns : List Turn
-  pub read : Reads reads bytes
-  pub asks : AsksBy form version 1 from (lines_of bytes) turns
-  pub printed : AppendsFront written now (answers_of turns)
+-- what they print, whatever was counted
+abbrev pub PrintsAnswers : Standing → Option (List ℕ) → List ℕ → Type 0
+PrintsAnswers kept reads text = (outcome : Outcome) × Answered kept reads text outcome
 
--- those that were complete in what was read were answered, and the whole of what they print was written
-pub record AnsweredEnded (form : Form) (version : Version) (from : Standing) (reads left written now : Option (List ℕ)) : Type 0 where
+-- those that were complete in what was read were answered, and this is the whole of what they print
+pub record AnsweredEnded (kept : Standing) (reads left : Option (List ℕ)) (text : List ℕ) : Type 0 where
   pub read : List ℕ
   pub turns : List Turn
   pub consumed : Consumes reads left read
-  pub asks : AsksBy form version 1 from (ended_lines read) turns
-  pub printed : Appends written now (answers_of turns)
+  pub asks : AsksBy kept.form kept.version 1 (standing_of kept) (ended_lines read) turns
+  pub printed : text ≡ answers_of turns

@@ -1,18 +1,19 @@
--- What answering questions of the network of a script promises, where it prints in this form.
+-- What a standing planner tells of a script and of questions of its network, where it prints in this form.
 use Rattle.std.specs.Prelude.{◌≡◌, ◌+◌, ◌++◌, ◌⊎◌, ◌==◌, not, false, ℕ, List, [], Option}
-use Rattle.std.specs.Io.KnownBytes.{Appends, Consumes}
+use Rattle.std.specs.Io.KnownBytes.{Consumes}
+use Rattle.mst_drive.specs.Words.{Telling}
 use Rattle.mst_lang.specs.Lines.{lines_of, ended_lines}
 use Rattle.mst_engine.specs.Script.{LoadsAll, version_of}
 use Rattle.mst_engine.specs.Steps as steps
 use Rattle.mst_engine.specs.Steps.{Step, left_by, texts_of}
 use Rattle.mst_engine.specs.report.State.{empty_state}
-use Rattle.mst_io.specs.Written.{AppendsFront, Reads}
+use Rattle.mst_io.specs.Written.{Reads}
 use Rattle.mst_io.specs.declared.outcome.Outcome.{Outcome}
 use Rattle.mst_policy.specs.declared.policy.PolicyLine.{PolicyLine}
 use Rattle.mst_print.specs.Shape.{of_script}
 use Rattle.mst_print.specs.declared.form.Form.{Form}
 use Rattle.mst_tool.specs.Lines.{AreLines}
-use Rattle.mst_tool.specs.Load.{LoadsEnded, LoadsFront}
+use Rattle.mst_tool.specs.Load.{LoadsEnded, LoadsScript}
 use Rattle.mst_ask.specs.Standing.{Standing, Turn, AsksBy, answers_of, differing_of, done, lacking_of, lacks_of, refusals_of, status_by}
 
 -- what stands where a script was loaded by these steps, with a policy: no edit was made since
@@ -43,52 +44,54 @@ pub record Answers (form : Form) (scripts policies : Option (List ℕ)) (asked :
 abbrev pub printed_by : {form : Form} {scripts policies : Option (List ℕ)} {asked : List (List ℕ)} → Answers form scripts policies asked → List ℕ
 printed_by {form} a = opening form a.loads ++ answers_of a.turns
 
--- The script was loaded and all questions were answered, and what they print was written. The outcome counts the lines and the
+-- The script was loaded and all questions were answered, and this is what they print. The outcome counts the lines and the
 -- questions that were refused, those that lacked memory, and those that tell of something that differs
-pub record Stands (form : Form) (scripts policies questions written now : Option (List ℕ)) (outcome : Outcome) : Type 0 where
+pub record Stands (form : Form) (scripts policies questions : Option (List ℕ)) (text : List ℕ) (outcome : Outcome) : Type 0 where
   pub asked : List ℕ
   pub answers : Answers form scripts policies (lines_of asked)
   pub questions_read : Reads questions asked
-  pub printed : Appends written now (printed_by answers)
+  pub printed : text ≡ printed_by answers
   pub memory : outcome.memory ≡ lacks_of answers.turns
   pub refused : outcome.refused ≡ steps.refusals_of answers.loads + refusals_of answers.turns
   pub differing : outcome.differing ≡ differing_of answers.turns
 
--- a front of what the script and the questions print was written
-pub record AnswersFront (form : Form) (scripts policies questions written now : Option (List ℕ)) : Type 0 where
-  pub asked : List ℕ
-  pub answers : Answers form scripts policies (lines_of asked)
-  pub questions_read : Reads questions asked
-  pub printed : AppendsFront written now (printed_by answers)
+-- a front of what the script's lines print
+abbrev pub LoadsFront : Form → Option (List ℕ) → List ℕ → Type 0
+LoadsFront form scripts text = (rest : List ℕ) × LoadsScript (of_script form) scripts (text ++ rest)
 
--- one of the two: it was stopped in the script, or after it
-abbrev pub StandsFront : Form → Option (List ℕ) → Option (List ℕ) → Option (List ℕ) → Option (List ℕ) → Option (List ℕ) → Type 0
-StandsFront form scripts policies questions written now = LoadsFront (of_script form) scripts written now ⊎ AnswersFront form scripts policies questions written now
-
--- The script was loaded, and what it prints was written, and the end of that, and nothing else. It has no other steps of which none
+-- The script was loaded, and this is what it prints, and the end of that, and nothing else. It has no other steps of which none
 -- lacks memory
-pub record Begins (form : Form) (scripts written now : Option (List ℕ)) : Type 0 where
+pub record Begins (form : Form) (scripts : Option (List ℕ)) (text : List ℕ) : Type 0 where
   pub script : List ℕ
   pub loads : List Step
   pub script_read : Reads scripts script
   pub loaded : LoadsAll (of_script form) (lines_of script) loads
   pub full : steps.lacks_of loads ≡ 0
-  pub printed : Appends written now (opening form loads)
+  pub printed : text ≡ opening form loads
   pub only_script : (others : List Step) → LoadsAll (of_script form) (lines_of script) others → steps.lacks_of others ≡ 0 → others ≡ loads
 
 -- it was stopped for want of memory before the first question: in the script, or in the policy behind it
-abbrev pub Unasked : Form → Option (List ℕ) → Option (List ℕ) → Option (List ℕ) → Type 0
-Unasked form scripts written now = LoadsFront (of_script form) scripts written now ⊎ Begins form scripts written now
+abbrev pub Unasked : Form → Option (List ℕ) → List ℕ → Type 0
+Unasked form scripts text = LoadsFront form scripts text ⊎ Begins form scripts text
 
 -- The reader of the questions has given these bytes, as far as it tells, and has some left. The lines that they complete were
--- answered, and the whole of what the script and these print was written, and nothing else
-pub record AnswersEnded (form : Form) (scripts policies questions left written now : Option (List ℕ)) : Type 0 where
+-- answered, and this is the whole of what the script and these print, and nothing else
+pub record AnswersEnded (form : Form) (scripts policies questions left : Option (List ℕ)) (text : List ℕ) : Type 0 where
   pub read : List ℕ
   pub answers : Answers form scripts policies (ended_lines read)
   pub consumed : Consumes questions left read
-  pub printed : Appends written now (printed_by answers)
+  pub printed : text ≡ printed_by answers
 
 -- a reader failed: that of the script or that of the policy, so that no question was answered, or that of the questions
-abbrev pub StandsEnded : Form → Option (List ℕ) → Option (List ℕ) → Option (List ℕ) → Option (List ℕ) → Option (List ℕ) → Option (List ℕ) → Option (List ℕ) → Type 0
-StandsEnded form scripts scripts_left policies questions questions_left written now =
-    LoadsEnded (of_script form) scripts scripts_left written now ⊎ (Begins form scripts written now ⊎ AnswersEnded form scripts policies questions questions_left written now)
+abbrev pub StandsEnded : Form → Option (List ℕ) → Option (List ℕ) → Option (List ℕ) → Option (List ℕ) → Option (List ℕ) → List ℕ → Type 0
+StandsEnded form scripts scripts_left policies questions questions_left text =
+    LoadsEnded (of_script form) scripts scripts_left text ⊎ (Begins form scripts text ⊎ AnswersEnded form scripts policies questions questions_left text)
+
+-- What a standing planner tells of a script, of questions, and of a policy, which is its third input
+abbrev pub standing : Form → Telling
+standing form = record {
+  tells = λ given text outcome. Stands form given.first given.third given.second text outcome;
+  begins = λ given text. LoadsScript (of_script form) given.first text;
+  cut = λ given left text. StandsEnded form given.first left.first given.third given.second left.second text;
+  starved = λ given text. Unasked form given.first text;
+}

@@ -4,6 +4,6 @@ pub mod Asking
 pub mod Lines
 pub mod Kept
 pub mod Replies
-pub mod Turning
+pub mod Questions
 pub mod Answering
 pub mod Opening

@@ -1,54 +1,66 @@
 -- What loading the script promises, before the first question.
-use Rattle.std.specs.Prelude.{◌≡◌, ◌⊎◌, ◌<◌, ◌^◌, ℕ, true, false, List, Option}
-use Rattle.std.specs.Io.KnownBytes.{Appends}
+use Rattle.std.specs.Prelude.{◌≡◌, ◌⊎◌, ◌<◌, ◌^◌, ℕ, true, false, List, [], Option, Some, None}
+use Rattle.mst_drive.specs.Words.{Wrote, WroteFront}
 use Rattle.mst_lang.specs.Lines.{lines_of}
 use Rattle.mst_engine.specs.Script.{LoadsAll, version_of}
-use Rattle.mst_engine.specs.Steps.{Step, lacks_of, refusals_of, texts_of}
-use Rattle.mst_io.specs.Written.{AppendsFront}
+use Rattle.mst_engine.specs.Steps.{Step, lacks_of, refusals_of}
+use Rattle.mst_io.specs.Devices.{Told, Works, IsStopped}
 use Rattle.mst_io.specs.declared.outcome.RunFault.{RunFault}
 use Rattle.mst_io.specs.declared.outcome.RunFault.TheVariants.{Read, Write, Memory}
 use Rattle.mst_policy.specs.declared.policy.PolicyLine.{PolicyLine}
 use Rattle.mst_print.specs.Shape.{of_script}
 use Rattle.mst_print.specs.declared.form.Form.{Form}
-use Rattle.mst_ask.specs.Answering.{IsFront}
-use Rattle.mst_ask.specs.Asking.{loaded_by, opening}
+use Rattle.mst_tool.specs.Load.{LoadsScript}
+use Rattle.mst_ask.specs.Answering.{IsBegun, LoadsLines}
+use Rattle.mst_ask.specs.Asking.{Begins, loaded_by, opening}
 use Rattle.mst_ask.specs.Kept.{IsKept, standing_of}
 use Rattle.mst_ask.specs.Lines.{lines_in}
-use Rattle.mst_ask.specs.Turning.{begun, tally_of}
-use Rattle.mst_ask.specs.declared.feed.Asking.{Asking}
+use Rattle.mst_ask.specs.Questions.{none_counted}
+use Rattle.mst_ask.specs.declared.questions.Asking.{Asking}
 use Rattle.mst_ask.specs.declared.script.Script.{Script}
 
--- the whole script was loaded, no line of it lacked memory, and what it prints was written, and the end of that. It stands with this policy
-pub record Opens (form : Form) (script : Script) (policy : List PolicyLine) (written now : Option (List ℕ)) (asking : Asking) : Type 0 where
-  pub whole : script.is_whole ≡ true
+-- ---- what was read of it
+-- the whole script can be loaded so that no line lacks memory, and this is what it prints then, and the end of that
+pub record PrintsWhole (form : Form) (script text : List ℕ) : Type 0 where
   pub loads : List Step
-  pub loaded : LoadsAll (of_script form) (lines_of script.bytes.items) loads
+  pub loaded : LoadsAll (of_script form) (lines_of script) loads
   pub full : lacks_of loads ≡ 0
-  pub printed : Appends written now (opening form loads)
+  pub printed : text ≡ opening form loads
+
+-- what stands where it was loaded by these steps, with this policy. Nothing was asked of it
+pub record IsOpened (form : Form) (script : List ℕ) (loads : List Step) (policy : List PolicyLine) (asking : Asking) : Type 0 where
   pub kept : IsKept asking.standing
   pub prints : asking.standing.form ≡ form
-  pub version : asking.standing.version ≡ version_of (lines_of script.bytes.items)
+  pub version : asking.standing.version ≡ version_of (lines_of script)
   pub standing : standing_of asking.standing ≡ loaded_by loads policy
-  pub begins : tally_of asking ≡ begun (standing_of asking.standing)
+  pub begins : asking.outcome ≡ none_counted
   pub refused : asking.loaded ≡ refusals_of loads
   pub few : asking.loaded < 2 ^ 60
 
--- the lines that are known were loaded, and what they print was written
-pub record IsPrinted (form : Form) (lines : List (List ℕ)) (written now : Option (List ℕ)) : Type 0 where
-  pub loads : List Step
-  pub loaded : LoadsAll (of_script form) lines loads
-  pub printed : Appends written now (texts_of loads)
-
--- the writer failed in the end of that
-pub record IsBrokenAfter (form : Form) (script : Script) (written now : Option (List ℕ)) : Type 0 where
-  pub whole : script.is_whole ≡ true
-  pub loads : List Step
-  pub loaded : LoadsAll (of_script form) (lines_of script.bytes.items) loads
-  pub full : lacks_of loads ≡ 0
-  pub front : AppendsFront written now (opening form loads)
+-- the whole of it was loaded, and what it prints was written
+abbrev pub OpensWhole : Form → Script → Option (List ℕ) → Option (List ℕ) → Asking → Type 0
+OpensWhole form script written now asking =
+    (script.is_whole ≡ true) × Wrote written now (λ text. (whole : PrintsWhole form script.bytes.items text) × IsOpened form script.bytes.items whole.loads [] asking)
 
 -- why it wasn't: the reader or the writer failed, or a line lacked memory
 abbrev pub OpensNot : Form → Script → Option (List ℕ) → Option (List ℕ) → RunFault → Type 0
-OpensNot form script written now Read = (script.is_whole ≡ false) × IsPrinted form (lines_in script.is_whole script.bytes.items) written now
-OpensNot form script written now Write = IsFront form (lines_in script.is_whole script.bytes.items) written now ⊎ IsBrokenAfter form script written now
-OpensNot form script written now Memory = (script.is_whole ≡ true) × IsPrinted form (lines_in script.is_whole script.bytes.items) written now
+OpensNot form script written now Read = (script.is_whole ≡ false) × Wrote written now (LoadsLines form (lines_in script.is_whole script.bytes.items))
+OpensNot form script written now Write =
+    IsBegun script × WroteFront written now (λ text. LoadsLines form (lines_in script.is_whole script.bytes.items) text ⊎ ((script.is_whole ≡ true) × PrintsWhole form script.bytes.items text))
+OpensNot form script written now Memory = (script.is_whole ≡ true) × Wrote written now (LoadsLines form (lines_in script.is_whole script.bytes.items))
+
+-- how the sink stands then
+abbrev pub Leaves : Told → Told → Option RunFault → Type 0
+Leaves sink now None = Works sink now
+Leaves sink now (Some Read) = Works sink now
+Leaves sink now (Some Write) = IsStopped sink now
+Leaves sink now (Some Memory) = Works sink now
+
+-- ---- the reader
+-- the script that it gives was loaded, and this is what it prints, and the end of that
+abbrev pub Opens : Form → Option (List ℕ) → Asking → List ℕ → Type 0
+Opens form scripts asking text = (begins : Begins form scripts text) × IsOpened form begins.script begins.loads [] asking
+
+-- what was printed a front of, where it wasn't: what the lines print, or the end of that with it
+abbrev pub MayOpen : Form → Option (List ℕ) → List ℕ → Type 0
+MayOpen form scripts text = LoadsScript (of_script form) scripts text ⊎ Begins form scripts text

@@ -1,16 +1,18 @@
 //! A standing planner: the network of a script, of which questions are asked, one after another, and which edits change and
 //! take back. [`ask_within`] reads the script and then the questions, each of which is a line, and answers each before it
-//! reads on.
+//! reads on. [`AskWord`] is the same as a word of the program.
 #![tactic(auto)]
 
 mod asking;
-mod feed;
 pub mod laws;
+mod questions;
 mod reply;
 mod request;
 mod script;
 mod standing;
 mod undone;
+mod word;
 
 pub use asking::ask_within;
 pub use request::Request;
+pub use word::AskWord;

@@ -6,6 +6,7 @@ ghost use Rattle.mst_ask.specs.Replies.{body_of, end_of, reply_text, status_of, 
 ghost use Rattle.mst_ask.specs.Standing.{done};
 
 use itoa::Buffer;
+use mst_drive::Says;
 use mst_engine::{Input, Reply as LineReply, print};
 use mst_io::{Sink, WriteFailed, put, put_parts};
 use mst_print::Form;
@@ -24,6 +25,24 @@ pub(crate) enum Reply {
     Undone(Vec<u8>),
     /// Whether the network does what the policy promises.
     Verified(Verification),
+}
+
+/// What the question of this number is answered by, and what it is printed in.
+#[derive(Drop)]
+pub(crate) struct Replied {
+    pub form: Form,
+    pub number: u64,
+    pub reply: Reply,
+}
+
+impl Says for Replied {
+    ghost use Rattle.mst_ask.specs.Questions.{replied_text};
+
+    ghost text = { replied_text };
+
+    fn put<K: Sink>(&self, sink: &mut K) -> Result<(), WriteFailed> {
+        put_reply(sink, self.form, self.number, &self.reply)
+    }
 }
 
 /// How a question was answered.
@@ -137,7 +156,7 @@ fn of_verification(found: &Verification) -> Verdict
 }
 
 /// Writes what answers a question, and `done STATUS` behind it. Of what is no question nothing is written.
-pub(crate) fn put_reply<K: Sink>(
+fn put_reply<K: Sink>(
     sink: &mut K,
     form: Form,
     number: u64,

@@ -1,11 +1,11 @@
 ghost use Rattle.std.specs.Prelude.{◌≡◌, ◌<◌, ◌≤◌, ◌^◌, ℕ, List, [], false, true, length, take, drop, vec_len, Ok, IsOk, IfOk, OnOk, OnErr};
 ghost use Rattle.std.specs.Io.KnownBytes.{Appends};
+ghost use Rattle.mst_drive.specs.Words.{Wrote, WroteFront};
 ghost use Rattle.mst_lang.specs.Lines.{lines_of};
 ghost use Rattle.mst_lang.specs.Reading.{reading_as};
 ghost use Rattle.mst_lang.specs.declared.line.Line.TheVariants as lines;
 ghost use Rattle.mst_net.specs.After.{after};
-ghost use Rattle.mst_engine.specs.Engine.{IsReady, does, tally_of, tallied, version_from};
-ghost use Rattle.mst_engine.specs.Feeding.{IsCounted};
+ghost use Rattle.mst_engine.specs.Engine.{IsCounted, IsReady, does, tally_of, tallied, version_from};
 ghost use Rattle.mst_engine.specs.Script.{version_of};
 ghost use Rattle.mst_engine.specs.Steps.{Step};
 ghost use Rattle.mst_engine.specs.report.Planned.{planned_state};
@@ -15,7 +15,7 @@ ghost use Rattle.mst_io.specs.Written.{AppendsFront};
 ghost use Rattle.mst_print.specs.Shape.{listed, of_script};
 ghost use Rattle.mst_tool.specs.Ask.{keeps};
 ghost use Rattle.mst_ask.specs.declared.request.Request.TheVariants.{Script as Said, Word, Undo, Verify};
-ghost use Rattle.mst_ask.specs.Answering.{IsFront, IsLoaded};
+ghost use Rattle.mst_ask.specs.Answering.{IsLoaded, LoadsLines};
 ghost use Rattle.mst_ask.specs.Kept.{IsKept, Keeps, SameScript, lines_kept, lines_net, made_by, net_of_script, rows_of, standing_of};
 ghost use Rattle.mst_ask.specs.Lines.{lines_in};
 ghost use Rattle.mst_ask.specs.Replies.{replied};
@@ -42,7 +42,7 @@ use std::alloc::{AllocError, Global};
 #[derive(Drop)]
 pub(crate) struct Standing {
     alloc: Global,
-    form: Form,
+    pub form: Form,
     /// The version of the script, by which lines are read.
     version: Version,
     /// The script, of which no line met want of memory when it was loaded.
@@ -72,8 +72,9 @@ pub(crate) fn load<K: Sink>(
 ) -> Result<Engine, WriteFailed>
     requires working { (K.told sink.old).failed ≡ false }
     requires few { length script.now.bytes.items < 2 ^ 59 }
-    ensures ok { IfOk result (IsLoaded form (lines_in script.now.is_whole script.now.bytes.items) (K.contents sink.old) (K.contents sink.new)) }
-    ensures err { OnErr result (IsFront form (lines_in script.now.is_whole script.now.bytes.items) (K.contents sink.old) (K.contents sink.new)) }
+    ensures ok { IfOk result (λ engine. Wrote (K.contents sink.old) (K.contents sink.new) (λ text. IsLoaded form (lines_in script.now.is_whole script.now.bytes.items) text engine)) }
+    ensures err { OnErr result (WroteFront (K.contents sink.old) (K.contents sink.new) (LoadsLines form (lines_in script.now.is_whole script.now.bytes.items))) }
+    ensures some { OnErr result (0 < length script.now.bytes.items) }
     ensures works { OnOk result (Works (K.told sink.old) (K.told sink.new)) }
     ensures broken { OnErr result (IsStopped (K.told sink.old) (K.told sink.new)) }
     ensures lent { K.lent sink.new ≡ K.lent sink.old }

@@ -1,12 +1,10 @@
 pub mod Skips
 pub mod Steps
 pub mod Held
-pub mod Feeds
-pub mod WholeRun
 pub mod OneRun
 pub mod Loads
 pub mod OneComparison
 pub mod Saved
 pub mod Told
-pub mod Sent
+pub mod ServedBy
 pub mod Uncounted

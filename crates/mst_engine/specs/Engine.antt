@@ -1,5 +1,5 @@
 -- What is kept from line to line.
-use Rattle.std.specs.Prelude.{◌≡◌, ℕ, ◌+◌, Bool, true, false, List, [], ◌∷◌, Option, Some, None, if◌then◌else◌}
+use Rattle.std.specs.Prelude.{◌≡◌, ℕ, ◌+◌, ◌≤◌, Bool, true, false, List, [], ◌∷◌, Option, Some, None, if◌then◌else◌}
 use Rattle.mst_compare.specs.report.State.{State}
 use Rattle.mst_compare.specs.report.Planned.{planned_state}
 use Rattle.mst_lang.specs.Faults as fault
@@ -67,6 +67,13 @@ pub record Tally : Type 0 where
 
 abbrev pub tally_of : Engine → Tally
 tally_of e = record { state = planned_state e.planner; version = e.version; number = e.number; refused = e.refused; memory = e.memory; differing = e.differing; answered = e.answered }
+
+-- no more lines are counted than there were
+pub record IsCounted (t : Tally) : Type 0 where
+  pub refused : t.refused ≤ t.number
+  pub memory : t.memory ≤ t.number
+  pub differing : t.differing ≤ t.number
+  pub answered : t.answered ≤ t.number
 
 -- where an input begins, in this state
 abbrev pub begun : State → Tally

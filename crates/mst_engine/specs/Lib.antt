@@ -6,5 +6,5 @@ pub mod Steps
 pub mod Script
 pub mod Captures
 pub mod Engine
-pub mod Feeding
 pub mod Served
+pub mod Serving

@@ -7,10 +7,9 @@
 
 mod captures;
 mod engine;
-mod feed;
 pub mod laws;
 mod serving;
 
 pub use engine::{Engine, Input, Reply, print, serve};
 pub use mst_compare::{Differing, Planner, SweepPart, Unexplained, report_laws, trees_laws};
-pub use serving::serve_input;
+pub use serving::{Replied, Serving, serve_input};

@@ -2,11 +2,11 @@
 use Rattle.std.proofs.Common.{◌≡◌, ℕ, ◌+◌, ◌<◌, ◌≤◌, ◌^◌, Bool, true, false, nat_eq, cond, List, [], ◌∷◌, ◌++◌, length, length-append, Result, Ok, Err, Option, refl, sym, ap, ap₂, ◌∙◌, inl, inr, arith}
 use Rattle.std.proofs.lemmas.Bool.{lt-ltb}
 use Rattle.mst_change.specs.Reading.{LineRead, line_read, parts_steps, read_at, reading_at, version_at, version_said}
-use Rattle.mst_change.specs.Steps.{ReadSoFar, all_lines, change_of, nothing_read, step_of, steps_from, steps_with}
+use Rattle.mst_change.specs.Steps.{ReadSoFar, all_lines, nothing_read, step_of, steps_from, steps_with}
 use Rattle.mst_io.specs.Held.{hold, lines_held}
 use Rattle.mst_io.proofs.Long.{held_cases, long_reading, none_held_of, one_held_of}
 use Rattle.mst_io.proofs.Starts.{IsHeld, IsHeld-nothing, IsHeld-push}
-use Rattle.mst_lang.specs.Lines.{drop_cr, last_line, lines_from, lines_of}
+use Rattle.mst_lang.specs.Lines.{drop_cr, last_line, lines_from}
 use Rattle.mst_lang.specs.Reading.{reading_as}
 use Rattle.mst_lang.specs.declared.line.Fault.{Fault}
 use Rattle.mst_lang.specs.declared.line.Fault.TheVariants.{E01}
@@ -15,7 +15,6 @@ use Rattle.mst_lang.specs.declared.line.Line.TheVariants.{Blank, Mark, Edit as e
 use Rattle.mst_lang.specs.declared.line.Version.{Version}
 use Rattle.mst_lang.specs.declared.line.Version.TheVariants.{V1, V2}
 use Rattle.mst_tool.specs.Lines.{AreSteps, AreTaken, change_with}
-use Rattle.mst_tool.proofs.LinesTaken.{lines_short}
 
 -- ---- it is enough to hold a part of a line that is too long
 long_says : (line : List ℕ) → 4096 < length line → version_said line ≡ V1
@@ -121,11 +120,11 @@ pub change_takes : (old new : ReadSoFar) (n : ℕ) (line : List ℕ) → ((other
 change_takes old new n line takes others = ap (λ (steps : List (List LineRead)). record nothing_read { ended = steps }) (takes others)
 
 module _ (begun : ReadSoFar) (reads : Option (List ℕ)) (change : ReadSoFar) (none : begun ≡ nothing_read) (taken : AreTaken change_with begun reads change) (steps : List (List LineRead)) (is : steps ≡ change.ended ++ step_of change.begun) where
-  steps_are : steps ≡ change_of (lines_of taken.bytes)
-  steps_are = is ∙ ap (λ (c : ReadSoFar). c.ended) taken.comes ∙ ap (λ c. steps_with c 1 (lines_held last_line [] taken.bytes)) none ∙ change_held taken.bytes [] [] IsHeld-nothing V1 1 []
+  steps_from_held : steps ≡ steps_from V1 1 [] (lines_held last_line [] taken.bytes)
+  steps_from_held = is ∙ ap (λ (c : ReadSoFar). c.ended) taken.comes ∙ ap (λ c. steps_with c 1 (lines_held last_line [] taken.bytes)) none
 
   pub are_steps : AreSteps reads steps
-  are_steps = (taken.bytes, taken.read, steps_are)
+  are_steps = (taken.bytes, taken.read, steps_from_held ∙ change_held taken.bytes [] [] IsHeld-nothing V1 1 [])
 
   pub few_steps : length (all_lines steps) < 2 ^ 60
-  few_steps = omega (arith, ap (λ s. length (all_lines s)) steps_are, steps_short (lines_of taken.bytes) V1 1 [], lines_short taken.bytes [], taken.few)
+  few_steps = omega (arith, ap (λ s. length (all_lines s)) steps_from_held, steps_short (lines_held last_line [] taken.bytes) V1 1 [], taken.few)

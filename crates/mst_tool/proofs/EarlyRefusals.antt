@@ -1,7 +1,7 @@
 -- That what the tables of a network tell to be in the way of a question is in its way, and which trees they give to a bridge.
 use Rattle.std.proofs.Common.{◌≡◌, ℕ, zero, suc, ◌+◌, ◌<◌, ◌≤◌, Bool, true, false, cond, not, ◌&&◌, ◌||◌, nat_eq, nat_le, List, [], ◌∷◌, map, Option, Some, None, is_some, Result, Ok, Err, refl, sym, ap, subst, ◌∙◌, ◌⊎◌, inl, inr, true≢false, arith, eq-eqb}
 use Rattle.std.specs.Prelude.{OnErr}
-use Rattle.std.specs.List.{AllByRecursion, filter, filter_map, cons_option, find, list_any, range_with_len}
+use Rattle.std.specs.List.{AllByRecursion, filter, filter_map, cons_option, find, range_with_len}
 use Rattle.std.specs.Option.{option_map, option_map_or}
 use Rattle.std.specs.Ordering.{is_eq, nat_cmp, ordering_then}
 use Rattle.std.specs.declared.cmp.Ordering.{Ordering}
@@ -16,7 +16,7 @@ use Rattle.mst_ids.specs.declared.name.PortName.{PortName}
 use Rattle.mst_net.specs.After.{has_bridge, is_plugged, table_of}
 use Rattle.mst_net.specs.Table.{has_tree as is_mapped, mstis_in}
 use Rattle.mst_net.specs.Tables.{BridgeRow, Net, PortRow, port_eq}
-use Rattle.mst_lag.specs.Aggregation.{Plug, can_aggregate, of_one_class, plug_of, plugs, plugs_in, ports_as_one, same_name, same_sides, side_of, sides, sides_of}
+use Rattle.mst_lag.specs.Aggregation.{Plug, can_aggregate, plug_of, plugs, plugs_in, ports_as_one, same_name, same_sides, side_of, sides, sides_of}
 use Rattle.mst_lag.specs.Trees.{is_among, mstis_of}
 use Rattle.mst_lag.specs.View.{LogicalPort, as_port, logical_port, view_ports}
 use Rattle.mst_lag.proofs.Entries.{entries_found}

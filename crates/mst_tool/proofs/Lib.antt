@@ -1,4 +1,6 @@
 pub mod Plain
+pub mod Faults
+pub mod Moved
 pub mod LinesTaken
 pub mod PolicyLines
 pub mod ChangeLines

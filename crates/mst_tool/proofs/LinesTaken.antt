@@ -1,66 +1,76 @@
--- The lines of an input that were taken, as its bytes came.
-use Rattle.std.proofs.Common.{◌≡◌, ◌≢◌, ℕ, ◌+◌, ◌<◌, ◌≤◌, ◌^◌, true, false, nat_eq, cond, List, [], ◌∷◌, ◌++◌, length, Option, refl, sym, ap, ◌∙◌, arith, append_assoc, append-nil, eq-eqb}
-use Rattle.std.proofs.lemmas.Grind.{common_steps}
-use Rattle.mst_io.specs.Held.{ending, hold, lines_held}
-use Rattle.mst_io.specs.Written.{Reads}
-use Rattle.mst_lang.specs.Lines.{drop_cr, last_line, lines_from}
-use Rattle.mst_tool.specs.Lines.{AreTaken, ReadsOn}
+-- The lines of an input that were taken, one after another.
+use Rattle.std.proofs.Common.{◌≡◌, ℕ, ◌+◌, Bool, true, false, List, [], ◌∷◌, ◌++◌, length, Option, refl, sym, ap, subst, ◌∙◌, arith, append-nil, inl, inr}
+use Rattle.std.specs.Prelude.{◌⊎◌}
+use Rattle.std.specs.Global.{Global}
+use Rattle.std.specs.Io.KnownBytes.{Appends}
+use Rattle.mst_drive.specs.Driving.{Driven, DrivenFront}
+use Rattle.mst_io.specs.Held.{lines_held}
+use Rattle.mst_io.specs.Written.{AppendsFront}
+use Rattle.mst_lang.specs.Lines.{last_line}
+use Rattle.mst_tool.specs.Lines.{AreTaken, AwaitsCounted, EndsReading, TakesOn}
 use Rattle.mst_tool.specs.declared.lines.Reading.{Reading}
 
-line_first : (last : List ℕ → List (List ℕ)) (p rest : List ℕ) (b : ℕ) → b ≡ 10 → lines_held last p (b ∷ rest) ≡ drop_cr p ∷ lines_held last [] rest
-line_first last p rest b e = ap (λ c. cond c (drop_cr p ∷ lines_held last [] rest) (lines_held last (hold p b) rest)) (eq-eqb b 10 e)
+-- before the first line
+abbrev pub begun : {L : Type 0} → Global → L → Reading L
+begun alloc lines = record { alloc = alloc; lines = lines; count = 0; is_lost = false }
 
-not_end : (b : ℕ) → b ≢ 10 → nat_eq b 10 ≡ false
-not_end b h = grind (arith, common_steps)
-
-byte_first : (last : List ℕ → List (List ℕ)) (p rest : List ℕ) (b : ℕ) → b ≢ 10 → lines_held last p (b ∷ rest) ≡ lines_held last (hold p b) rest
-byte_first last p rest b other = ap (λ c. cond c (drop_cr p ∷ lines_held last [] rest) (lines_held last (hold p b) rest)) (not_end b other)
-
--- the end of the input ends its last line, where that has a byte
-end_alike : (held : List ℕ) → lines_held last_line held [] ≡ lines_held last_line held (ending held ++ [])
-end_alike [] = refl
-end_alike (b ∷ bs) = refl
+both_ways : (b : Bool) → b ≡ true → b ≡ false → ⊥
+both_ways b p q = cc
 
 module _ {L : Type 0} (with_lines : L → ℕ → List (List ℕ) → L) where
-  pub reads_none : (r : Reading L) (part : List ℕ) → ReadsOn with_lines r part [] r part
-  reads_none r part last rest = refl
-
-  pub reads_byte : (r : Reading L) (part : List ℕ) (b : ℕ) → b ≢ 10 → ReadsOn with_lines r part (b ∷ []) r (hold part b)
-  reads_byte r part b other last rest = ap (λ l. with_lines r.lines r.number l) (byte_first last part rest b other)
-
-  pub reads_line : (old new : Reading L) (part : List ℕ) (b : ℕ) → b ≡ 10 → new.number ≡ old.number + 1
-      → ((others : List (List ℕ)) → with_lines new.lines (old.number + 1) others ≡ with_lines old.lines old.number (drop_cr part ∷ others)) → ReadsOn with_lines old part (b ∷ []) new []
-  reads_line old new part b e number takes last rest =
-      ap (λ l. with_lines old.lines old.number l) (line_first last part rest b e)
-      ∙ sym (takes (lines_held last [] rest))
-      ∙ ap (λ n. with_lines new.lines n (lines_held last [] rest)) (sym number)
-
-  pub reads_join : (a b c : Reading L) (p q r xs ys : List ℕ) → ReadsOn with_lines a p xs b q → ReadsOn with_lines b q ys c r → ReadsOn with_lines a p (xs ++ ys) c r
-  reads_join a b c p q r xs ys f g last rest = ap (λ l. with_lines a.lines a.number (lines_held last p l)) (append_assoc xs ys rest) ∙ f last (ys ++ rest) ∙ g last rest
-
-  abbrev pub begun : L → Reading L
-  begun lines = record { lines = lines; number = 1 }
-
-  -- so all lines were taken
-  pub all_taken : (lines : L) (reads : Option (List ℕ)) (read held : List ℕ) (now end : Reading L) → Reads reads read → length read < 2 ^ 45 → ReadsOn with_lines (begun lines) [] read now held → ReadsOn with_lines now held (ending held) end []
-      → AreTaken with_lines lines reads end.lines
-  all_taken lines reads read held now end all few f g = record {
-    bytes = read;
-    read = all;
-    few = few;
-    number = end.number;
-    comes = sym (ap (λ l. with_lines lines 1 (lines_held last_line [] l)) (sym (append-nil read)) ∙ f last_line [] ∙ ap (λ l. with_lines now.lines now.number l) (end_alike held) ∙ g last_line []);
+  -- a line that came where lines are lost
+  pub takes_lost : (old new : Reading L) (number : ℕ) (line : List ℕ) → old.is_lost ≡ true → new.is_lost ≡ old.is_lost → new.count ≡ old.count + 1
+      → (others : List (List ℕ)) (more : List ℕ) (after : Reading L) → TakesOn with_lines new (number + 1) others more after → TakesOn with_lines old number (line ∷ others) ([] ++ more) after
+  takes_lost old new number line lost same counted others more after h = record {
+    nothing = h.nothing;
+    counted = omega (arith, h.counted, counted);
+    taken = λ e. absurd (both_ways old.is_lost lost (sym same ∙ (h.taken e).0));
   }
 
--- there is no line more than bytes, but for one
-last_short : (part : List ℕ) → length (last_line part) ≤ 1
-last_short [] = omega arith
-last_short (b ∷ bs) = omega arith
+  -- one that was taken, or lost
+  pub takes_line : (old new : Reading L) (number : ℕ) (line : List ℕ) → old.is_lost ≡ false → new.count ≡ old.count + 1 → (new.is_lost ≡ false → (others : List (List ℕ)) → with_lines new.lines (number + 1) others ≡ with_lines old.lines number (line ∷ others))
+      → (others : List (List ℕ)) (more : List ℕ) (after : Reading L) → TakesOn with_lines new (number + 1) others more after → TakesOn with_lines old number (line ∷ others) ([] ++ more) after
+  takes_line old new number line kept counted takes others more after h = record {
+    nothing = h.nothing;
+    counted = omega (arith, h.counted, counted);
+    taken = λ e. (kept, λ rest. ap (λ n. with_lines after.lines n rest) (omega arith) ∙ (h.taken e).1 rest ∙ takes (h.taken e).0 (others ++ rest));
+  }
 
-pub lines_short : (bytes part : List ℕ) → length (lines_from last_line part bytes) ≤ length bytes + 1
-lines_short [] part = omega (arith, last_short part)
-lines_short (b ∷ bs) part =
-    elim (nat_eq b 10) as (λ t. length (cond t (drop_cr part ∷ lines_from last_line [] bs) (lines_from last_line (part ++ b ∷ []) bs)) ≤ length (b ∷ bs) + 1) [
-      | true ↦ omega (arith, lines_short bs [])
-      | false ↦ omega (arith, lines_short bs (part ++ b ∷ []))
-    ]
+  pub takes_none : (old : Reading L) (number : ℕ) → TakesOn with_lines old number [] [] old
+  takes_none old number = record { nothing = refl; counted = omega arith; taken = λ e. (e, λ rest. ap (λ n. with_lines old.lines n rest) (omega arith)) }
+
+  -- whatever lines come, they may be lost
+  pub takes_some : (old : Reading L) (number : ℕ) (lines : List (List ℕ)) → (text : List ℕ) × (after : Reading L) × TakesOn with_lines old number lines text after
+  takes_some old number lines = ([], record old { count = old.count + length lines; is_lost = true }, record { nothing = refl; counted = refl; taken = λ e. absurd (both_ways true refl e) })
+
+  module _ (old new : Reading L) (reads written now : Option (List ℕ)) where
+    -- so all lines were taken
+    pub all_taken : old.count ≡ 0 → Driven AwaitsCounted (TakesOn with_lines) EndsReading old new reads written now → AreTaken with_lines old.lines reads new.lines
+    all_taken none d =
+        let t = d.told in
+        let taken = t.taken (d.ended).2 in
+        record {
+          bytes = d.bytes;
+          read = d.read;
+          few = omega (arith, d.few, d.waits, t.counted);
+          number = 1 + length (lines_held last_line [] d.bytes);
+          comes = ap (λ (r : Reading L). with_lines r.lines (1 + length (lines_held last_line [] d.bytes)) []) (d.ended).1 ∙ taken.1 [] ∙ ap (with_lines old.lines 1) (append-nil (lines_held last_line [] d.bytes));
+        }
+
+    -- and nothing was written
+    pub unwritten : Driven AwaitsCounted (TakesOn with_lines) EndsReading old new reads written now → Appends written now []
+    unwritten d = subst (Appends written now) (ap (λ s. d.text ++ s) (d.ended).0 ∙ append-nil d.text ∙ (d.told).nothing) d.printed
+
+    nothing_front : (text : List ℕ) → text ≡ [] → AppendsFront written now text → Appends written now []
+    nothing_front text none f = by f.front (sym none ∙ f.whole) f.written
+      where
+        by : (front : List ℕ) → [] ≡ front ++ f.rest → Appends written now front → Appends written now []
+        by [] whole went = went
+        by (b ∷ bs) whole went = absurd (cc)
+
+    pub unwritten_front : DrivenFront (TakesOn with_lines) EndsReading old reads written now → Appends written now []
+    unwritten_front d = by d.front
+      where
+        by : AppendsFront written now d.text ⊎ ((number : ℕ) × (said : List ℕ) × (after : Reading L) × EndsReading d.job number said after × AppendsFront written now (d.text ++ said)) → Appends written now []
+        by (inl front) = nothing_front d.text (d.told).nothing front
+        by (inr h) = nothing_front (d.text ++ h.1) (ap (λ s. d.text ++ s) (h.3).0 ∙ append-nil d.text ∙ (d.told).nothing) h.4

@@ -1,5 +1,5 @@
 -- That there was no captured message, by what was counted.
-use Rattle.std.proofs.Common.{◌≡◌, ℕ, ◌+◌, true, false, true≢false, cond, nat_eq, ◌&&◌, List, [], ◌∷◌, inl, inr, sym, ap, ◌∙◌, add-zero}
+use Rattle.std.proofs.Common.{◌≡◌, ℕ, ◌+◌, true, true≢false, cond, nat_eq, ◌&&◌, List, [], ◌∷◌, inl, inr, sym, ap, ◌∙◌, add-zero}
 use Rattle.std.proofs.lemmas.Bool.{and_parts, cases_Bool, eqb-true}
 use Rattle.mst_engine.specs.Captures.{Compares}
 use Rattle.mst_engine.specs.Engine.{Tally}

@@ -6,7 +6,7 @@ use Rattle.mst_lang.specs.Words.{is_plain, words}
 use Rattle.mst_io.specs.Held.{hold, lines_held}
 use Rattle.mst_io.proofs.Long.{held_cases, none_held_of, one_held_of}
 use Rattle.mst_io.proofs.Starts.{IsHeld, IsHeld-nothing, IsHeld-push}
-use Rattle.mst_lang.specs.Lines.{drop_cr, last_line, lines_from, lines_of}
+use Rattle.mst_lang.specs.Lines.{drop_cr, last_line, lines_from}
 use Rattle.mst_lang.specs.declared.line.Fault.{Fault}
 use Rattle.mst_lang.specs.declared.line.Fault.TheVariants.{E01}
 use Rattle.mst_policy.specs.Lines.{line_of, line_read, policy_from, spaced}
@@ -14,7 +14,6 @@ use Rattle.mst_policy.specs.Reading.{reading, worded}
 use Rattle.mst_policy.specs.declared.expectation.Promise.{Promise}
 use Rattle.mst_policy.specs.declared.policy.PolicyLine.{PolicyLine}
 use Rattle.mst_tool.specs.Lines.{AreLines, AreTaken, policy_with}
-use Rattle.mst_tool.proofs.LinesTaken.{lines_short}
 
 -- ---- a line
 pub policy_takes : (old new : List PolicyLine) (n : ℕ) (line : List ℕ) → new ≡ old ++ line_of n line → (others : List (List ℕ)) → policy_with new (n + 1) others ≡ policy_with old n (line ∷ others)
@@ -57,11 +56,11 @@ policy_short n (line ∷ lines) = omega (arith, length-append (line_of n line) (
 
 -- ---- so they are the lines of the policy
 module _ (begun : List PolicyLine) (reads : Option (List ℕ)) (policy : List PolicyLine) (none : begun ≡ []) (taken : AreTaken policy_with begun reads policy) where
-  policy_is : policy ≡ policy_from 1 (lines_of taken.bytes)
-  policy_is = sym (append-nil policy) ∙ taken.comes ∙ ap (λ l. l ++ policy_from 1 (lines_held last_line [] taken.bytes)) none ∙ policy_held taken.bytes [] [] 1 IsHeld-nothing
+  policy_from_held : policy ≡ policy_from 1 (lines_held last_line [] taken.bytes)
+  policy_from_held = sym (append-nil policy) ∙ taken.comes ∙ ap (λ l. l ++ policy_from 1 (lines_held last_line [] taken.bytes)) none
 
   pub are_lines : AreLines reads policy
-  are_lines = (taken.bytes, taken.read, policy_is)
+  are_lines = (taken.bytes, taken.read, policy_from_held ∙ policy_held taken.bytes [] [] 1 IsHeld-nothing)
 
   pub few_lines : length policy < 2 ^ 60
-  few_lines = omega (arith, ap length policy_is, policy_short 1 (lines_of taken.bytes), lines_short taken.bytes [], taken.few)
+  few_lines = omega (arith, ap length policy_from_held, policy_short 1 (lines_held last_line [] taken.bytes), taken.few)

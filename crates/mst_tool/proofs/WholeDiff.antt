@@ -1,5 +1,5 @@
 -- What telling the networks of two scripts apart has printed, by what serving each script has.
-use Rattle.std.proofs.Common.{◌≡◌, ℕ, Bool, cond, List, [], Option, None, refl, sym, ap, subst, ◌∙◌, arith, append-nil}
+use Rattle.std.proofs.Common.{◌≡◌, ℕ, Bool, cond, List, [], ◌++◌, Option, None, refl, sym, ap, subst, ◌∙◌, arith, append-nil, inr}
 use Rattle.std.specs.Io.KnownBytes.{Appends}
 use Rattle.std.specs.Option.{unwrap_or}
 use Rattle.std.proofs.KnownBytes.{Appends-trans}
@@ -8,15 +8,17 @@ use Rattle.mst_lang.specs.Lines.{lines_of, ended_lines}
 use Rattle.mst_engine.specs.net.Tables.{Net, IsNetwork}
 use Rattle.mst_engine.specs.report.Differing.{Differs}
 use Rattle.mst_engine.specs.report.Editing.{EditsTo}
-use Rattle.mst_engine.specs.report.State.{State, empty_state}
-use Rattle.mst_tool.specs.Diff.{CountsOf, LoadsBoth, both_texts, old_net, new_net, TellsDifference, Diffs, DiffsFront, LoadsNewEnded, DiffsScripts, counted_both, differs_by}
+use Rattle.mst_engine.specs.report.State.{IsState, State, empty_state}
+use Rattle.mst_tool.specs.Diff.{CountsOf, LoadsBoth, old_net, new_net, TellsDifference, Diffs, DiffsScripts, counted_both, differing, differs_by}
 use Rattle.mst_tool.specs.declared.diffs.Between.{Between}
 use Rattle.mst_tool.specs.declared.diffs.Between.TheVariants.{Plans, Settings}
 use Rattle.mst_engine.specs.Engine.{Tally, outcome_of}
 use Rattle.mst_engine.specs.Script.{LoadsAll}
 use Rattle.mst_print.specs.Shape.{of_old, of_new, shown}
-use Rattle.mst_engine.specs.Served.{Served, ServedFront, ServedEnded}
-use Rattle.mst_engine.specs.Steps.{Step, texts_of, lacks_of}
+use Rattle.mst_engine.specs.Served.{Served, ServedEnded, Serves}
+use Rattle.mst_engine.specs.Steps.{Step, lacks_of, left_by, texts_of}
+use Rattle.mst_drive.specs.Words.{Inputs, MayTell, Wrote, WroteFront}
+use Rattle.mst_io.specs.declared.outcome.Outcome.{Outcome}
 use Rattle.mst_io.specs.Written.{AppendsFront, Reads}
 use Rattle.mst_engine.specs.declared.engine.Input.TheVariants.{Network}
 use Rattle.mst_print.specs.declared.form.Form.{Form}
@@ -25,7 +27,7 @@ use Rattle.mst_io.proofs.Known.{AppendsFront-after, AppendsFront-longer}
 use Rattle.mst_rows.specs.Rows.{Row}
 use Rattle.mst_tool.specs.Shown.{diff_row, edits_row}
 use Rattle.mst_tool.proofs.Shown.{one_shown}
-use Rattle.mst_tool.proofs.WholeCheck.{reads_all}
+use Rattle.mst_tool.proofs.WholeCheck.{counted_of, reads_all}
 use Rattle.mst_tool.proofs.WholeLoad.{OneLoad, LoadsStates}
 
 -- the network of every script can be loaded without want of memory
@@ -94,90 +96,96 @@ one_told laws states between form olds news both counts text told also other k =
     let new = states (of_new form) (lines_of both.new) both.new_steps both.new_loads in
     one_between laws between form (old_net both) (new_net both) counts also text other old.network new.network told k
 
--- a front of what both scripts' lines print is one of that and of how their networks differ
-whole_front : Laws → LoadsStates → (between : Between) (form : Form) (olds news written now : Option (List ℕ)) (both : LoadsBoth form olds news) → AppendsFront written now (both_texts both) → DiffsFront between form olds news written now
-whole_front laws states between form olds news written now both front =
-    let old = states (of_old form) (lines_of both.old) both.old_steps both.old_loads in
-    let new = states (of_new form) (lines_of both.new) both.new_steps both.new_loads in
-    let some = some_between laws between form (old_net both) (new_net both) old.network new.network in
+-- what telling them apart prints, by what serving each script has
+pub diffs : Laws → OneLoad → LoadsStates → (between : Between) (form : Form) (olds news : Option (List ℕ)) (a b : List ℕ) (t u : Tally) (counts : CountsOf between) (answer : List ℕ) (differs : Bool) → TellsDifference between form t.state.net u.state.net counts answer
+    → differs ≡ differs_by between counts → Served (Network (of_old form)) empty_state olds a t → Served (Network (of_new form)) empty_state news b u → Diffs between form olds news ((a ++ b) ++ answer) (counted_both (outcome_of t) (outcome_of u) differs)
+diffs laws one states between form olds news a b t u counts answer differs h is s r =
+    let both = both_of one form olds news s.bytes r.bytes s.steps r.steps s.read r.read s.runs r.runs in
+    let left : TellsDifference between form (old_net both) (new_net both) counts answer =
+    subst (λ (left : State). TellsDifference between form (old_net both) left.net counts answer) r.state (subst (λ (left : State). TellsDifference between form left.net u.state.net counts answer) s.state h) in
     record {
       both = both;
-      counts = some.0;
-      text = some.1;
-      differs = some.2;
-      printed = AppendsFront-longer written now (both_texts both) some.1 front;
-      only_difference = one_told laws states between form olds news both some.0 some.1 some.2;
+      counts = counts;
+      answer = answer;
+      differs = left;
+      printed = λ i. (s.printed i ++ r.printed i) ++ answer;
+      memory = omega (arith, s.memory, r.memory);
+      refused = omega (arith, s.refused, r.refused);
+      differing = ap (λ b. cond b 1 0) is;
+      only_difference = one_told laws states between form olds news both counts answer left;
     }
 
--- one that was stopped in the old script
-pub front_in_old : Laws → OneLoad → LoadsStates → HasLoad → (between : Between) (form : Form) (olds news written now : Option (List ℕ)) → ServedFront (Network (of_old form)) empty_state olds written now → DiffsFront between form olds news written now
-front_in_old laws one states has between form olds news written now s =
-    let new = unwrap_or news [] in
-    let more = has (of_new form) new in
-    let both = both_of one form olds news s.bytes new s.steps more.0 s.read (reads_all news) s.runs more.1 in
-    whole_front laws states between form olds news written now both (AppendsFront-longer written now (texts_of s.steps) (texts_of more.0) s.printed)
+-- there is something to tell, whatever both scripts are
+some_diffs : Laws → OneLoad → LoadsStates → (between : Between) (form : Form) (olds news : Option (List ℕ)) (a b : List ℕ) (t u : Tally) → Served (Network (of_old form)) empty_state olds a t → Served (Network (of_new form)) empty_state news b u
+    → (answer : List ℕ) × (outcome : Outcome) × Diffs between form olds news ((a ++ b) ++ answer) outcome
+some_diffs laws one states between form olds news a b t u s r =
+    let old = subst IsState (sym s.state) (states (of_old form) (lines_of s.bytes) s.steps s.runs) in
+    let new = subst IsState (sym r.state) (states (of_new form) (lines_of r.bytes) r.steps r.runs) in
+    let some = some_between laws between form t.state.net u.state.net old.network new.network in
+    (some.1, _, diffs laws one states between form olds news a b t u some.0 some.1 (differs_by between some.0) some.2 refl s r)
 
-module _ (one : OneLoad) (form : Form) (olds news written mid : Option (List ℕ)) (t : Tally) (s : Served (Network (of_old form)) empty_state olds written mid t) where
-  -- one that was stopped in the new script
-  pub front_in_new : Laws → LoadsStates → (between : Between) (now : Option (List ℕ)) → ServedFront (Network (of_new form)) empty_state news mid now → DiffsFront between form olds news written now
-  front_in_new laws states between now r =
-      let both = both_of one form olds news s.bytes r.bytes s.steps r.steps s.read r.read s.runs r.runs in
-      whole_front laws states between form olds news written now both (AppendsFront-after written mid now (texts_of s.steps) (texts_of r.steps) s.printed r.printed)
+-- a script that was never read can be loaded
+loaded : HasLoad → (shape : Shape) (reads : Option (List ℕ)) → (text : List ℕ) × (t : Tally) × Served (Network shape) empty_state reads text t
+loaded has shape reads =
+    let bytes = unwrap_or reads [] in
+    let more = has shape bytes in
+    (texts_of more.0, counted_of (left_by empty_state more.0) more.0, record { bytes = bytes; steps = more.0; read = reads_all reads; runs = more.1; printed = refl; state = refl; memory = refl; refused = refl; differing = refl; answered = refl })
 
-  -- and there by its reader
-  pub new_ended : (left now : Option (List ℕ)) → ServedEnded (Network (of_new form)) empty_state news left mid now → LoadsNewEnded form olds news left written now
-  new_ended left now r = record {
-    old = s.bytes;
-    read = r.read;
-    old_steps = s.steps;
-    new_steps = r.steps;
-    old_read = s.read;
-    consumed = r.consumed;
-    old_loads = s.runs;
-    new_loads = r.runs;
-    printed = Appends-trans written mid now (texts_of s.steps) (texts_of r.steps) s.printed r.printed;
-    only_old = λ others loads. one (of_old form) (lines_of s.bytes) others s.steps loads s.runs;
-    only_new = λ others loads. one (of_new form) (ended_lines r.read) others r.steps loads r.runs;
-  }
+module _ (laws : Laws) (one : OneLoad) (states : LoadsStates) (between : Between) (form : Form) (given left : Inputs) (written now : Option (List ℕ)) where
+  -- one that was stopped in the old script
+  pub front_in_old : HasLoad → WroteFront written now (Serves (Network (of_old form)) empty_state given.first) → WroteFront written now (MayTell (differing between form) given)
+  front_in_old has (a, (t, s), front) =
+      let new = loaded has (of_new form) given.second in
+      let some = some_diffs laws one states between form given.first given.second a new.0 t new.1 s new.2 in
+      ((a ++ new.0) ++ some.0, inr (some.1, some.2), AppendsFront-longer written now (a ++ new.0) some.0 (AppendsFront-longer written now a new.0 front))
 
-  module _ (end : Option (List ℕ)) (u : Tally) (r : Served (Network (of_new form)) empty_state news mid end u) where
-    -- both scripts, and what they print
-    abbrev both : LoadsBoth form olds news
-    both = both_of one form olds news s.bytes r.bytes s.steps r.steps s.read r.read s.runs r.runs
+  module _ (mid : Option (List ℕ)) (t : Tally) (old : Wrote written mid (λ text. Served (Network (of_old form)) empty_state given.first text t)) where
+    -- one that was stopped in the new script
+    pub front_in_new : WroteFront mid now (Serves (Network (of_new form)) empty_state given.second) → WroteFront written now (MayTell (differing between form) given)
+    front_in_new (b, (u, r), front) =
+        let some = some_diffs laws one states between form given.first given.second old.0 b t u old.1 r in
+        ((old.0 ++ b) ++ some.0, inr (some.1, some.2), AppendsFront-longer written now (old.0 ++ b) some.0 (AppendsFront-after written mid now old.0 b old.2 front))
 
-    both_printed : Appends written end (both_texts both)
-    both_printed = Appends-trans written mid end (texts_of s.steps) (texts_of r.steps) s.printed r.printed
+    -- and there by its reader
+    pub new_ended : Wrote mid now (ServedEnded (Network (of_new form)) empty_state given.second left.second) → Wrote written now ((differing between form).cut given left)
+    new_ended (b, r, went) = (
+      old.0 ++ b,
+      inr (record {
+        old = (old.1).bytes;
+        read = r.read;
+        old_steps = (old.1).steps;
+        new_steps = r.steps;
+        old_read = (old.1).read;
+        consumed = r.consumed;
+        old_loads = (old.1).runs;
+        new_loads = r.runs;
+        printed = λ i. (old.1).printed i ++ r.printed i;
+        only_old = λ others loads. one (of_old form) (lines_of (old.1).bytes) others (old.1).steps loads (old.1).runs;
+        only_new = λ others loads. one (of_new form) (ended_lines r.read) others r.steps loads r.runs;
+      }),
+      Appends-trans written mid now old.0 b old.2 went,
+    )
 
-    pub both_scripts : DiffsScripts form olds news written end
-    both_scripts = record { both = both; printed = both_printed }
+    module _ (end : Option (List ℕ)) (u : Tally) (new : Wrote mid end (λ text. Served (Network (of_new form)) empty_state given.second text u)) where
+      both_printed : Appends written end (old.0 ++ new.0)
+      both_printed = Appends-trans written mid end old.0 new.0 old.2 new.2
 
-    pub both_whole : Laws → LoadsStates → (between : Between) → DiffsFront between form olds news written end
-    both_whole laws states between = whole_front laws states between form olds news written end both (record { front = both_texts both; rest = []; whole = sym (append-nil (both_texts both)); written = both_printed })
+      -- there was no memory to tell them apart
+      pub both_scripts : Wrote written end (DiffsScripts form given.first given.second)
+      both_scripts = (
+        old.0 ++ new.0,
+        record { both = both_of one form given.first given.second (old.1).bytes (new.1).bytes (old.1).steps (new.1).steps (old.1).read (new.1).read (old.1).runs (new.1).runs; printed = λ i. (old.1).printed i ++ (new.1).printed i },
+        both_printed,
+      )
 
-    module _ (between : Between) (counts : CountsOf between) (text : List ℕ) (h : TellsDifference between form t.state.net u.state.net counts text) (now : Option (List ℕ)) where
-      -- how the networks differ that the scripts left
-      differs_left : TellsDifference between form (old_net both) (new_net both) counts text
-      differs_left = subst (λ (left : State). TellsDifference between form (old_net both) left.net counts text) r.state (subst (λ (left : State). TellsDifference between form left.net u.state.net counts text) s.state h)
+      pub both_front : WroteFront written end (MayTell (differing between form) given)
+      both_front =
+          let some = some_diffs laws one states between form given.first given.second old.0 new.0 t u old.1 new.1 in
+          ((old.0 ++ new.0) ++ some.0, inr (some.1, some.2), AppendsFront-longer written end (old.0 ++ new.0) some.0 (record { front = old.0 ++ new.0; rest = []; whole = sym (append-nil (old.0 ++ new.0)); written = both_printed }))
 
-      pub differs_front : Laws → LoadsStates → AppendsFront end now text → DiffsFront between form olds news written now
-      differs_front laws states went = record {
-        both = both;
-        counts = counts;
-        text = text;
-        differs = differs_left;
-        printed = AppendsFront-after written end now (both_texts both) text both_printed went;
-        only_difference = one_told laws states between form olds news both counts text differs_left;
-      }
+      module _ (counts : CountsOf between) (answer : List ℕ) (differs : Bool) (h : TellsDifference between form t.state.net u.state.net counts answer) (is : differs ≡ differs_by between counts) where
+        pub diffs_front : AppendsFront end now answer → WroteFront written now (MayTell (differing between form) given)
+        diffs_front front = ((old.0 ++ new.0) ++ answer, inr (_, diffs laws one states between form given.first given.second old.0 new.0 t u counts answer differs h is old.1 new.1), AppendsFront-after written end now (old.0 ++ new.0) answer both_printed front)
 
-      pub diffs : Laws → LoadsStates → (differs : Bool) → differs ≡ differs_by between counts → Appends end now text → Diffs between form olds news written now (counted_both (outcome_of t) (outcome_of u) differs)
-      diffs laws states differs is went = record {
-        both = both;
-        counts = counts;
-        text = text;
-        differs = differs_left;
-        printed = Appends-trans written end now (both_texts both) text both_printed went;
-        memory = omega (arith, s.memory, r.memory);
-        refused = omega (arith, s.refused, r.refused);
-        differing = ap (λ b. cond b 1 0) is;
-        only_difference = one_told laws states between form olds news both counts text differs_left;
-      }
+        pub diffs_whole : Appends end now answer → Wrote written now (λ text. Diffs between form given.first given.second text (counted_both (outcome_of t) (outcome_of u) differs))
+        diffs_whole went = ((old.0 ++ new.0) ++ answer, diffs laws one states between form given.first given.second old.0 new.0 t u counts answer differs h is old.1 new.1, Appends-trans written end now (old.0 ++ new.0) answer both_printed went)

@@ -1,7 +1,6 @@
 -- What asking the network of a script has printed, by what serving the script has.
-use Rattle.std.proofs.Common.{◌≡◌, ℕ, ◌+◌, Bool, List, [], Option, None, Some, refl, sym, ap, subst, ◌∙◌, arith, append-nil, inr}
+use Rattle.std.proofs.Common.{◌≡◌, ℕ, ◌+◌, Bool, List, [], Option, None, Some, refl, sym, ap, subst, ◌∙◌, ◌++◌, Err, arith, inl}
 use Rattle.std.specs.Io.KnownBytes.{Appends}
-use Rattle.std.proofs.KnownBytes.{Appends-trans}
 use Rattle.mst_ids.specs.declared.name.PortName.{PortName}
 use Rattle.mst_lang.specs.Lines.{lines_of, ended_lines}
 use Rattle.mst_engine.specs.net.Tables.{Net, IsNetwork}
@@ -19,22 +18,24 @@ use Rattle.mst_engine.specs.report.declared.explaining.Unexplained.{Unexplained}
 use Rattle.mst_engine.specs.sweep.SweepParts.{PartOf}
 use Rattle.mst_engine.specs.report.Explaining as unexplained
 use Rattle.mst_rows.specs.Rows.{Row}
-use Rattle.mst_tool.specs.Ask.{Told, advised, given, is_nothing, not_given, swept, unadvised_in, unexplained_in, Tells, TellsAdvice, IsAnswer, Asks, AsksFront, counted_with}
+use Rattle.mst_tool.specs.Ask.{Told, advised, given, is_nothing, not_given, swept, unadvised_in, unexplained_in, Tells, TellsAdvice, IsAnswer, Asks, counted_with}
 use Rattle.mst_tool.specs.Shown.{advice_row, explain_row, pairs_row, summary_row, sweep_row}
 use Rattle.mst_engine.specs.Engine.{Tally, outcome_of}
-use Rattle.mst_tool.specs.Load.{LoadsFront, LoadsEnded, LoadsScript}
+use Rattle.mst_tool.specs.Load.{LoadsEnded, LoadsScript}
 use Rattle.mst_engine.specs.Script.{LoadsAll, version_of, loading}
-use Rattle.mst_engine.specs.Served.{Served, ServedFront, ServedEnded}
+use Rattle.mst_engine.specs.Served.{Served, ServedEnded, Serves}
 use Rattle.mst_print.specs.Shape.{of_script, shown}
-use Rattle.mst_engine.specs.Steps.{Step, left_by, texts_of, lacking_of, differing_of}
-use Rattle.mst_io.specs.Written.{AppendsFront}
+use Rattle.mst_engine.specs.Steps.{Step, left_by, lacking_of, differing_of}
 use Rattle.mst_tool.specs.declared.asked.Asked.{Asked}
 use Rattle.mst_tool.specs.declared.asked.Question.{Question}
 use Rattle.mst_tool.specs.declared.asked.Question.TheVariants.{Explain, Unread, Sweep, Pairs, Summary, Picture, VlanPicture, Undrawn, Advice, Unadvised}
 use Rattle.mst_engine.specs.declared.engine.Input.TheVariants.{Network}
 use Rattle.mst_print.specs.declared.form.Form.{Form}
 use Rattle.mst_print.specs.declared.form.Shape.{Shape}
-use Rattle.mst_io.proofs.Known.{AppendsFront-after}
+use Rattle.mst_io.specs.declared.outcome.RunFault.{RunFault}
+use Rattle.mst_io.specs.declared.outcome.RunFault.TheVariants.{Read, Memory}
+use Rattle.mst_drive.specs.Words.{Ended, Inputs, MayTell, Telling, Wrote, WroteFront}
+use Rattle.mst_drive.proofs.Words.{ended_fault, front_as, wrote_as, wrote_front, wrote_still}
 use Rattle.mst_engine.proofs.OneRun.{none_differ}
 use Rattle.mst_tool.proofs.Shown.{one_shown, same_shown}
 
@@ -151,68 +152,65 @@ pub summary_shown : (form : Form) (net settled : Net) (rows : List Row) (printed
 summary_shown form net settled rows printed same h e = subst (λ net. IsAnswer form net Summary given printed) same (refl, (rows, h, e))
 
 module _ (one : OneLoad) (shape : Shape) where
-  pub loads_front : (reads written now : Option (List ℕ)) → ServedFront (Network shape) empty_state reads written now → LoadsFront shape reads written now
-  loads_front reads written now s = record { script = s.bytes; steps = s.steps; read = s.read; loads = s.runs; printed = s.printed; only = λ others loads. one shape (lines_of s.bytes) others s.steps loads s.runs }
+  pub loads_ended : (reads left : Option (List ℕ)) (text : List ℕ) → ServedEnded (Network shape) empty_state reads left text → LoadsEnded shape reads left text
+  loads_ended reads left text s = record { read = s.read; steps = s.steps; consumed = s.consumed; loads = s.runs; printed = s.printed; only = λ others loads. one shape (ended_lines s.read) others s.steps loads s.runs }
 
-  pub loads_ended : (reads left written now : Option (List ℕ)) → ServedEnded (Network shape) empty_state reads left written now → LoadsEnded shape reads left written now
-  loads_ended reads left written now s = record { read = s.read; steps = s.steps; consumed = s.consumed; loads = s.runs; printed = s.printed; only = λ others loads. one shape (ended_lines s.read) others s.steps loads s.runs }
-
-  pub loads_script : (reads written now : Option (List ℕ)) (t : Tally) → Served (Network shape) empty_state reads written now t → LoadsScript shape reads written now
-  loads_script reads written now t s = record { script = s.bytes; steps = s.steps; read = s.read; loads = s.runs; printed = s.printed; only = λ others loads. one shape (lines_of s.bytes) others s.steps loads s.runs }
-
-  -- all of it is a front of it
-  pub loads_whole : (reads written now : Option (List ℕ)) (t : Tally) → Served (Network shape) empty_state reads written now t → LoadsFront shape reads written now
-  loads_whole reads written now t s = record {
-    script = s.bytes;
-    steps = s.steps;
-    read = s.read;
-    loads = s.runs;
-    printed = record { front = texts_of s.steps; rest = []; whole = sym (append-nil (texts_of s.steps)); written = s.printed };
-    only = λ others loads. one shape (lines_of s.bytes) others s.steps loads s.runs;
-  }
+  pub loads_script : (reads : Option (List ℕ)) (text : List ℕ) → Serves (Network shape) empty_state reads text → LoadsScript shape reads text
+  loads_script reads text (t, s) = record { script = s.bytes; steps = s.steps; read = s.read; loads = s.runs; printed = s.printed; only = λ others loads. one shape (lines_of s.bytes) others s.steps loads s.runs }
 
 -- no line of a script is a message that differs
-pub loads_same : (shape : Shape) (reads written now : Option (List ℕ)) (t : Tally) (s : Served (Network shape) empty_state reads written now t) → differing_of s.steps ≡ 0
-loads_same shape reads written now t s = none_differ shape loading (version_of (lines_of s.bytes)) 1 empty_state (lines_of s.bytes) s.steps s.runs
+pub loads_same : (shape : Shape) (reads : Option (List ℕ)) (text : List ℕ) (t : Tally) (s : Served (Network shape) empty_state reads text t) → differing_of s.steps ≡ 0
+loads_same shape reads text t s = none_differ shape loading (version_of (lines_of s.bytes)) 1 empty_state (lines_of s.bytes) s.steps s.runs
+
+-- ---- a word that begins by loading a script, and prints no more before its answer
+module _ (one : OneLoad) (shape : Shape) (telling : Telling) (given left : Inputs) (written now : Option (List ℕ))
+    (begins : (text : List ℕ) → LoadsScript shape given.first text → telling.begins given text) where
+  -- it was stopped in the script
+  pub stopped_loading : ((text : List ℕ) → LoadsEnded shape given.first left.first text → telling.cut given left text) → (fault : RunFault) → WroteFront written now (Serves (Network shape) empty_state given.first)
+      → (fault ≡ Read → Wrote written now (ServedEnded (Network shape) empty_state given.first left.first)) → (fault ≡ Memory → ⊥) → Ended telling given left written now (Err fault)
+  stopped_loading cut fault front ended never =
+      ended_fault telling given left written now fault
+      (front_as written now _ (MayTell telling given) (λ text s. inl (begins text (loads_script one shape given.first text s))) front)
+      (λ e. wrote_as written now _ (telling.cut given left) (λ text s. cut text (loads_ended one shape given.first left.first text s)) (ended e))
+      (λ e. absurd (never e))
+
+  -- or behind it, before the answer
+  pub stopped_behind : ((text : List ℕ) → LoadsScript shape given.first text → telling.cut given left text) → ((text : List ℕ) → LoadsScript shape given.first text → telling.starved given text) → (t : Tally) (mid : Option (List ℕ)) (fault : RunFault)
+      → Wrote written mid (λ text. Served (Network shape) empty_state given.first text t) → Appends mid now [] → Ended telling given left written now (Err fault)
+  stopped_behind cut starved t mid fault w nothing =
+      let all = wrote_as written now _ (LoadsScript shape given.first) (λ text s. loads_script one shape given.first text (t, s)) (wrote_still written mid now _ w nothing) in
+      ended_fault telling given left written now fault
+      (front_as written now _ (MayTell telling given) (λ text s. inl (begins text s)) (wrote_front written now _ all))
+      (λ e. wrote_as written now _ (telling.cut given left) cut all)
+      (λ e. wrote_as written now _ (telling.starved given) starved all)
+
+  -- or there was no memory for the answer
+  pub lacked_behind : ((text : List ℕ) → LoadsScript shape given.first text → telling.starved given text) → (t : Tally) → Wrote written now (λ text. Served (Network shape) empty_state given.first text t) → Ended telling given left written now (Err Memory)
+  lacked_behind starved t w =
+      let all = wrote_as written now _ (LoadsScript shape given.first) (λ text s. loads_script one shape given.first text (t, s)) w in
+      (wrote_as written now _ (telling.starved given) starved all, front_as written now _ (MayTell telling given) (λ text s. inl (begins text s)) (wrote_front written now _ all))
 
 -- the answer of the network that the script left
-answer_left : (form : Form) (question : Question) (reads written mid : Option (List ℕ)) (t : Tally) (told : Told) (text : List ℕ) (s : Served (Network (of_script form)) empty_state reads written mid t)
-    → IsAnswer form t.state.net question told text → IsAnswer form (left_by empty_state s.steps).net question told text
-answer_left form question reads written mid t told text s h = subst (λ (now : State). IsAnswer form now.net question told text) s.state h
+answer_left : (form : Form) (question : Question) (reads : Option (List ℕ)) (text : List ℕ) (t : Tally) (told : Told) (answer : List ℕ) (s : Served (Network (of_script form)) empty_state reads text t)
+    → IsAnswer form t.state.net question told answer → IsAnswer form (left_by empty_state s.steps).net question told answer
+answer_left form question reads text t told answer s h = subst (λ (now : State). IsAnswer form now.net question told answer) s.state h
 
-pub asks : OneLoad → LoadsStates → OneOfEach → (form : Form) (question : Question) (reads written mid now : Option (List ℕ)) (t : Tally) (told : Told) (text : List ℕ) → Served (Network (of_script form)) empty_state reads written mid t
-    → IsAnswer form t.state.net question told text → Appends mid now text → Asks form question reads written now (counted_with (outcome_of t) told)
-asks one states one_of_each form question reads written mid now t told text s h went =
-    let answer = answer_left form question reads written mid t told text s h in
+pub asks : OneLoad → LoadsStates → OneOfEach → (form : Form) (question : Question) (reads : Option (List ℕ)) (text : List ℕ) (t : Tally) (told : Told) (answer : List ℕ) → Served (Network (of_script form)) empty_state reads text t
+    → IsAnswer form t.state.net question told answer → Asks form question reads (text ++ answer) (counted_with (outcome_of t) told)
+asks one states one_of_each form question reads text t told answer s h =
+    let answers = answer_left form question reads text t told answer s h in
     record {
       script = s.bytes;
       steps = s.steps;
       told = told;
-      text = text;
+      answer = answer;
       read = s.read;
       loads = s.runs;
-      answers = answer;
-      printed = Appends-trans written mid now (texts_of s.steps) text s.printed went;
+      answers = answers;
+      printed = ap (λ l. l ++ answer) s.printed;
       memory = s.memory;
       refused = ap (λ n. n + told.refused) s.refused;
-      differing = omega (arith, s.differing, loads_same (of_script form) reads written mid t s);
+      differing = omega (arith, s.differing, loads_same (of_script form) reads text t s);
       only = λ others loads. one (of_script form) (lines_of s.bytes) others s.steps loads s.runs;
-      only_answer = λ also other k. one_answer one_of_each form (left_by empty_state s.steps).net question told also text other (states (of_script form) (lines_of s.bytes) s.steps s.runs).network answer k;
+      only_answer = λ also other k. one_answer one_of_each form (left_by empty_state s.steps).net question told also answer other (states (of_script form) (lines_of s.bytes) s.steps s.runs).network answers k;
     }
-
-pub answers_front : OneLoad → LoadsStates → OneOfEach → (form : Form) (question : Question) (reads written mid now : Option (List ℕ)) (t : Tally) (told : Told) (text : List ℕ) → Served (Network (of_script form)) empty_state reads written mid t
-    → IsAnswer form t.state.net question told text → AppendsFront mid now text → AsksFront form question reads written now
-answers_front one states one_of_each form question reads written mid now t told text s h went =
-    let answer = answer_left form question reads written mid t told text s h in
-    inr (record {
-      script = s.bytes;
-      steps = s.steps;
-      told = told;
-      text = text;
-      read = s.read;
-      loads = s.runs;
-      answers = answer;
-      printed = AppendsFront-after written mid now (texts_of s.steps) text s.printed went;
-      only = λ others loads. one (of_script form) (lines_of s.bytes) others s.steps loads s.runs;
-      only_answer = λ also other k. one_answer one_of_each form (left_by empty_state s.steps).net question told also text other (states (of_script form) (lines_of s.bytes) s.steps s.runs).network answer k;
-    })

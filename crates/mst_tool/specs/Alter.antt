@@ -1,6 +1,6 @@
 -- What telling what the steps of a change do to the network of a script promises, where it prints in this form.
-use Rattle.std.specs.Prelude.{◌≡◌, ◌+◌, ◌++◌, ◌⊎◌, ◌==◌, ◌&&◌, ℕ, Bool, true, false, List, Option, None, Some, if◌then◌else◌}
-use Rattle.std.specs.Io.KnownBytes.{Appends}
+use Rattle.std.specs.Prelude.{◌≡◌, ◌+◌, ◌++◌, ◌==◌, ◌&&◌, ℕ, Bool, true, false, List, Option, None, Some, if◌then◌else◌}
+use Rattle.mst_drive.specs.Words.{Telling}
 use Rattle.mst_change.specs.Reading.{LineRead}
 use Rattle.mst_lang.specs.Lines.{lines_of}
 use Rattle.mst_policy.specs.declared.policy.PolicyLine.{PolicyLine}
@@ -10,12 +10,12 @@ use Rattle.mst_stepping.specs.Stepping as network
 use Rattle.mst_stepping.specs.declared.stepping.Course.{Course}
 use Rattle.mst_engine.specs.Script.{LoadsAll}
 use Rattle.mst_engine.specs.Steps.{Step, left_by, texts_of, refusals_of, lacks_of, lacking_of}
-use Rattle.mst_io.specs.Written.{AppendsFront, Reads}
+use Rattle.mst_io.specs.Written.{Reads}
 use Rattle.mst_io.specs.declared.outcome.Outcome.{Outcome}
 use Rattle.mst_print.specs.Shape.{of_script}
 use Rattle.mst_print.specs.declared.form.Form.{Form}
 use Rattle.mst_tool.specs.Lines.{AreLines, AreSteps}
-use Rattle.mst_tool.specs.Load.{LoadsFront}
+use Rattle.mst_tool.specs.Load.{LoadsOrEnded, LoadsScript}
 use Rattle.mst_tool.specs.Shown.{IsShown, steps_row}
 use Rattle.mst_tool.specs.declared.alters.Stepping.{Stepping}
 
@@ -47,43 +47,33 @@ TellsSteps form net steps policy course = IsShown form steps_row (network.Steps 
 abbrev pub IsJudging : Bool → Option (List ℕ) → Option (List PolicyLine) → Type 0
 IsJudging judged policies policy = (lines : List PolicyLine) × AreLines policies lines × (policy ≡ policy_if judged lines)
 
--- The edits of all of the script's lines were served, and what they print was written, and after it what the steps of the change do to
--- the network that they leave, with the policy, where it is judged. The outcome counts the lines of all three that were refused, of the policy those
--- that can't be read, and 1 where a step cuts or breaks the policy, or the end doesn't keep it. The script has no other steps that lack memory at the same lines
-pub record Alters (form : Form) (judged : Bool) (scripts changes policies written now : Option (List ℕ)) (outcome : Outcome) : Type 0 where
+-- The edits of all of the script's lines were served, and this is what they print, and after it what the steps of the change do to
+-- the network that they leave, with the policy, where it is judged. The outcome counts the lines of all three that were refused, of the
+-- policy those that can't be read, and 1 where a step cuts or breaks the policy, or the end doesn't keep it. The script has no other steps
+-- that lack memory at the same lines
+pub record Alters (form : Form) (judged : Bool) (scripts changes policies : Option (List ℕ)) (text : List ℕ) (outcome : Outcome) : Type 0 where
   pub script : List ℕ
   pub steps : List Step
   pub change : List (List LineRead)
   pub policy : Option (List PolicyLine)
   pub course : Course
-  pub text : List ℕ
+  pub answer : List ℕ
   pub read : Reads scripts script
   pub loads : LoadsAll (of_script form) (lines_of script) steps
   pub are_steps : AreSteps changes change
   pub is_policy : IsJudging judged policies policy
-  pub tells : TellsSteps form (left_by empty_state steps).net change policy course text
-  pub printed : Appends written now (texts_of steps ++ text)
+  pub tells : TellsSteps form (left_by empty_state steps).net change policy course answer
+  pub printed : text ≡ texts_of steps ++ answer
   pub memory : outcome.memory ≡ lacks_of steps
   pub refused : outcome.refused ≡ refusals_of steps + refusals_in course
   pub differing : outcome.differing ≡ differing_by course
   pub only : (others : List Step) → LoadsAll (of_script form) (lines_of script) others → lacking_of others ≡ lacking_of steps → others ≡ steps
 
--- all that the script's lines print was written, and a front of what the steps of the change do
-pub record AltersPart (form : Form) (judged : Bool) (scripts changes policies written now : Option (List ℕ)) : Type 0 where
-  pub script : List ℕ
-  pub steps : List Step
-  pub change : List (List LineRead)
-  pub policy : Option (List PolicyLine)
-  pub course : Course
-  pub text : List ℕ
-  pub read : Reads scripts script
-  pub loads : LoadsAll (of_script form) (lines_of script) steps
-  pub are_steps : AreSteps changes change
-  pub is_policy : IsJudging judged policies policy
-  pub tells : TellsSteps form (left_by empty_state steps).net change policy course text
-  pub printed : AppendsFront written now (texts_of steps ++ text)
-  pub only : (others : List Step) → LoadsAll (of_script form) (lines_of script) others → lacking_of others ≡ lacking_of steps → others ≡ steps
-
--- a front of what the script's lines print was written, or all of that and a front of what tells of the change
-abbrev pub AltersFront : Form → Bool → Option (List ℕ) → Option (List ℕ) → Option (List ℕ) → Option (List ℕ) → Option (List ℕ) → Type 0
-AltersFront form judged scripts changes policies written now = LoadsFront (of_script form) scripts written now ⊎ AltersPart form judged scripts changes policies written now
+-- what telling of a script, a change and a policy tells
+abbrev pub altering : Form → Bool → Telling
+altering form judged = record {
+  tells = λ given text outcome. Alters form judged given.first given.second given.third text outcome;
+  begins = λ given text. LoadsScript (of_script form) given.first text;
+  cut = λ given left text. LoadsOrEnded (of_script form) given.first left.first text;
+  starved = λ given text. LoadsScript (of_script form) given.first text;
+}

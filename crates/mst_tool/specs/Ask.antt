@@ -1,9 +1,9 @@
 -- What is asked of the network that a script leaves, and what asking it promises, where it prints in this form.
-use Rattle.std.specs.Prelude.{◌≡◌, ◌+◌, ◌++◌, ◌⊎◌, ◌==◌, ◌&&◌, not, ℕ, Bool, true, false, List, Option, None, Some, is_some, Result, Ok, Err, codes, if◌then◌else◌}
-use Rattle.std.specs.Io.KnownBytes.{Appends}
+use Rattle.std.specs.Prelude.{◌≡◌, ◌+◌, ◌++◌, ◌==◌, ◌&&◌, not, ℕ, Bool, true, false, List, Option, None, Some, is_some, Result, Ok, Err, codes, if◌then◌else◌}
 use Rattle.std.specs.FinMap as fin
 use Rattle.std.specs.Option.{option_map, option_map_or}
 use Rattle.std.specs.Str.{bytes_eq}
+use Rattle.mst_drive.specs.Words.{Telling}
 use Rattle.mst_ids.specs.declared.name.PortName.{PortName}
 use Rattle.mst_lang.specs.Arguments.{tree, vid}
 use Rattle.mst_lang.specs.Faults as fault
@@ -29,12 +29,12 @@ use Rattle.mst_advising.specs.declared.advising.Advised.TheVariants.{Already, Ed
 use Rattle.mst_engine.specs.report.declared.explaining.Unexplained.{Unexplained}
 use Rattle.mst_engine.specs.report.declared.explaining.Unexplained.TheVariants.{NoBridge, NoPort, NoTree}
 use Rattle.mst_tool.specs.Asked.{asked_of, forward_of, part_value, root_of}
-use Rattle.mst_tool.specs.Load.{LoadsFront}
+use Rattle.mst_tool.specs.Load.{LoadsEnded, LoadsScript}
 use Rattle.mst_tool.specs.Shown.{IsShown, advice_row, explain_row, pairs_row, summary_row, sweep_row}
 use Rattle.mst_engine.specs.Script.{LoadsAll}
 use Rattle.mst_print.specs.Shape.{of_script, unanswered}
 use Rattle.mst_engine.specs.Steps.{Step, left_by, texts_of, refusals_of, lacks_of, lacking_of}
-use Rattle.mst_io.specs.Written.{AppendsFront, Reads}
+use Rattle.mst_io.specs.Written.{Reads}
 use Rattle.mst_tool.specs.declared.asked.Asked.{Asked}
 use Rattle.mst_tool.specs.declared.asked.Question.{Question}
 use Rattle.mst_tool.specs.declared.asked.Question.TheVariants.{Explain, Unread as unread_question, Sweep, Pairs, Summary, Picture, VlanPicture, Undrawn as undrawn_question, Advice, Unadvised}
@@ -194,40 +194,32 @@ is_refused net other = false
 abbrev pub counted_with : Outcome → Told → Outcome
 counted_with script told = record script { refused = script.refused + told.refused; differing = script.differing + told.differing }
 
--- The edits of the script's lines were served, from the empty state on, and what they print was written, and after it the
+-- The edits of the script's lines were served, from the empty state on, and this is what they print, and after it the
 -- answer of the network that they leave. The outcome counts the lines that were refused, as a run's does, and what the answer
 -- counts. The script has no other steps that lack memory at the same lines, and the network no other answer
-pub record Asks (form : Form) (question : Question) (reads written now : Option (List ℕ)) (outcome : Outcome) : Type 0 where
+pub record Asks (form : Form) (question : Question) (reads : Option (List ℕ)) (text : List ℕ) (outcome : Outcome) : Type 0 where
   pub script : List ℕ
   pub steps : List Step
   pub told : Told
-  pub text : List ℕ
+  pub answer : List ℕ
   pub read : Reads reads script
   pub loads : LoadsAll (of_script form) (lines_of script) steps
-  pub answers : IsAnswer form (left_by empty_state steps).net question told text
-  pub printed : Appends written now (texts_of steps ++ text)
+  pub answers : IsAnswer form (left_by empty_state steps).net question told answer
+  pub printed : text ≡ texts_of steps ++ answer
   pub memory : outcome.memory ≡ lacks_of steps
   pub refused : outcome.refused ≡ refusals_of steps + told.refused
   pub differing : outcome.differing ≡ told.differing
   pub only : (others : List Step) → LoadsAll (of_script form) (lines_of script) others → lacking_of others ≡ lacking_of steps → others ≡ steps
-  pub only_answer : (also : Told) (other : List ℕ) → IsAnswer form (left_by empty_state steps).net question also other → (also ≡ told) × (other ≡ text)
+  pub only_answer : (also : Told) (other : List ℕ) → IsAnswer form (left_by empty_state steps).net question also other → (also ≡ told) × (other ≡ answer)
 
--- a front of what the script's lines and the answer print was written
-pub record AnswersFront (form : Form) (question : Question) (reads written now : Option (List ℕ)) : Type 0 where
-  pub script : List ℕ
-  pub steps : List Step
-  pub told : Told
-  pub text : List ℕ
-  pub read : Reads reads script
-  pub loads : LoadsAll (of_script form) (lines_of script) steps
-  pub answers : IsAnswer form (left_by empty_state steps).net question told text
-  pub printed : AppendsFront written now (texts_of steps ++ text)
-  pub only : (others : List Step) → LoadsAll (of_script form) (lines_of script) others → lacking_of others ≡ lacking_of steps → others ≡ steps
-  pub only_answer : (also : Told) (other : List ℕ) → IsAnswer form (left_by empty_state steps).net question also other → (also ≡ told) × (other ≡ text)
-
--- one of the two: it was stopped in the script, or after it
-abbrev pub AsksFront : Form → Question → Option (List ℕ) → Option (List ℕ) → Option (List ℕ) → Type 0
-AsksFront form question reads written now = LoadsFront (of_script form) reads written now ⊎ AnswersFront form question reads written now
+-- what asking a script's network tells
+abbrev pub asking : Form → Question → Telling
+asking form question = record {
+  tells = λ given text outcome. Asks form question given.first text outcome;
+  begins = λ given text. LoadsScript (of_script form) given.first text;
+  cut = λ given left text. LoadsEnded (of_script form) given.first left.first text;
+  starved = λ given text. LoadsScript (of_script form) given.first text;
+}
 
 -- what an answer prints, and what it counts
 abbrev pub answer_text : Form → Answer → List ℕ

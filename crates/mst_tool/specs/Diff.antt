@@ -1,6 +1,7 @@
 -- What telling the networks of two scripts apart promises, where it prints in this form.
 use Rattle.std.specs.Prelude.{◌≡◌, ◌+◌, ◌++◌, ◌⊎◌, ◌==◌, ◌&&◌, ℕ, Bool, not, List, Option, if◌then◌else◌}
-use Rattle.std.specs.Io.KnownBytes.{Appends, Consumes}
+use Rattle.std.specs.Io.KnownBytes.{Consumes}
+use Rattle.mst_drive.specs.Words.{Telling}
 use Rattle.mst_engine.specs.diff.declared.diff.Differing.{Differing}
 use Rattle.mst_lang.specs.Lines.{lines_of, ended_lines}
 use Rattle.mst_engine.specs.net.Tables.{Net}
@@ -14,7 +15,7 @@ use Rattle.mst_tool.specs.declared.diffs.Between.{Between}
 use Rattle.mst_tool.specs.declared.diffs.Between.TheVariants.{Plans, Settings}
 use Rattle.mst_print.specs.Shape.{of_old, of_new}
 use Rattle.mst_engine.specs.Steps.{Step, left_by, texts_of, refusals_of, lacks_of, lacking_of}
-use Rattle.mst_io.specs.Written.{AppendsFront, Reads}
+use Rattle.mst_io.specs.Written.{Reads}
 use Rattle.mst_print.specs.declared.form.Form.{Form}
 use Rattle.mst_io.specs.declared.outcome.Outcome.{Outcome}
 
@@ -69,33 +70,23 @@ abbrev pub TellsDifference : (between : Between) → Form → Net → Net → Co
 TellsDifference Plans form old new counts = IsShown form diff_row (Differs old new counts)
 TellsDifference Settings form old new differs = IsShown form edits_row (EditsTo old new differs)
 
--- The edits of both scripts' lines were served, and what they print was written, that of the old one first, and after it how
+-- The edits of both scripts' lines were served, and this is what they print, that of the old one first, and after it how
 -- the network that the new one leaves differs from the old one's. The outcome counts the lines of both that were refused, and
 -- 1 where something differs. How both networks differ is one text
-pub record Diffs (between : Between) (form : Form) (olds news written now : Option (List ℕ)) (outcome : Outcome) : Type 0 where
+pub record Diffs (between : Between) (form : Form) (olds news : Option (List ℕ)) (text : List ℕ) (outcome : Outcome) : Type 0 where
   pub both : LoadsBoth form olds news
   pub counts : CountsOf between
-  pub text : List ℕ
-  pub differs : TellsDifference between form (old_net both) (new_net both) counts text
-  pub printed : Appends written now (both_texts both ++ text)
+  pub answer : List ℕ
+  pub differs : TellsDifference between form (old_net both) (new_net both) counts answer
+  pub printed : text ≡ both_texts both ++ answer
   pub memory : outcome.memory ≡ lacks_of both.old_steps + lacks_of both.new_steps
   pub refused : outcome.refused ≡ refusals_of both.old_steps + refusals_of both.new_steps
   pub differing : outcome.differing ≡ differing_by between counts
-  pub only_difference : (also : CountsOf between) (other : List ℕ) → TellsDifference between form (old_net both) (new_net both) also other → (also ≡ counts) × (other ≡ text)
-
--- a front of what the lines of both scripts and how their networks differ print was written
-pub record DiffsFront (between : Between) (form : Form) (olds news written now : Option (List ℕ)) : Type 0 where
-  pub both : LoadsBoth form olds news
-  pub counts : CountsOf between
-  pub text : List ℕ
-  pub differs : TellsDifference between form (old_net both) (new_net both) counts text
-  pub printed : AppendsFront written now (both_texts both ++ text)
-  pub only_difference : (also : CountsOf between) (other : List ℕ) → TellsDifference between form (old_net both) (new_net both) also other → (also ≡ counts) × (other ≡ text)
+  pub only_difference : (also : CountsOf between) (other : List ℕ) → TellsDifference between form (old_net both) (new_net both) also other → (also ≡ counts) × (other ≡ answer)
 
 -- The edits of the whole of the old script were served, and the reader of the new one has given these bytes, as far as it
--- tells, and has some left. Those of the lines that they complete were served too, and the whole of what all these print was
--- written, and nothing else
-pub record LoadsNewEnded (form : Form) (olds news left written now : Option (List ℕ)) : Type 0 where
+-- tells, and has some left. Those of the lines that they complete were served too, and this is the whole of what all these print
+pub record LoadsNewEnded (form : Form) (olds news left : Option (List ℕ)) (text : List ℕ) : Type 0 where
   pub old : List ℕ
   pub read : List ℕ
   pub old_steps : List Step
@@ -104,15 +95,21 @@ pub record LoadsNewEnded (form : Form) (olds news left written now : Option (Lis
   pub consumed : Consumes news left read
   pub old_loads : LoadsAll (of_old form) (lines_of old) old_steps
   pub new_loads : LoadsAll (of_new form) (ended_lines read) new_steps
-  pub printed : Appends written now (texts_of old_steps ++ texts_of new_steps)
+  pub printed : text ≡ texts_of old_steps ++ texts_of new_steps
   pub only_old : (others : List Step) → LoadsAll (of_old form) (lines_of old) others → lacking_of others ≡ lacking_of old_steps → others ≡ old_steps
   pub only_new : (others : List Step) → LoadsAll (of_new form) (ended_lines read) others → lacking_of others ≡ lacking_of new_steps → others ≡ new_steps
 
--- a reader failed: that of the old script, so that no line of the new one was served, or that of the new one
-abbrev pub DiffsEnded : Form → Option (List ℕ) → Option (List ℕ) → Option (List ℕ) → Option (List ℕ) → Option (List ℕ) → Option (List ℕ) → Type 0
-DiffsEnded form olds olds_left news news_left written now = LoadsEnded (of_old form) olds olds_left written now ⊎ LoadsNewEnded form olds news news_left written now
-
--- the edits of both scripts' lines were served, and the whole of what they print was written, and nothing else
-pub record DiffsScripts (form : Form) (olds news written now : Option (List ℕ)) : Type 0 where
+-- the edits of both scripts' lines were served, and this is the whole of what they print
+pub record DiffsScripts (form : Form) (olds news : Option (List ℕ)) (text : List ℕ) : Type 0 where
   pub both : LoadsBoth form olds news
-  pub printed : Appends written now (both_texts both)
+  pub printed : text ≡ both_texts both
+
+-- What telling two scripts apart tells. Where a reader failed that is the old script's, so that no line of the new one was served, or
+-- that of the new one
+abbrev pub differing : Between → Form → Telling
+differing between form = record {
+  tells = λ given text outcome. Diffs between form given.first given.second text outcome;
+  begins = λ given text. ⊥;
+  cut = λ given left text. LoadsEnded (of_old form) given.first left.first text ⊎ LoadsNewEnded form given.first given.second left.second text;
+  starved = λ given text. DiffsScripts form given.first given.second text;
+}

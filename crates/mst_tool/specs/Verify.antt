@@ -1,6 +1,6 @@
 -- What verifying the network of a script by a policy promises, where it prints in this form.
-use Rattle.std.specs.Prelude.{◌≡◌, ◌+◌, ◌++◌, ◌⊎◌, ◌==◌, ℕ, List, Option, if◌then◌else◌}
-use Rattle.std.specs.Io.KnownBytes.{Appends}
+use Rattle.std.specs.Prelude.{◌≡◌, ◌+◌, ◌++◌, ◌==◌, ℕ, List, Option, if◌then◌else◌}
+use Rattle.mst_drive.specs.Words.{Telling}
 use Rattle.mst_lang.specs.Lines.{lines_of}
 use Rattle.mst_policy.specs.declared.policy.PolicyLine.{PolicyLine}
 use Rattle.mst_engine.specs.net.Tables.{Net}
@@ -9,11 +9,11 @@ use Rattle.mst_judging.specs.Verifying as network
 use Rattle.mst_verdict.specs.Verified.{Counts}
 use Rattle.mst_engine.specs.Script.{LoadsAll}
 use Rattle.mst_engine.specs.Steps.{Step, left_by, texts_of, refusals_of, lacks_of, lacking_of}
-use Rattle.mst_io.specs.Written.{AppendsFront, Reads}
+use Rattle.mst_io.specs.Written.{Reads}
 use Rattle.mst_io.specs.declared.outcome.Outcome.{Outcome}
 use Rattle.mst_print.specs.Shape.{of_script}
 use Rattle.mst_print.specs.declared.form.Form.{Form}
-use Rattle.mst_tool.specs.Load.{LoadsFront}
+use Rattle.mst_tool.specs.Load.{LoadsOrEnded, LoadsScript}
 use Rattle.mst_tool.specs.Lines.{AreLines}
 use Rattle.mst_tool.specs.Shown.{IsShown, verify_row}
 use Rattle.mst_tool.specs.declared.verifies.Verification.{Verification}
@@ -33,39 +33,30 @@ counted_with script counts = record { refused = script.refused + counts.refused;
 abbrev pub TellsVerification : Form → Net → List PolicyLine → Counts → List ℕ → Type 0
 TellsVerification form net lines counts = IsShown form verify_row (network.Verifies net lines counts)
 
--- The edits of all of the script's lines were served, and what they print was written, and after it whether the network that they leave
+-- The edits of all of the script's lines were served, and this is what they print, and after it whether the network that they leave
 -- does what the policy promises. The outcome counts the lines of both that were refused, and 1 where one isn't kept. The script has no
 -- other steps that lack memory at the same lines
-pub record Verifies (form : Form) (scripts policies written now : Option (List ℕ)) (outcome : Outcome) : Type 0 where
+pub record Verifies (form : Form) (scripts policies : Option (List ℕ)) (text : List ℕ) (outcome : Outcome) : Type 0 where
   pub script : List ℕ
   pub steps : List Step
   pub lines : List PolicyLine
   pub counts : Counts
-  pub text : List ℕ
+  pub answer : List ℕ
   pub read : Reads scripts script
   pub loads : LoadsAll (of_script form) (lines_of script) steps
   pub are_lines : AreLines policies lines
-  pub tells : TellsVerification form (left_by empty_state steps).net lines counts text
-  pub printed : Appends written now (texts_of steps ++ text)
+  pub tells : TellsVerification form (left_by empty_state steps).net lines counts answer
+  pub printed : text ≡ texts_of steps ++ answer
   pub memory : outcome.memory ≡ lacks_of steps
   pub refused : outcome.refused ≡ refusals_of steps + counts.refused
   pub differing : outcome.differing ≡ differing_by counts
   pub only : (others : List Step) → LoadsAll (of_script form) (lines_of script) others → lacking_of others ≡ lacking_of steps → others ≡ steps
 
--- all that the script's lines print was written, and a front of whether their network does what the policy promises
-pub record VerifiesPart (form : Form) (scripts policies written now : Option (List ℕ)) : Type 0 where
-  pub script : List ℕ
-  pub steps : List Step
-  pub lines : List PolicyLine
-  pub counts : Counts
-  pub text : List ℕ
-  pub read : Reads scripts script
-  pub loads : LoadsAll (of_script form) (lines_of script) steps
-  pub are_lines : AreLines policies lines
-  pub tells : TellsVerification form (left_by empty_state steps).net lines counts text
-  pub printed : AppendsFront written now (texts_of steps ++ text)
-  pub only : (others : List Step) → LoadsAll (of_script form) (lines_of script) others → lacking_of others ≡ lacking_of steps → others ≡ steps
-
--- a front of what the script's lines print was written, or all of that and a front of what tells of the policy
-abbrev pub VerifiesFront : Form → Option (List ℕ) → Option (List ℕ) → Option (List ℕ) → Option (List ℕ) → Type 0
-VerifiesFront form scripts policies written now = LoadsFront (of_script form) scripts written now ⊎ VerifiesPart form scripts policies written now
+-- what verifying tells of a script and a policy
+abbrev pub verifying : Form → Telling
+verifying form = record {
+  tells = λ given text outcome. Verifies form given.first given.second text outcome;
+  begins = λ given text. LoadsScript (of_script form) given.first text;
+  cut = λ given left text. LoadsOrEnded (of_script form) given.first left.first text;
+  starved = λ given text. LoadsScript (of_script form) given.first text;
+}

@@ -1,19 +1,21 @@
-ghost use Rattle.std.specs.Prelude.{◌≡◌, ◌≢◌, ◌+◌, ◌≤◌, ◌<◌, ◌↔◌, ◌⊎◌, ◌^◌, ℕ, false, length, List, Option, Err, IfOk, IsOk, OnErr, option_map};
+ghost use Rattle.std.specs.Prelude.{◌≡◌, ◌+◌, ◌≤◌, ◌<◌, ◌∷◌, [], ◌^◌, false, length, IfOk, option_map};
+ghost use Rattle.std.specs.Io.KnownBytes.{Appends};
 ghost use Rattle.mst_change.specs.Steps.{all_lines};
+ghost use Rattle.mst_drive.specs.Turned.{Turned, turning};
+ghost use Rattle.mst_drive.specs.Words.{Ended, Inputs, inputs};
 ghost use Rattle.mst_engine.specs.Served.{IsFew};
 ghost use Rattle.mst_engine.specs.report.Planned.{planned_state};
-ghost use Rattle.mst_io.specs.Devices.{Hears, Works, IsBroken, IsCut, IsRead, IsCalled, StopsAtZero};
-ghost use Rattle.mst_print.specs.Shape.{of_script};
-ghost use Rattle.mst_tool.specs.Alter.{Alters, AltersFront, TellsSteps, counted_along, course_of, policy_if};
+ghost use Rattle.mst_io.specs.Devices.{Hears, seen_by, stopped_by};
+ghost use Rattle.mst_tool.specs.Alter.{TellsSteps, altering, counted_along, course_of, policy_if};
 ghost use Rattle.mst_tool.specs.Lines.{AreLines, AreSteps};
-ghost use Rattle.mst_tool.specs.Load.{LoadsOrEnded, LoadsScript};
-ghost use Rattle.mst_tool.specs.Run.{Follows};
 
 use crate::opened::open_question;
 use crate::policies::{read_change, read_policy};
+use crate::served::serve_first;
 use mst_change::Change;
-use mst_engine::laws::{one_load, states};
-use mst_engine::{Engine, Input, Planner, serve_input};
+use mst_drive::Word;
+use mst_engine::laws::one_load;
+use mst_engine::{Input, Planner};
 use mst_io::{FromRead, Outcome, RunFault, Sink, Source, TURNS, ToWrite, put};
 use mst_kinds::Query;
 use mst_policy::Policy;
@@ -46,10 +48,7 @@ pub fn steps<S: Read + Drop, C: Read + Drop, P: Read + Drop, W: Write>(
     mut policy: P,
     writer: &mut W,
 ) -> Result<Outcome, RunFault>
-    ensures ok { IfOk result (Alters form is_judged (S.remaining script) (C.remaining change) (P.remaining policy) (W.contents writer.old) (W.contents writer.new)) }
-    ensures fault { OnErr result (AltersFront form is_judged (S.remaining script) (C.remaining change) (P.remaining policy) (W.contents writer.old) (W.contents writer.new)) }
-    ensures read { result ≡ Err RunFault.Read → (left : Option (List ℕ)) × LoadsOrEnded (of_script form) (S.remaining script) left (W.contents writer.old) (W.contents writer.new) }
-    ensures memory { result ≡ Err RunFault.Memory → LoadsScript (of_script form) (S.remaining script) (W.contents writer.old) (W.contents writer.new) }
+    ensures ended { (left : Inputs) × Ended (altering form is_judged) (inputs (S.remaining script) (C.remaining change) (P.remaining policy)) left (W.contents writer.old) (W.contents writer.new) result }
 {
     let mut script_source = FromRead::new(&mut script);
     let mut change_source = FromRead::new(&mut change);
@@ -89,21 +88,8 @@ pub fn steps_within<S: Source, C: Source, P: Source, K: Sink>(
     requires policy { (P.told policy.old).failed ≡ false }
     requires sink { (K.told sink.old).failed ≡ false }
     requires turns { turns ≤ 2 ^ 32 }
-    ensures ok { IfOk result (Alters form is_judged (S.remaining script.old) (C.remaining change.old) (P.remaining policy.old) (K.contents sink.old) (K.contents sink.new)) }
-    ensures fault { OnErr result (AltersFront form is_judged (S.remaining script.old) (C.remaining change.old) (P.remaining policy.old) (K.contents sink.old) (K.contents sink.new)) }
-    ensures read { result ≡ Err RunFault.Read → LoadsOrEnded (of_script form) (S.remaining script.old) (S.remaining script.new) (K.contents sink.old) (K.contents sink.new) }
-    ensures memory { result ≡ Err RunFault.Memory → LoadsScript (of_script form) (S.remaining script.old) (K.contents sink.old) (K.contents sink.new) }
-    ensures ended_script { IsOk result → IsRead (S.told script.old) (S.told script.new) }
-    ensures ended_change { IsOk result → IsRead (C.told change.old) (C.told change.new) }
-    ensures ended_policy { IsOk result → IsRead (P.told policy.old) (P.told policy.new) }
-    ensures read_fault { result ≡ Err RunFault.Read ↔ (IsCut turns (S.told script.old) (S.told script.new) ⊎ (IsCut turns (C.told change.old) (C.told change.new) ⊎ IsCut turns (P.told policy.old) (P.told policy.new))) × Works (K.told sink.old) (K.told sink.new) }
-    ensures write_fault { result ≡ Err RunFault.Write ↔ IsBroken (K.told sink.old) (K.told sink.new) }
-    ensures change_order { Follows (S.told script.old) (S.told script.new) (C.told change.old) (C.told change.new) }
-    ensures policy_order { Follows (C.told change.old) (C.told change.new) (P.told policy.old) (P.told policy.new) }
-    ensures script_calls { IsCalled turns (S.told script.old) (S.told script.new) }
-    ensures change_calls { IsCalled turns (C.told change.old) (C.told change.new) }
-    ensures policy_calls { IsCalled turns (P.told policy.old) (P.told policy.new) }
-    ensures sink_calls { StopsAtZero (K.told sink.old) (K.told sink.new) }
+    ensures ended { Ended (altering form is_judged) (inputs (S.remaining script.old) (C.remaining change.old) (P.remaining policy.old)) (inputs (S.remaining script.new) (C.remaining change.new) (P.remaining policy.new)) (K.contents sink.old) (K.contents sink.new) result }
+    ensures turned { Turned turns (turning (seen_by S.told S.remaining S.lent) script.old script.new ∷ turning (seen_by C.told C.remaining C.lent) change.old change.new ∷ turning (seen_by P.told P.remaining P.lent) policy.old policy.new ∷ []) (seen_by K.told K.contents K.lent sink.old) (seen_by K.told K.contents K.lent sink.new) (stopped_by result) }
     ensures lent_script { S.lent script.new ≡ S.lent script.old }
     ensures lent_change { C.lent change.new ≡ C.lent change.old }
     ensures lent_policy { P.lent policy.new ≡ P.lent policy.old }
@@ -112,28 +98,64 @@ pub fn steps_within<S: Source, C: Source, P: Source, K: Sink>(
     ensures heard_change { Hears C.hears change.old change.new }
     ensures heard_policy { Hears P.hears policy.old policy.new }
 {
-    states();
     one_load();
-    let mut engine = Engine::new(alloc);
     let shape = Shape {
         form,
         side: Side::Only,
     };
-    match serve_input(Input::Network(shape), &mut engine, script, sink, turns) {
+    match serve_first(alloc, Input::Network(shape), script, sink, turns) {
         Err(fault) => Err(fault),
-        Ok(()) => {
-            let served = engine.outcome();
-            match read_both(alloc, change, policy, turns) {
+        Ok(mut serving) => {
+            let served = serving.engine.outcome();
+            match read_both(alloc, change, policy, sink, turns) {
                 Err(fault) => Err(fault),
-                Ok(both) => match stepped(alloc, form, is_judged, &mut engine.planner, &both) {
-                    Err(_) => Err(RunFault::Memory),
-                    Ok(found) => match put(sink, found.text.as_slice()) {
-                        Err(_) => Err(RunFault::Write),
-                        Ok(()) => Ok(with_course(&served, &found)),
-                    },
-                },
+                Ok(both) => {
+                    match stepped(alloc, form, is_judged, &mut serving.engine.planner, &both) {
+                        Err(_) => Err(RunFault::Memory),
+                        Ok(found) => match put(sink, found.text.as_slice()) {
+                            Err(_) => Err(RunFault::Write),
+                            Ok(()) => Ok(with_course(&served, &found)),
+                        },
+                    }
+                }
             }
         }
+    }
+}
+
+/// Telling what the steps of a change do to the network of a script, with a policy, where it is judged, in this form.
+#[derive(Clone, Copy)]
+pub struct StepsWord {
+    pub alloc: Global,
+    pub form: Form,
+    pub is_judged: bool,
+}
+
+impl Word for StepsWord {
+    ghost use Rattle.mst_tool.specs.Alter.{altering};
+
+    ghost count = { λ _. 3 };
+
+    ghost telling = { λ word. altering word.form word.is_judged };
+
+    fn serve<F: Source, S: Source, T: Source, K: Sink>(
+        &self,
+        first: &mut F,
+        second: &mut S,
+        third: &mut T,
+        sink: &mut K,
+        turns: u64,
+    ) -> Result<Outcome, RunFault> {
+        steps_within(
+            self.alloc,
+            self.form,
+            self.is_judged,
+            first,
+            second,
+            third,
+            sink,
+            turns,
+        )
     }
 }
 
@@ -145,34 +167,29 @@ struct Both {
 }
 
 /// Reads a change and then a policy, each in so many turns.
-fn read_both<C: Source, P: Source>(
+fn read_both<C: Source, P: Source, K: Sink>(
     alloc: Global,
     change: &mut C,
     policy: &mut P,
+    sink: &mut K,
     turns: u64,
 ) -> Result<Both, RunFault>
     requires change { (C.told change.old).failed ≡ false }
     requires policy { (P.told policy.old).failed ≡ false }
+    requires sink { (K.told sink.old).failed ≡ false }
     requires turns { turns ≤ 2 ^ 32 }
     ensures ok_change { IfOk result (λ both. AreSteps (C.remaining change.old) both.change.ended) }
     ensures ok_policy { IfOk result (λ both. AreLines (P.remaining policy.old) both.policy) }
     ensures few { IfOk result (λ both. length (all_lines both.change.ended) < 2 ^ 60) }
     ensures few_policy { IfOk result (λ both. length both.policy < 2 ^ 60) }
-    ensures ended_change { IsOk result → IsRead (C.told change.old) (C.told change.new) }
-    ensures ended_policy { IsOk result → IsRead (P.told policy.old) (P.told policy.new) }
-    ensures read { result ≡ Err RunFault.Read ↔ (IsCut turns (C.told change.old) (C.told change.new) ⊎ IsCut turns (P.told policy.old) (P.told policy.new)) }
-    ensures order { Follows (C.told change.old) (C.told change.new) (P.told policy.old) (P.told policy.new) }
-    ensures write { result ≢ Err RunFault.Write }
-    ensures change_calls { IsCalled turns (C.told change.old) (C.told change.new) }
-    ensures policy_calls { IsCalled turns (P.told policy.old) (P.told policy.new) }
-    ensures lent_change { C.lent change.new ≡ C.lent change.old }
-    ensures lent_policy { P.lent policy.new ≡ P.lent policy.old }
+    ensures unwritten { Appends (K.contents sink.old) (K.contents sink.new) [] }
+    ensures turned { Turned turns (turning (seen_by C.told C.remaining C.lent) change.old change.new ∷ turning (seen_by P.told P.remaining P.lent) policy.old policy.new ∷ []) (seen_by K.told K.contents K.lent sink.old) (seen_by K.told K.contents K.lent sink.new) (stopped_by result) }
     ensures heard_change { Hears C.hears change.old change.new }
     ensures heard_policy { Hears P.hears policy.old policy.new }
 {
-    match read_change(alloc, change, turns) {
+    match read_change(alloc, change, sink, turns) {
         Err(fault) => Err(fault),
-        Ok(change) => match read_policy(alloc, policy, turns) {
+        Ok(change) => match read_policy(alloc, policy, sink, turns) {
             Err(fault) => Err(fault),
             Ok(policy) => Ok(Both { change, policy }),
         },

@@ -1,24 +1,26 @@
-ghost use Rattle.std.specs.Prelude.{◌≡◌, ◌≤◌, ◌↔◌, ◌^◌, ℕ, false, true, List, Option, None, Err, IfOk, IsOk, OnOk, OnErr};
+ghost use Rattle.std.specs.Prelude.{◌≡◌, ◌≤◌, ◌∷◌, [], ◌^◌, ℕ, false, true, List, Option, None, IfOk, OnOk, OnErr};
 ghost use Rattle.std.specs.Io.KnownBytes.{Appends};
+ghost use Rattle.mst_drive.specs.Turned.{Turned, turning};
+ghost use Rattle.mst_drive.specs.Words.{Ended, one_input};
+ghost use Rattle.mst_engine.specs.Served.{IsFew};
 ghost use Rattle.mst_engine.specs.report.Picturing.{Depicts, DepictsVlan};
 ghost use Rattle.mst_engine.specs.report.Planned.{planned_state};
-ghost use Rattle.mst_tool.specs.Ask.{Asks, AsksFront, IsAnswer, answer_text, told_of, counted_with, is_nothing as none_advised, is_refused, keeps, unadvised_early, unexplained_early};
-ghost use Rattle.mst_io.specs.Devices.{Hears, Works, IsBroken, IsCut, IsRead, IsCalled, IsStopped, StopsAtZero};
-ghost use Rattle.mst_tool.specs.Load.{LoadsEnded, LoadsScript};
-ghost use Rattle.mst_engine.specs.Served.{IsFew};
-ghost use Rattle.mst_print.specs.Shape.{of_script};
+ghost use Rattle.mst_io.specs.Devices.{Hears, Works, IsStopped, seen_by, stopped_by};
 ghost use Rattle.mst_io.specs.Written.{AppendsFront};
+ghost use Rattle.mst_tool.specs.Ask.{IsAnswer, answer_text, asking, counted_with, is_nothing as none_advised, is_refused, keeps, told_of, unadvised_early, unexplained_early};
 ghost use Rattle.mst_tool.specs.declared.asked.Question.TheVariants.{Advice, Explain};
 
 use crate::asked::{Asked, Question};
 use crate::early::{why_unadvised, why_unexplained};
 use crate::opened::{open_advice, open_explanation, open_pairs, open_question, open_sweep};
+use crate::served::serve_first;
 use mst_advise::Goal;
 use mst_advising::Advised;
 use mst_advising::laws::one_advice;
+use mst_drive::Word;
 use mst_engine::laws::{one_load, states};
 use mst_engine::report_laws::{one_explanation, one_picture, one_summary, one_vlan_picture};
-use mst_engine::{Engine, Input, Planner, SweepPart, Unexplained, serve_input};
+use mst_engine::{Input, Planner, SweepPart, Unexplained};
 use mst_ids::{Tree, Vid};
 use mst_io::{FromRead, Outcome, RunFault, Sink, Source, TURNS, ToWrite, WriteFailed, put};
 use mst_kinds::{Query, RefusalLine};
@@ -74,10 +76,7 @@ pub fn ask<R: Read + Drop, W: Write>(
     mut reader: R,
     writer: &mut W,
 ) -> Result<Outcome, RunFault>
-    ensures ok { IfOk result (Asks Form.Text question.now (R.remaining reader) (W.contents writer.old) (W.contents writer.new)) }
-    ensures fault { OnErr result (AsksFront Form.Text question.now (R.remaining reader) (W.contents writer.old) (W.contents writer.new)) }
-    ensures read { result ≡ Err RunFault.Read → (left : Option (List ℕ)) × LoadsEnded (of_script Form.Text) (R.remaining reader) left (W.contents writer.old) (W.contents writer.new) }
-    ensures memory { result ≡ Err RunFault.Memory → LoadsScript (of_script Form.Text) (R.remaining reader) (W.contents writer.old) (W.contents writer.new) }
+    ensures ended { (left : Option (List ℕ)) × Ended (asking Form.Text question.now) (one_input (R.remaining reader)) (one_input left) (W.contents writer.old) (W.contents writer.new) result }
 {
     ask_from(alloc, question, &mut reader, writer)
 }
@@ -89,10 +88,7 @@ pub fn ask_from<R: Read, W: Write>(
     reader: &mut R,
     writer: &mut W,
 ) -> Result<Outcome, RunFault>
-    ensures ok { IfOk result (Asks Form.Text question.now (R.remaining reader.old) (W.contents writer.old) (W.contents writer.new)) }
-    ensures fault { OnErr result (AsksFront Form.Text question.now (R.remaining reader.old) (W.contents writer.old) (W.contents writer.new)) }
-    ensures read { result ≡ Err RunFault.Read → LoadsEnded (of_script Form.Text) (R.remaining reader.old) (R.remaining reader.new) (W.contents writer.old) (W.contents writer.new) }
-    ensures memory { result ≡ Err RunFault.Memory → LoadsScript (of_script Form.Text) (R.remaining reader.old) (W.contents writer.old) (W.contents writer.new) }
+    ensures ended { Ended (asking Form.Text question.now) (one_input (R.remaining reader.old)) (one_input (R.remaining reader.new)) (W.contents writer.old) (W.contents writer.new) result }
 {
     let mut source = FromRead::new(reader);
     let mut sink = ToWrite::new(writer);
@@ -115,15 +111,8 @@ pub fn ask_within<S: Source, K: Sink>(
     requires source { (S.told source.old).failed ≡ false }
     requires sink { (K.told sink.old).failed ≡ false }
     requires turns { turns ≤ 2 ^ 32 }
-    ensures ok { IfOk result (Asks form question.now (S.remaining source.old) (K.contents sink.old) (K.contents sink.new)) }
-    ensures fault { OnErr result (AsksFront form question.now (S.remaining source.old) (K.contents sink.old) (K.contents sink.new)) }
-    ensures read { result ≡ Err RunFault.Read → LoadsEnded (of_script form) (S.remaining source.old) (S.remaining source.new) (K.contents sink.old) (K.contents sink.new) }
-    ensures memory { result ≡ Err RunFault.Memory → LoadsScript (of_script form) (S.remaining source.old) (K.contents sink.old) (K.contents sink.new) }
-    ensures ended { IsOk result → IsRead (S.told source.old) (S.told source.new) }
-    ensures read_fault { result ≡ Err RunFault.Read ↔ IsCut turns (S.told source.old) (S.told source.new) × Works (K.told sink.old) (K.told sink.new) }
-    ensures write_fault { result ≡ Err RunFault.Write ↔ IsBroken (K.told sink.old) (K.told sink.new) }
-    ensures source_calls { IsCalled turns (S.told source.old) (S.told source.new) }
-    ensures sink_calls { StopsAtZero (K.told sink.old) (K.told sink.new) }
+    ensures ended { Ended (asking form question.now) (one_input (S.remaining source.old)) (one_input (S.remaining source.new)) (K.contents sink.old) (K.contents sink.new) result }
+    ensures turned { Turned turns (turning (seen_by S.told S.remaining S.lent) source.old source.new ∷ []) (seen_by K.told K.contents K.lent sink.old) (seen_by K.told K.contents K.lent sink.new) (stopped_by result) }
     ensures lent_source { S.lent source.new ≡ S.lent source.old }
     ensures lent_sink { K.lent sink.new ≡ K.lent sink.old }
     ensures heard { Hears S.hears source.old source.new }
@@ -137,16 +126,15 @@ pub fn ask_within<S: Source, K: Sink>(
     one_picture();
     one_vlan_picture();
     one_advice();
-    let mut engine = Engine::new(alloc);
     let shape = Shape {
         form,
         side: Side::Only,
     };
-    match serve_input(Input::Network(shape), &mut engine, source, sink, turns) {
+    match serve_first(alloc, Input::Network(shape), source, sink, turns) {
         Err(fault) => Err(fault),
-        Ok(()) => {
-            let served = engine.outcome();
-            match answer_to(alloc, &mut engine.planner, form, question) {
+        Ok(mut serving) => {
+            let served = serving.engine.outcome();
+            match answer_to(alloc, &mut serving.engine.planner, form, question) {
                 Err(_) => Err(RunFault::Memory),
                 Ok(answer) => match put_answer(sink, form, &answer) {
                     Err(_) => Err(RunFault::Write),
@@ -154,6 +142,33 @@ pub fn ask_within<S: Source, K: Sink>(
                 },
             }
         }
+    }
+}
+
+/// What is asked of the network of a script, in this form.
+#[derive(Clone, Copy)]
+pub struct QuestionWord {
+    pub alloc: Global,
+    pub form: Form,
+    pub question: Question,
+}
+
+impl Word for QuestionWord {
+    ghost use Rattle.mst_tool.specs.Ask.{asking};
+
+    ghost count = { λ _. 1 };
+
+    ghost telling = { λ word. asking word.form word.question };
+
+    fn serve<F: Source, S: Source, T: Source, K: Sink>(
+        &self,
+        first: &mut F,
+        _second: &mut S,
+        _third: &mut T,
+        sink: &mut K,
+        turns: u64,
+    ) -> Result<Outcome, RunFault> {
+        ask_within(self.alloc, self.form, &self.question, first, sink, turns)
     }
 }
 

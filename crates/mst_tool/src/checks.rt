@@ -1,17 +1,20 @@
-ghost use Rattle.std.specs.Prelude.{◌≡◌, ◌+◌, ◌∷◌, [], ◌^◌, ◌<◌, ◌≤◌, ◌↔◌, ◌⊎◌, ℕ, false, List, Option, Ok, Err, IfOk, IsOk, OnOk, OnErr};
+ghost use Rattle.std.specs.Prelude.{◌≡◌, ◌≢◌, ◌+◌, ◌∷◌, [], ◌^◌, ◌<◌, ◌≤◌, false, true, Err, OnOk, OnErr};
 ghost use Rattle.std.specs.Io.KnownBytes.{Appends};
+ghost use Rattle.mst_drive.specs.Turned.{Turned, turning};
+ghost use Rattle.mst_drive.specs.Words.{Ended, Inputs, Wrote, WroteFront, two_inputs};
+ghost use Rattle.mst_engine.specs.Engine.{tally_of, outcome_of};
+ghost use Rattle.mst_engine.specs.Served.{IsFew, Served, ServedEnded, Serves, both};
+ghost use Rattle.mst_engine.specs.declared.engine.Input.TheVariants.{Captures};
 ghost use Rattle.mst_engine.specs.report.Planned.{planned_state};
+ghost use Rattle.mst_io.specs.Devices.{Hears, Works, IsStopped, seen_by, stopped_by};
 ghost use Rattle.mst_io.specs.Written.{AppendsFront};
 ghost use Rattle.mst_print.specs.Shape.{listed};
-ghost use Rattle.mst_tool.specs.Check.{Checks, ChecksFront, ChecksEnded, ChecksScript, counted_captures, idle_text, is_idle as is_idle_by, none_row};
-ghost use Rattle.mst_tool.specs.Run.{Follows};
-ghost use Rattle.mst_io.specs.Devices.{Hears, Works, IsBroken, IsCut, IsRead, IsCalled, IsStopped, Stops, StopsAtZero, stopped_by};
-ghost use Rattle.mst_engine.specs.Engine.{tally_of, outcome_of};
-ghost use Rattle.mst_engine.specs.Served.{Served, ServedFront, ServedEnded, IsFew, both};
-ghost use Rattle.mst_engine.specs.declared.engine.Input.TheVariants.{Captures};
+ghost use Rattle.mst_tool.specs.Check.{checking, counted_captures, idle_text, is_idle as is_idle_by, none_row};
 
+use crate::served::serve_first;
+use mst_drive::Word;
 use mst_engine::laws::{has_steps, one_comparison, one_run, states};
-use mst_engine::{Engine, Input, serve_input};
+use mst_engine::{Engine, Input, Serving, serve_input};
 use mst_io::{FromRead, Outcome, RunFault, Sink, Source, TURNS, ToWrite, WriteFailed, put};
 use mst_print::Form;
 use std::alloc::Global;
@@ -37,10 +40,7 @@ pub fn check<S: Read + Drop, C: Read + Drop, W: Write>(
     mut captures: C,
     writer: &mut W,
 ) -> Result<Outcome, RunFault>
-    ensures ok { IfOk result (Checks form (S.remaining script) (C.remaining captures) (W.contents writer.old) (W.contents writer.new)) }
-    ensures fault { OnErr result (ChecksFront form (S.remaining script) (C.remaining captures) (W.contents writer.old) (W.contents writer.new)) }
-    ensures read { result ≡ Err RunFault.Read → (script_left captures_left : Option (List ℕ)) × ChecksEnded form (S.remaining script) script_left (C.remaining captures) captures_left (W.contents writer.old) (W.contents writer.new) }
-    ensures memory { result ≡ Err RunFault.Memory → ChecksScript form (S.remaining script) (W.contents writer.old) (W.contents writer.new) }
+    ensures ended { (left : Inputs) × Ended (checking form) (two_inputs (S.remaining script) (C.remaining captures)) left (W.contents writer.old) (W.contents writer.new) result }
 {
     check_from(alloc, form, &mut script, &mut captures, writer)
 }
@@ -53,10 +53,7 @@ pub fn check_from<S: Read, C: Read, W: Write>(
     captures: &mut C,
     writer: &mut W,
 ) -> Result<Outcome, RunFault>
-    ensures ok { IfOk result (Checks form (S.remaining script.old) (C.remaining captures.old) (W.contents writer.old) (W.contents writer.new)) }
-    ensures fault { OnErr result (ChecksFront form (S.remaining script.old) (C.remaining captures.old) (W.contents writer.old) (W.contents writer.new)) }
-    ensures read { result ≡ Err RunFault.Read → ChecksEnded form (S.remaining script.old) (S.remaining script.new) (C.remaining captures.old) (C.remaining captures.new) (W.contents writer.old) (W.contents writer.new) }
-    ensures memory { result ≡ Err RunFault.Memory → ChecksScript form (S.remaining script.old) (W.contents writer.old) (W.contents writer.new) }
+    ensures ended { Ended (checking form) (two_inputs (S.remaining script.old) (C.remaining captures.old)) (two_inputs (S.remaining script.new) (C.remaining captures.new)) (W.contents writer.old) (W.contents writer.new) result }
 {
     let mut script_source = FromRead::new(script);
     let mut captures_source = FromRead::new(captures);
@@ -90,19 +87,9 @@ pub fn check_within<S: Source, C: Source, K: Sink>(
     requires captures { (C.told captures.old).failed ≡ false }
     requires sink { (K.told sink.old).failed ≡ false }
     requires turns { turns ≤ 2 ^ 32 }
-    ensures ok { IfOk result (Checks form (S.remaining script.old) (C.remaining captures.old) (K.contents sink.old) (K.contents sink.new)) }
-    ensures fault { OnErr result (ChecksFront form (S.remaining script.old) (C.remaining captures.old) (K.contents sink.old) (K.contents sink.new)) }
-    ensures read { result ≡ Err RunFault.Read → ChecksEnded form (S.remaining script.old) (S.remaining script.new) (C.remaining captures.old) (C.remaining captures.new) (K.contents sink.old) (K.contents sink.new) }
-    ensures memory { result ≡ Err RunFault.Memory → ChecksScript form (S.remaining script.old) (K.contents sink.old) (K.contents sink.new) }
+    ensures ended { Ended (checking form) (two_inputs (S.remaining script.old) (C.remaining captures.old)) (two_inputs (S.remaining script.new) (C.remaining captures.new)) (K.contents sink.old) (K.contents sink.new) result }
     ensures unread { result ≡ Err RunFault.Memory → (C.told captures.new ≡ C.told captures.old) × (C.remaining captures.new ≡ C.remaining captures.old) }
-    ensures ended_script { IsOk result → IsRead (S.told script.old) (S.told script.new) }
-    ensures ended_captures { IsOk result → IsRead (C.told captures.old) (C.told captures.new) }
-    ensures read_fault { result ≡ Err RunFault.Read ↔ (IsCut turns (S.told script.old) (S.told script.new) ⊎ IsCut turns (C.told captures.old) (C.told captures.new)) × Works (K.told sink.old) (K.told sink.new) }
-    ensures write_fault { result ≡ Err RunFault.Write ↔ IsBroken (K.told sink.old) (K.told sink.new) }
-    ensures order { Follows (S.told script.old) (S.told script.new) (C.told captures.old) (C.told captures.new) }
-    ensures script_calls { IsCalled turns (S.told script.old) (S.told script.new) }
-    ensures captures_calls { IsCalled turns (C.told captures.old) (C.told captures.new) }
-    ensures sink_calls { StopsAtZero (K.told sink.old) (K.told sink.new) }
+    ensures turned { Turned turns (turning (seen_by S.told S.remaining S.lent) script.old script.new ∷ turning (seen_by C.told C.remaining C.lent) captures.old captures.new ∷ []) (seen_by K.told K.contents K.lent sink.old) (seen_by K.told K.contents K.lent sink.new) (stopped_by result) }
     ensures lent_script { S.lent script.new ≡ S.lent script.old }
     ensures lent_captures { C.lent captures.new ≡ C.lent captures.old }
     ensures lent_sink { K.lent sink.new ≡ K.lent sink.old }
@@ -113,16 +100,18 @@ pub fn check_within<S: Source, C: Source, K: Sink>(
     states();
     one_run();
     one_comparison();
-    let mut engine = Engine::new(alloc);
-    match serve_input(Input::Script(form), &mut engine, script, sink, turns) {
+    match serve_first(alloc, Input::Script(form), script, sink, turns) {
         Err(fault) => Err(fault),
-        Ok(()) => {
-            let served = engine.outcome();
-            match serve_captures(&mut engine, form, captures, sink, turns) {
-                Err(fault) => Err(fault),
-                Ok(()) => match put_none(&engine, form, sink) {
-                    Err(_) => Err(RunFault::Write),
-                    Ok(()) => Ok(sum_of(&served, &compared(&engine))),
+        Ok(mut serving) => {
+            let served = serving.engine.outcome();
+            match serving.engine.planner.settle() {
+                Err(_) => Err(RunFault::Memory),
+                Ok(()) => match serve_captures(&mut serving, form, captures, sink, turns) {
+                    Err(fault) => Err(fault),
+                    Ok(()) => match put_none(&serving.engine, form, sink) {
+                        Err(_) => Err(RunFault::Write),
+                        Ok(()) => Ok(sum_of(&served, &compared(&serving.engine))),
+                    },
                 },
             }
         }
@@ -131,35 +120,53 @@ pub fn check_within<S: Source, C: Source, K: Sink>(
 
 /// Compares all captured messages with the plan of the network as it stands.
 fn serve_captures<C: Source, K: Sink>(
-    engine: &mut Engine,
+    serving: &mut Serving,
     form: Form,
     captures: &mut C,
     sink: &mut K,
     turns: u64,
 ) -> Result<(), RunFault>
+    requires settled { serving.old.engine.planner.is_settled ≡ true }
     requires captures { (C.told captures.old).failed ≡ false }
     requires sink { (K.told sink.old).failed ≡ false }
     requires turns { turns ≤ 2 ^ 32 }
-    ensures ok { OnOk result (Served (Captures form) (planned_state engine.old.planner) (C.remaining captures.old) (K.contents sink.old) (K.contents sink.new) (tally_of engine.new)) }
-    ensures few { OnOk result (IsFew (outcome_of (tally_of engine.new))) }
-    ensures fault { OnErr result (ServedFront (Captures form) (planned_state engine.old.planner) (C.remaining captures.old) (K.contents sink.old) (K.contents sink.new)) }
-    ensures read { result ≡ Err RunFault.Read → ServedEnded (Captures form) (planned_state engine.old.planner) (C.remaining captures.old) (C.remaining captures.new) (K.contents sink.old) (K.contents sink.new) }
-    ensures memory { result ≡ Err RunFault.Memory → K.contents sink.new ≡ K.contents sink.old }
-    ensures unread { result ≡ Err RunFault.Memory → (C.told captures.new ≡ C.told captures.old) × (C.remaining captures.new ≡ C.remaining captures.old) }
-    ensures stops { Stops turns (C.told captures.old) (C.told captures.new) (K.told sink.old) (K.told sink.new) (stopped_by result) }
-    ensures captures_calls { IsCalled turns (C.told captures.old) (C.told captures.new) }
-    ensures sink_calls { StopsAtZero (K.told sink.old) (K.told sink.new) }
-    ensures lent_captures { C.lent captures.new ≡ C.lent captures.old }
-    ensures lent_sink { K.lent sink.new ≡ K.lent sink.old }
-    ensures heard_captures { Hears C.hears captures.old captures.new }
+    ensures ok { OnOk result (Wrote (K.contents sink.old) (K.contents sink.new) (λ text. Served (Captures form) (planned_state serving.old.engine.planner) (C.remaining captures.old) text (tally_of serving.new.engine))) }
+    ensures few { OnOk result (IsFew (outcome_of (tally_of serving.new.engine))) }
+    ensures fault { OnErr result (WroteFront (K.contents sink.old) (K.contents sink.new) (Serves (Captures form) (planned_state serving.old.engine.planner) (C.remaining captures.old))) }
+    ensures read { result ≡ Err RunFault.Read → Wrote (K.contents sink.old) (K.contents sink.new) (ServedEnded (Captures form) (planned_state serving.old.engine.planner) (C.remaining captures.old) (C.remaining captures.new)) }
+    ensures memory { result ≢ Err RunFault.Memory }
+    ensures turned { Turned turns (turning (seen_by C.told C.remaining C.lent) captures.old captures.new ∷ []) (seen_by K.told K.contents K.lent sink.old) (seen_by K.told K.contents K.lent sink.new) (stopped_by result) }
+    ensures heard { Hears C.hears captures.old captures.new }
 {
-    has_steps();
-    engine.planner.known();
-    if engine.planner.settle().is_err() {
-        return Err(RunFault::Memory);
+    serving.engine.restart();
+    serving.input = Input::Captures(form);
+    serve_input(serving, captures, sink, turns)
+}
+
+/// A check of captures against the plan of a script, in this form.
+#[derive(Clone, Copy)]
+pub struct CheckWord {
+    pub alloc: Global,
+    pub form: Form,
+}
+
+impl Word for CheckWord {
+    ghost use Rattle.mst_tool.specs.Check.{checking};
+
+    ghost count = { λ _. 2 };
+
+    ghost telling = { λ word. checking word.form };
+
+    fn serve<F: Source, S: Source, T: Source, K: Sink>(
+        &self,
+        first: &mut F,
+        second: &mut S,
+        _third: &mut T,
+        sink: &mut K,
+        turns: u64,
+    ) -> Result<Outcome, RunFault> {
+        check_within(self.alloc, self.form, first, second, sink, turns)
     }
-    engine.restart();
-    serve_input(Input::Captures(form), engine, captures, sink, turns)
 }
 
 /// Whether no captured message was served.

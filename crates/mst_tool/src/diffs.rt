@@ -1,14 +1,17 @@
-ghost use Rattle.std.specs.Prelude.{◌≡◌, ◌≤◌, ◌↔◌, ◌⊎◌, ◌^◌, ℕ, false, List, Option, Err, IfOk, IsOk, OnErr};
-ghost use Rattle.mst_engine.specs.report.Planned.{planned_state};
-ghost use Rattle.mst_io.specs.Devices.{Hears, Works, IsBroken, IsCut, IsRead, IsCalled, StopsAtZero};
-ghost use Rattle.mst_tool.specs.Diff.{CountsOf, Diffs, DiffsFront, DiffsEnded, DiffsScripts, TellsDifference, counted_both, differs_by};
-ghost use Rattle.mst_tool.specs.Run.{Follows};
+ghost use Rattle.std.specs.Prelude.{◌≡◌, ◌≤◌, ◌∷◌, [], ◌^◌, false, IfOk};
+ghost use Rattle.mst_drive.specs.Turned.{Turned, turning};
+ghost use Rattle.mst_drive.specs.Words.{Ended, Inputs, two_inputs};
 ghost use Rattle.mst_engine.specs.Served.{IsFew};
+ghost use Rattle.mst_engine.specs.report.Planned.{planned_state};
+ghost use Rattle.mst_io.specs.Devices.{Hears, seen_by, stopped_by};
+ghost use Rattle.mst_tool.specs.Diff.{CountsOf, TellsDifference, counted_both, differing, differs_by};
 
 use crate::opened::open_question;
+use crate::served::serve_first;
+use mst_drive::Word;
 use mst_engine::laws::{has_load, one_load, states};
 use mst_engine::report_laws::one_difference;
-use mst_engine::{Engine, Input, Planner, serve_input};
+use mst_engine::{Input, Planner};
 use mst_io::{FromRead, Outcome, RunFault, Sink, Source, TURNS, ToWrite, put};
 use mst_kinds::Query;
 use mst_print::{Form, Shape, Side};
@@ -41,10 +44,7 @@ pub fn diff<O: Read + Drop, N: Read + Drop, W: Write>(
     mut new: N,
     writer: &mut W,
 ) -> Result<Outcome, RunFault>
-    ensures ok { IfOk result (Diffs Between.Plans Form.Text (O.remaining old) (N.remaining new) (W.contents writer.old) (W.contents writer.new)) }
-    ensures fault { OnErr result (DiffsFront Between.Plans Form.Text (O.remaining old) (N.remaining new) (W.contents writer.old) (W.contents writer.new)) }
-    ensures read { result ≡ Err RunFault.Read → (old_left new_left : Option (List ℕ)) × DiffsEnded Form.Text (O.remaining old) old_left (N.remaining new) new_left (W.contents writer.old) (W.contents writer.new) }
-    ensures memory { result ≡ Err RunFault.Memory → DiffsScripts Form.Text (O.remaining old) (N.remaining new) (W.contents writer.old) (W.contents writer.new) }
+    ensures ended { (left : Inputs) × Ended (differing Between.Plans Form.Text) (two_inputs (O.remaining old) (N.remaining new)) left (W.contents writer.old) (W.contents writer.new) result }
 {
     diff_from(
         alloc,
@@ -65,10 +65,7 @@ pub fn edits<O: Read + Drop, N: Read + Drop, W: Write>(
     mut new: N,
     writer: &mut W,
 ) -> Result<Outcome, RunFault>
-    ensures ok { IfOk result (Diffs Between.Settings form (O.remaining old) (N.remaining new) (W.contents writer.old) (W.contents writer.new)) }
-    ensures fault { OnErr result (DiffsFront Between.Settings form (O.remaining old) (N.remaining new) (W.contents writer.old) (W.contents writer.new)) }
-    ensures read { result ≡ Err RunFault.Read → (old_left new_left : Option (List ℕ)) × DiffsEnded form (O.remaining old) old_left (N.remaining new) new_left (W.contents writer.old) (W.contents writer.new) }
-    ensures memory { result ≡ Err RunFault.Memory → DiffsScripts form (O.remaining old) (N.remaining new) (W.contents writer.old) (W.contents writer.new) }
+    ensures ended { (left : Inputs) × Ended (differing Between.Settings form) (two_inputs (O.remaining old) (N.remaining new)) left (W.contents writer.old) (W.contents writer.new) result }
 {
     diff_from(alloc, form, Between::Settings, &mut old, &mut new, writer)
 }
@@ -82,10 +79,7 @@ pub fn diff_from<O: Read, N: Read, W: Write>(
     new: &mut N,
     writer: &mut W,
 ) -> Result<Outcome, RunFault>
-    ensures ok { IfOk result (Diffs between form (O.remaining old.old) (N.remaining new.old) (W.contents writer.old) (W.contents writer.new)) }
-    ensures fault { OnErr result (DiffsFront between form (O.remaining old.old) (N.remaining new.old) (W.contents writer.old) (W.contents writer.new)) }
-    ensures read { result ≡ Err RunFault.Read → DiffsEnded form (O.remaining old.old) (O.remaining old.new) (N.remaining new.old) (N.remaining new.new) (W.contents writer.old) (W.contents writer.new) }
-    ensures memory { result ≡ Err RunFault.Memory → DiffsScripts form (O.remaining old.old) (N.remaining new.old) (W.contents writer.old) (W.contents writer.new) }
+    ensures ended { Ended (differing between form) (two_inputs (O.remaining old.old) (N.remaining new.old)) (two_inputs (O.remaining old.new) (N.remaining new.new)) (W.contents writer.old) (W.contents writer.new) result }
 {
     let mut old_source = FromRead::new(old);
     let mut new_source = FromRead::new(new);
@@ -120,18 +114,8 @@ pub fn diff_within<O: Source, N: Source, K: Sink>(
     requires new { (N.told new.old).failed ≡ false }
     requires sink { (K.told sink.old).failed ≡ false }
     requires turns { turns ≤ 2 ^ 32 }
-    ensures ok { IfOk result (Diffs between form (O.remaining old.old) (N.remaining new.old) (K.contents sink.old) (K.contents sink.new)) }
-    ensures fault { OnErr result (DiffsFront between form (O.remaining old.old) (N.remaining new.old) (K.contents sink.old) (K.contents sink.new)) }
-    ensures read { result ≡ Err RunFault.Read → DiffsEnded form (O.remaining old.old) (O.remaining old.new) (N.remaining new.old) (N.remaining new.new) (K.contents sink.old) (K.contents sink.new) }
-    ensures memory { result ≡ Err RunFault.Memory → DiffsScripts form (O.remaining old.old) (N.remaining new.old) (K.contents sink.old) (K.contents sink.new) }
-    ensures ended_old { IsOk result → IsRead (O.told old.old) (O.told old.new) }
-    ensures ended_new { IsOk result → IsRead (N.told new.old) (N.told new.new) }
-    ensures read_fault { result ≡ Err RunFault.Read ↔ (IsCut turns (O.told old.old) (O.told old.new) ⊎ IsCut turns (N.told new.old) (N.told new.new)) × Works (K.told sink.old) (K.told sink.new) }
-    ensures write_fault { result ≡ Err RunFault.Write ↔ IsBroken (K.told sink.old) (K.told sink.new) }
-    ensures order { Follows (O.told old.old) (O.told old.new) (N.told new.old) (N.told new.new) }
-    ensures old_calls { IsCalled turns (O.told old.old) (O.told old.new) }
-    ensures new_calls { IsCalled turns (N.told new.old) (N.told new.new) }
-    ensures sink_calls { StopsAtZero (K.told sink.old) (K.told sink.new) }
+    ensures ended { Ended (differing between form) (two_inputs (O.remaining old.old) (N.remaining new.old)) (two_inputs (O.remaining old.new) (N.remaining new.new)) (K.contents sink.old) (K.contents sink.new) result }
+    ensures turned { Turned turns (turning (seen_by O.told O.remaining O.lent) old.old old.new ∷ turning (seen_by N.told N.remaining N.lent) new.old new.new ∷ []) (seen_by K.told K.contents K.lent sink.old) (seen_by K.told K.contents K.lent sink.new) (stopped_by result) }
     ensures lent_old { O.lent old.new ≡ O.lent old.old }
     ensures lent_new { N.lent new.new ≡ N.lent new.old }
     ensures lent_sink { K.lent sink.new ≡ K.lent sink.old }
@@ -142,40 +126,73 @@ pub fn diff_within<O: Source, N: Source, K: Sink>(
     states();
     one_load();
     one_difference();
-    let mut before = Engine::new(alloc);
     let of_old = Shape {
         form,
         side: Side::Old,
     };
-    match serve_input(Input::Network(of_old), &mut before, old, sink, turns) {
+    match serve_first(alloc, Input::Network(of_old), old, sink, turns) {
         Err(fault) => Err(fault),
-        Ok(()) => {
-            let mut after = Engine::new(alloc);
+        Ok(mut before) => {
             let of_new = Shape {
                 form,
                 side: Side::New,
             };
-            match serve_input(Input::Network(of_new), &mut after, new, sink, turns) {
+            match serve_first(alloc, Input::Network(of_new), new, sink, turns) {
                 Err(fault) => Err(fault),
-                Ok(()) => match what_differs(
+                Ok(mut after) => match what_differs(
                     alloc,
                     form,
                     between,
-                    &mut before.planner,
-                    &mut after.planner,
+                    &mut before.engine.planner,
+                    &mut after.engine.planner,
                 ) {
                     Err(_) => Err(RunFault::Memory),
                     Ok(found) => match put(sink, found.text.as_slice()) {
                         Err(_) => Err(RunFault::Write),
                         Ok(()) => {
-                            let old_served = before.outcome();
-                            let new_served = after.outcome();
+                            let old_served = before.engine.outcome();
+                            let new_served = after.engine.outcome();
                             Ok(with_difference(&old_served, &new_served, found.differs))
                         }
                     },
                 },
             }
         }
+    }
+}
+
+/// Telling the networks of two scripts apart, in this form.
+#[derive(Clone, Copy)]
+pub struct DiffWord {
+    pub alloc: Global,
+    pub form: Form,
+    pub between: Between,
+}
+
+impl Word for DiffWord {
+    ghost use Rattle.mst_tool.specs.Diff.{differing};
+
+    ghost count = { λ _. 2 };
+
+    ghost telling = { λ word. differing word.between word.form };
+
+    fn serve<F: Source, S: Source, T: Source, K: Sink>(
+        &self,
+        first: &mut F,
+        second: &mut S,
+        _third: &mut T,
+        sink: &mut K,
+        turns: u64,
+    ) -> Result<Outcome, RunFault> {
+        diff_within(
+            self.alloc,
+            self.form,
+            self.between,
+            first,
+            second,
+            sink,
+            turns,
+        )
     }
 }
 

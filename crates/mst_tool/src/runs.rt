@@ -1,9 +1,13 @@
-ghost use Rattle.std.specs.Prelude.{◌≡◌, ◌≢◌, ◌↔◌, ◌≤◌, ◌^◌, ℕ, false, List, Option, Err, IfOk, IsOk, OnErr};
-ghost use Rattle.mst_io.specs.Devices.{Hears, Works, IsBroken, IsCut, IsRead, IsCalled, StopsAtZero};
-ghost use Rattle.mst_tool.specs.Run.{Prints, PrintsFront, PrintsEnded, status_of};
+ghost use Rattle.std.specs.Prelude.{◌≡◌, ◌≤◌, ◌∷◌, [], ◌^◌, ℕ, false, List, Option};
+ghost use Rattle.mst_drive.specs.Turned.{Turned, turning};
+ghost use Rattle.mst_drive.specs.Words.{Ended, one_input};
+ghost use Rattle.mst_io.specs.Devices.{Hears, seen_by, stopped_by};
+ghost use Rattle.mst_tool.specs.Run.{running, status_of};
 
+use crate::served::serve_first;
+use mst_drive::Word;
+use mst_engine::Input;
 use mst_engine::laws::one_run;
-use mst_engine::{Engine, Input, serve_input};
 use mst_io::{FromRead, Outcome, RunFault, Sink, Source, TURNS, ToWrite};
 use mst_print::Form;
 use std::alloc::Global;
@@ -29,10 +33,7 @@ pub fn run<R: Read + Drop, W: Write>(
     mut reader: R,
     writer: &mut W,
 ) -> Result<Outcome, RunFault>
-    ensures ok { IfOk result (Prints Form.Text (R.remaining reader) (W.contents writer.old) (W.contents writer.new)) }
-    ensures fault { OnErr result (PrintsFront Form.Text (R.remaining reader) (W.contents writer.old) (W.contents writer.new)) }
-    ensures read { result ≡ Err RunFault.Read → (left : Option (List ℕ)) × PrintsEnded Form.Text (R.remaining reader) left (W.contents writer.old) (W.contents writer.new) }
-    ensures memory { result ≢ Err RunFault.Memory }
+    ensures ended { (left : Option (List ℕ)) × Ended (running Form.Text) (one_input (R.remaining reader)) (one_input left) (W.contents writer.old) (W.contents writer.new) result }
 {
     run_from(alloc, &mut reader, writer)
 }
@@ -44,10 +45,7 @@ pub fn run_from<R: Read, W: Write>(
     reader: &mut R,
     writer: &mut W,
 ) -> Result<Outcome, RunFault>
-    ensures ok { IfOk result (Prints Form.Text (R.remaining reader.old) (W.contents writer.old) (W.contents writer.new)) }
-    ensures fault { OnErr result (PrintsFront Form.Text (R.remaining reader.old) (W.contents writer.old) (W.contents writer.new)) }
-    ensures read { result ≡ Err RunFault.Read → PrintsEnded Form.Text (R.remaining reader.old) (R.remaining reader.new) (W.contents writer.old) (W.contents writer.new) }
-    ensures memory { result ≢ Err RunFault.Memory }
+    ensures ended { Ended (running Form.Text) (one_input (R.remaining reader.old)) (one_input (R.remaining reader.new)) (W.contents writer.old) (W.contents writer.new) result }
 {
     let mut source = FromRead::new(reader);
     let mut sink = ToWrite::new(writer);
@@ -73,24 +71,42 @@ pub fn run_within<S: Source, K: Sink>(
     requires source { (S.told source.old).failed ≡ false }
     requires sink { (K.told sink.old).failed ≡ false }
     requires turns { turns ≤ 2 ^ 32 }
-    ensures ok { IfOk result (Prints form (S.remaining source.old) (K.contents sink.old) (K.contents sink.new)) }
-    ensures fault { OnErr result (PrintsFront form (S.remaining source.old) (K.contents sink.old) (K.contents sink.new)) }
-    ensures read { result ≡ Err RunFault.Read → PrintsEnded form (S.remaining source.old) (S.remaining source.new) (K.contents sink.old) (K.contents sink.new) }
-    ensures memory { result ≢ Err RunFault.Memory }
-    ensures ended { IsOk result → IsRead (S.told source.old) (S.told source.new) }
-    ensures read_fault { result ≡ Err RunFault.Read ↔ IsCut turns (S.told source.old) (S.told source.new) × Works (K.told sink.old) (K.told sink.new) }
-    ensures write_fault { result ≡ Err RunFault.Write ↔ IsBroken (K.told sink.old) (K.told sink.new) }
-    ensures source_calls { IsCalled turns (S.told source.old) (S.told source.new) }
-    ensures sink_calls { StopsAtZero (K.told sink.old) (K.told sink.new) }
+    ensures ended { Ended (running form) (one_input (S.remaining source.old)) (one_input (S.remaining source.new)) (K.contents sink.old) (K.contents sink.new) result }
+    ensures turned { Turned turns (turning (seen_by S.told S.remaining S.lent) source.old source.new ∷ []) (seen_by K.told K.contents K.lent sink.old) (seen_by K.told K.contents K.lent sink.new) (stopped_by result) }
     ensures lent_source { S.lent source.new ≡ S.lent source.old }
     ensures lent_sink { K.lent sink.new ≡ K.lent sink.old }
     ensures heard { Hears S.hears source.old source.new }
 {
     one_run();
-    let mut engine = Engine::new(alloc);
-    match serve_input(Input::Script(form), &mut engine, source, sink, turns) {
+    match serve_first(alloc, Input::Script(form), source, sink, turns) {
         Err(fault) => Err(fault),
-        Ok(()) => Ok(engine.outcome()),
+        Ok(serving) => Ok(serving.engine.outcome()),
+    }
+}
+
+/// A run of a script, in this form.
+#[derive(Clone, Copy)]
+pub struct RunWord {
+    pub alloc: Global,
+    pub form: Form,
+}
+
+impl Word for RunWord {
+    ghost use Rattle.mst_tool.specs.Run.{running};
+
+    ghost count = { λ _. 1 };
+
+    ghost telling = { λ word. running word.form };
+
+    fn serve<F: Source, S: Source, T: Source, K: Sink>(
+        &self,
+        first: &mut F,
+        _second: &mut S,
+        _third: &mut T,
+        sink: &mut K,
+        turns: u64,
+    ) -> Result<Outcome, RunFault> {
+        run_within(self.alloc, self.form, first, sink, turns)
     }
 }
 

@@ -1,16 +1,17 @@
-ghost use Rattle.std.specs.Prelude.{◌≡◌, ◌+◌, ◌≤◌, ◌↔◌, ◌⊎◌, ◌^◌, ℕ, false, length, List, Option, Err, IfOk, IsOk, OnErr};
+ghost use Rattle.std.specs.Prelude.{◌≡◌, ◌+◌, ◌≤◌, ◌∷◌, [], ◌^◌, false, length, IfOk};
+ghost use Rattle.mst_drive.specs.Turned.{Turned, turning};
+ghost use Rattle.mst_drive.specs.Words.{Ended, Inputs, two_inputs};
 ghost use Rattle.mst_engine.specs.Served.{IsFew};
 ghost use Rattle.mst_engine.specs.report.Planned.{planned_state};
-ghost use Rattle.mst_io.specs.Devices.{Hears, Works, IsBroken, IsCut, IsRead, IsCalled, StopsAtZero};
-ghost use Rattle.mst_print.specs.Shape.{of_script};
-ghost use Rattle.mst_tool.specs.Load.{LoadsOrEnded, LoadsScript};
-ghost use Rattle.mst_tool.specs.Run.{Follows};
-ghost use Rattle.mst_tool.specs.Verify.{Verifies, VerifiesFront, TellsVerification, counted_with, counts_of};
+ghost use Rattle.mst_io.specs.Devices.{Hears, seen_by, stopped_by};
+ghost use Rattle.mst_tool.specs.Verify.{TellsVerification, counted_with, counts_of, verifying};
 
 use crate::opened::open_question;
 use crate::policies::read_policy;
-use mst_engine::laws::{one_load, states};
-use mst_engine::{Engine, Input, Planner, serve_input};
+use crate::served::serve_first;
+use mst_drive::Word;
+use mst_engine::laws::one_load;
+use mst_engine::{Input, Planner};
 use mst_io::{FromRead, Outcome, RunFault, Sink, Source, TURNS, ToWrite, put};
 use mst_kinds::Query;
 use mst_policy::Policy;
@@ -37,10 +38,7 @@ pub fn verify<S: Read + Drop, P: Read + Drop, W: Write>(
     mut policy: P,
     writer: &mut W,
 ) -> Result<Outcome, RunFault>
-    ensures ok { IfOk result (Verifies form (S.remaining script) (P.remaining policy) (W.contents writer.old) (W.contents writer.new)) }
-    ensures fault { OnErr result (VerifiesFront form (S.remaining script) (P.remaining policy) (W.contents writer.old) (W.contents writer.new)) }
-    ensures read { result ≡ Err RunFault.Read → (left : Option (List ℕ)) × LoadsOrEnded (of_script form) (S.remaining script) left (W.contents writer.old) (W.contents writer.new) }
-    ensures memory { result ≡ Err RunFault.Memory → LoadsScript (of_script form) (S.remaining script) (W.contents writer.old) (W.contents writer.new) }
+    ensures ended { (left : Inputs) × Ended (verifying form) (two_inputs (S.remaining script) (P.remaining policy)) left (W.contents writer.old) (W.contents writer.new) result }
 {
     let mut script_source = FromRead::new(&mut script);
     let mut policy_source = FromRead::new(&mut policy);
@@ -73,38 +71,26 @@ pub fn verify_within<S: Source, P: Source, K: Sink>(
     requires policy { (P.told policy.old).failed ≡ false }
     requires sink { (K.told sink.old).failed ≡ false }
     requires turns { turns ≤ 2 ^ 32 }
-    ensures ok { IfOk result (Verifies form (S.remaining script.old) (P.remaining policy.old) (K.contents sink.old) (K.contents sink.new)) }
-    ensures fault { OnErr result (VerifiesFront form (S.remaining script.old) (P.remaining policy.old) (K.contents sink.old) (K.contents sink.new)) }
-    ensures read { result ≡ Err RunFault.Read → LoadsOrEnded (of_script form) (S.remaining script.old) (S.remaining script.new) (K.contents sink.old) (K.contents sink.new) }
-    ensures memory { result ≡ Err RunFault.Memory → LoadsScript (of_script form) (S.remaining script.old) (K.contents sink.old) (K.contents sink.new) }
-    ensures ended_script { IsOk result → IsRead (S.told script.old) (S.told script.new) }
-    ensures ended_policy { IsOk result → IsRead (P.told policy.old) (P.told policy.new) }
-    ensures read_fault { result ≡ Err RunFault.Read ↔ (IsCut turns (S.told script.old) (S.told script.new) ⊎ IsCut turns (P.told policy.old) (P.told policy.new)) × Works (K.told sink.old) (K.told sink.new) }
-    ensures write_fault { result ≡ Err RunFault.Write ↔ IsBroken (K.told sink.old) (K.told sink.new) }
-    ensures order { Follows (S.told script.old) (S.told script.new) (P.told policy.old) (P.told policy.new) }
-    ensures script_calls { IsCalled turns (S.told script.old) (S.told script.new) }
-    ensures policy_calls { IsCalled turns (P.told policy.old) (P.told policy.new) }
-    ensures sink_calls { StopsAtZero (K.told sink.old) (K.told sink.new) }
+    ensures ended { Ended (verifying form) (two_inputs (S.remaining script.old) (P.remaining policy.old)) (two_inputs (S.remaining script.new) (P.remaining policy.new)) (K.contents sink.old) (K.contents sink.new) result }
+    ensures turned { Turned turns (turning (seen_by S.told S.remaining S.lent) script.old script.new ∷ turning (seen_by P.told P.remaining P.lent) policy.old policy.new ∷ []) (seen_by K.told K.contents K.lent sink.old) (seen_by K.told K.contents K.lent sink.new) (stopped_by result) }
     ensures lent_script { S.lent script.new ≡ S.lent script.old }
     ensures lent_policy { P.lent policy.new ≡ P.lent policy.old }
     ensures lent_sink { K.lent sink.new ≡ K.lent sink.old }
     ensures heard_script { Hears S.hears script.old script.new }
     ensures heard_policy { Hears P.hears policy.old policy.new }
 {
-    states();
     one_load();
-    let mut engine = Engine::new(alloc);
     let shape = Shape {
         form,
         side: Side::Only,
     };
-    match serve_input(Input::Network(shape), &mut engine, script, sink, turns) {
+    match serve_first(alloc, Input::Network(shape), script, sink, turns) {
         Err(fault) => Err(fault),
-        Ok(()) => {
-            let served = engine.outcome();
-            match read_policy(alloc, policy, turns) {
+        Ok(mut serving) => {
+            let served = serving.engine.outcome();
+            match read_policy(alloc, policy, sink, turns) {
                 Err(fault) => Err(fault),
-                Ok(lines) => match verified(alloc, form, &mut engine.planner, &lines) {
+                Ok(lines) => match verified(alloc, form, &mut serving.engine.planner, &lines) {
                     Err(_) => Err(RunFault::Memory),
                     Ok(found) => match put(sink, found.text.as_slice()) {
                         Err(_) => Err(RunFault::Write),
@@ -113,6 +99,32 @@ pub fn verify_within<S: Source, P: Source, K: Sink>(
                 },
             }
         }
+    }
+}
+
+/// Verifying the network of a script by a policy, in this form.
+#[derive(Clone, Copy)]
+pub struct VerifyWord {
+    pub alloc: Global,
+    pub form: Form,
+}
+
+impl Word for VerifyWord {
+    ghost use Rattle.mst_tool.specs.Verify.{verifying};
+
+    ghost count = { λ _. 2 };
+
+    ghost telling = { λ word. verifying word.form };
+
+    fn serve<F: Source, S: Source, T: Source, K: Sink>(
+        &self,
+        first: &mut F,
+        second: &mut S,
+        _third: &mut T,
+        sink: &mut K,
+        turns: u64,
+    ) -> Result<Outcome, RunFault> {
+        verify_within(self.alloc, self.form, first, second, sink, turns)
     }
 }
 

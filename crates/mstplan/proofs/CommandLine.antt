@@ -1,223 +1,30 @@
 -- What the program's words come to, by the rules of its command line.
-use Rattle.std.proofs.Common.{◌≡◌, ◌≢◌, ◌⊎◌, Bool, true, false, List, [], ◌∷◌, Option, Some, None, codes, refl, sym, ap, ap₂, ◌∙◌, subst, inl, inr, option_map}
-use Rattle.std.specs.Prelude.{◌||◌, if◌then◌else◌, is_some, drop, fold, slice_get, unwrap_or}
-use Rattle.std.specs.List.{list_all}
+use Rattle.std.proofs.Common.{◌≡◌, ◌≢◌, ◌⊎◌, ℕ, zero, suc, Bool, true, false, not, List, [], ◌∷◌, Option, Some, None, codes, refl, sym, ap, ap₂, ◌∙◌, subst, inl, inr, map, option_map}
+use Rattle.std.specs.Prelude.{◌&&◌, ◌||◌, if◌then◌else◌, is_some, drop, find, fold, option_and_then, unwrap_or}
+use Rattle.std.specs.List.{list_all, list_any}
+use Rattle.std.specs.Option.{option_map_or}
 use Rattle.std.specs.Str.{bytes_eq}
 use Rattle.std.proofs.lemmas.Bool.{false≢true}
+use Rattle.std.proofs.lemmas.Option.{none-some, same_Some}
 use Rattle.std.proofs.lemmas.Slice.Eq.{bytes_eq-Decides}
 use Rattle.clap.specs.Words.{Shape, Text, built, fault_of, is_simple, is_simple_and_free, subcommand_of}
-use Rattle.clap.specs.Faults.{built_fault, entered_fault, step_fault, turn_fault, walk_fault}
-use Rattle.clap.specs.Kinds.{Kinds, IsAmong, or_else}
+use Rattle.clap.specs.Faults.{built_fault, entered_fault, level_fault, other_fault, step_fault, turn_fault, walk_fault}
+use Rattle.clap.specs.Kinds.{Kinds, IsAmong, check_kinds, or_else}
 use Rattle.clap.specs.declared.error.kind.ErrorKind.{ErrorKind}
-use Rattle.clap.specs.declared.error.kind.ErrorKind.TheVariants.{DisplayHelp, DisplayVersion, OutOfMemory}
-use Rattle.clap.specs.Walk.{Names as Labels, Walk, idle, nothing_held, stop_after, subcommand_met, value, walk, walk_from, walked}
-use Rattle.clap.specs.Simple.{entered, names_of}
+use Rattle.clap.specs.declared.error.kind.ErrorKind.TheVariants.{DisplayHelp, DisplayVersion, InvalidSubcommand, OutOfMemory}
+use Rattle.clap.specs.Walk.{Names as Labels, Walk, after_step, answers_to, idle, nothing_held, stop_after, subcommand_met, subcommand_or_other, value, walk, walk_from, walked}
+use Rattle.clap.specs.Simple.{built_leaf, entered, inherited, label_of, marked_built, names_of, on_top, rows_at, with_leaf_noted}
 use Rattle.clap.proofs.FaultLemmas.{stopped_fault}
 use Rattle.clap.proofs.OnLiterals.{clap_on_literals}
 use Rattle.clap.proofs.WalkLemmas.{walk_stopped}
 use Rattle.mst_io.specs.declared.outcome.RunFault.TheVariants.{Memory, Write}
 use Rattle.mstplan.specs.declared.endings.Stop.{Stop}
 use Rattle.mstplan.specs.declared.endings.Stop.TheVariants.{Told, Fault}
-use Rattle.mstplan.specs.Words.{IsAnswer, IsRefusal, IsWrong, Request, advise, are_plain, are_values, ask, asked_by, asked_of, by_goal, by_one, by_one_or_two, by_one_to_three, by_port, by_two, by_two_or_three, check, diff, dot, edits, is_dashes, is_help, is_plain, is_version, program, run, steps, summary, sweep, verify, without_dashes}
+use Rattle.mstplan.specs.declared.table.Verb.{Verb}
+use Rattle.mstplan.specs.declared.table.Verb.TheVariants.{Run}
+use Rattle.mstplan.specs.Table.{Place, Row as TableRow, row_of, verb_named, verbs}
+use Rattle.mstplan.specs.Words.{IsAnswer, IsRefusal, IsWrong, Placed, Request, are_plain, are_values, asked_by, asked_of, asked_of_verb, command_shape, fit, in_places, is_dashes, is_help, is_plain, is_version, program, without_dashes}
 use Rattle.mstplan.proofs.PlainWords.{Fits, IsSingle, both_so, fits_values, is_no_help, leaf, leaf_found, level, plain_dashes, plain_turn, refuses, values_found, values_leaf}
-
--- ---- run
-
-abbrev run_leaf : Shape
-run_leaf = unwrap_or (slice_get (built program).subs 0) (built program).top
-
-run_single : IsSingle run_leaf
-unfolding clap_on_literals
-run_single = refl
-
-run_values : (values : List Text) → Fits (by_one run values) (values_leaf run_leaf values) (values_found run_leaf values)
-unfolding clap_on_literals
-run_values [] = refl
-run_values (f ∷ []) = (refl, refl)
-run_values (f ∷ more ∷ rest) = refl
-
--- ---- check
-
-abbrev check_leaf : Shape
-check_leaf = unwrap_or (slice_get (built program).subs 1) (built program).top
-
-check_single : IsSingle check_leaf
-unfolding clap_on_literals
-check_single = refl
-
-check_values : (values : List Text) → Fits (by_two check values) (values_leaf check_leaf values) (values_found check_leaf values)
-unfolding clap_on_literals
-check_values [] = refl
-check_values (f ∷ []) = refl
-check_values (f ∷ g ∷ []) = (refl, refl)
-check_values (f ∷ g ∷ more ∷ rest) = refl
-
--- ---- explain
-
-abbrev explain_leaf : Shape
-explain_leaf = unwrap_or (slice_get (built program).subs 2) (built program).top
-
-explain_single : IsSingle explain_leaf
-unfolding clap_on_literals
-explain_single = refl
-
-explain_values : (values : List Text) → Fits (by_port values) (values_leaf explain_leaf values) (values_found explain_leaf values)
-unfolding clap_on_literals
-explain_values [] = refl
-explain_values (f ∷ []) = refl
-explain_values (f ∷ b ∷ []) = refl
-explain_values (f ∷ b ∷ p ∷ []) = (refl, refl)
-explain_values (f ∷ b ∷ p ∷ t ∷ []) = (refl, refl)
-explain_values (f ∷ b ∷ p ∷ t ∷ more ∷ rest) = refl
-
--- ---- diff
-
-abbrev diff_leaf : Shape
-diff_leaf = unwrap_or (slice_get (built program).subs 3) (built program).top
-
-diff_single : IsSingle diff_leaf
-unfolding clap_on_literals
-diff_single = refl
-
-diff_values : (values : List Text) → Fits (by_two diff values) (values_leaf diff_leaf values) (values_found diff_leaf values)
-unfolding clap_on_literals
-diff_values [] = refl
-diff_values (f ∷ []) = refl
-diff_values (f ∷ g ∷ []) = (refl, refl)
-diff_values (f ∷ g ∷ more ∷ rest) = refl
-
--- ---- sweep
-
-abbrev sweep_leaf : Shape
-sweep_leaf = unwrap_or (slice_get (built program).subs 4) (built program).top
-
-sweep_single : IsSingle sweep_leaf
-unfolding clap_on_literals
-sweep_single = refl
-
-sweep_values : (values : List Text) → Fits (by_one_to_three sweep values) (values_leaf sweep_leaf values) (values_found sweep_leaf values)
-unfolding clap_on_literals
-sweep_values [] = refl
-sweep_values (f ∷ []) = (refl, refl)
-sweep_values (f ∷ g ∷ []) = (refl, refl)
-sweep_values (f ∷ g ∷ k ∷ []) = (refl, refl)
-sweep_values (f ∷ g ∷ k ∷ more ∷ rest) = refl
-
--- ---- summary
-
-abbrev summary_leaf : Shape
-summary_leaf = unwrap_or (slice_get (built program).subs 5) (built program).top
-
-summary_single : IsSingle summary_leaf
-unfolding clap_on_literals
-summary_single = refl
-
-summary_values : (values : List Text) → Fits (by_one summary values) (values_leaf summary_leaf values) (values_found summary_leaf values)
-unfolding clap_on_literals
-summary_values [] = refl
-summary_values (f ∷ []) = (refl, refl)
-summary_values (f ∷ more ∷ rest) = refl
-
--- ---- dot
-
-abbrev dot_leaf : Shape
-dot_leaf = unwrap_or (slice_get (built program).subs 6) (built program).top
-
-dot_single : IsSingle dot_leaf
-unfolding clap_on_literals
-dot_single = refl
-
-dot_values : (values : List Text) → Fits (by_two_or_three dot values) (values_leaf dot_leaf values) (values_found dot_leaf values)
-unfolding clap_on_literals
-dot_values [] = refl
-dot_values (f ∷ []) = refl
-dot_values (f ∷ g ∷ []) = (refl, refl)
-dot_values (f ∷ g ∷ k ∷ []) = (refl, refl)
-dot_values (f ∷ g ∷ k ∷ more ∷ rest) = refl
-
--- ---- ask
-
-abbrev ask_leaf : Shape
-ask_leaf = unwrap_or (slice_get (built program).subs 7) (built program).top
-
-ask_single : IsSingle ask_leaf
-unfolding clap_on_literals
-ask_single = refl
-
-ask_values : (values : List Text) → Fits (by_one_or_two ask values) (values_leaf ask_leaf values) (values_found ask_leaf values)
-unfolding clap_on_literals
-ask_values [] = refl
-ask_values (f ∷ []) = (refl, refl)
-ask_values (f ∷ g ∷ []) = (refl, refl)
-ask_values (f ∷ g ∷ more ∷ rest) = refl
-
--- ---- verify
-
-abbrev verify_leaf : Shape
-verify_leaf = unwrap_or (slice_get (built program).subs 8) (built program).top
-
-verify_single : IsSingle verify_leaf
-unfolding clap_on_literals
-verify_single = refl
-
-verify_values : (values : List Text) → Fits (by_two verify values) (values_leaf verify_leaf values) (values_found verify_leaf values)
-unfolding clap_on_literals
-verify_values [] = refl
-verify_values (f ∷ []) = refl
-verify_values (f ∷ g ∷ []) = (refl, refl)
-verify_values (f ∷ g ∷ more ∷ rest) = refl
-
--- ---- edits
-
-abbrev edits_leaf : Shape
-edits_leaf = unwrap_or (slice_get (built program).subs 9) (built program).top
-
-edits_single : IsSingle edits_leaf
-unfolding clap_on_literals
-edits_single = refl
-
-edits_values : (values : List Text) → Fits (by_two edits values) (values_leaf edits_leaf values) (values_found edits_leaf values)
-unfolding clap_on_literals
-edits_values [] = refl
-edits_values (f ∷ []) = refl
-edits_values (f ∷ g ∷ []) = (refl, refl)
-edits_values (f ∷ g ∷ more ∷ rest) = refl
-
--- ---- steps
-
-abbrev steps_leaf : Shape
-steps_leaf = unwrap_or (slice_get (built program).subs 10) (built program).top
-
-steps_single : IsSingle steps_leaf
-unfolding clap_on_literals
-steps_single = refl
-
-steps_values : (values : List Text) → Fits (by_two_or_three steps values) (values_leaf steps_leaf values) (values_found steps_leaf values)
-unfolding clap_on_literals
-steps_values [] = refl
-steps_values (f ∷ []) = refl
-steps_values (f ∷ g ∷ []) = (refl, refl)
-steps_values (f ∷ g ∷ k ∷ []) = (refl, refl)
-steps_values (f ∷ g ∷ k ∷ more ∷ rest) = refl
-
--- ---- advise
-
-abbrev advise_leaf : Shape
-advise_leaf = unwrap_or (slice_get (built program).subs 11) (built program).top
-
-advise_single : IsSingle advise_leaf
-unfolding clap_on_literals
-advise_single = refl
-
-advise_values : (values : List Text) → Fits (by_goal values) (values_leaf advise_leaf values) (values_found advise_leaf values)
-unfolding clap_on_literals
-advise_values [] = refl
-advise_values (f ∷ []) = refl
-advise_values (f ∷ g ∷ []) = refl
-advise_values (f ∷ g ∷ t ∷ []) = refl
-advise_values (f ∷ g ∷ t ∷ b ∷ []) = (refl, refl)
-advise_values (f ∷ g ∷ t ∷ b ∷ p ∷ []) = (refl, refl)
-advise_values (f ∷ g ∷ t ∷ b ∷ p ∷ more ∷ rest) = refl
 
 -- ---- the words of the program
 
@@ -263,103 +70,221 @@ command_faults command rest stops none =
 no_dashes : (word : Text) (words : List Text) → is_dashes word ≡ false → without_dashes (word ∷ words) ≡ word ∷ without_dashes words
 no_dashes word words e = ap (λ (x : Bool). if x then words else word ∷ without_dashes words) e
 
--- this command is one of the program, and these are its words
-record IsCommand (command : Text) (s : Shape) : Type 0 where
-  stops : walked (built program).top.rules names (walk_from nothing_held) command ≡ stopped_at command []
-  faultless : turn_fault (built program).top names (walk_from nothing_held) command ≡ []
-  is_whole : (rest : List Text) → whole [] (stopped_at command rest) ≡ or_else (leaf s rest) []
-  is_found : (rest : List Text) → whole_found (stopped_at command rest) ≡ leaf_found s rest
+-- ---- rows of the table
 
-run_command : IsCommand (codes "run") run_leaf
+-- what a command takes from the program
+abbrev above : Shape
+above = (on_top with_leaf_noted (on_top marked_built program)).top
+
+-- a command of a row, as it is built
+abbrev leaf_of : TableRow → Shape
+leaf_of row = built_leaf (inherited above (command_shape row))
+
+abbrev verb_leaf : Verb → Shape
+verb_leaf verb = leaf_of (row_of verb)
+
+abbrev is_named : Text → Verb → Bool
+is_named word verb = bytes_eq (row_of verb).name word
+
+abbrev label : Verb → Text × List Text
+label verb = ((row_of verb).name, [])
+
+-- the same is found among labels, among commands and in the table
+found_label : (word : Text) (vs : List Verb) → find (answers_to word) (map label_of (map verb_leaf vs)) ≡ option_map label (find (is_named word) vs)
+found_label word [] = refl
+found_label word (verb ∷ vs) = go (is_named word verb) (found_label word vs)
+  where
+    go : (x : Bool) → find (answers_to word) (map label_of (map verb_leaf vs)) ≡ option_map label (find (is_named word) vs)
+        → ◌≡◌ {A = Option (Text × List Text)} (if x || false then Some (label verb) else find (answers_to word) (map label_of (map verb_leaf vs))) (option_map label (if x then Some verb else find (is_named word) vs))
+    go true later = refl
+    go false later = later
+
+found_leaf : (word : Text) (vs : List Verb) → find (λ s. answers_to word (label_of s)) (map verb_leaf vs) ≡ option_map verb_leaf (find (is_named word) vs)
+found_leaf word [] = refl
+found_leaf word (verb ∷ vs) = go (is_named word verb) (found_leaf word vs)
+  where
+    go : (x : Bool) → find (λ s. answers_to word (label_of s)) (map verb_leaf vs) ≡ option_map verb_leaf (find (is_named word) vs)
+        → ◌≡◌ {A = Option Shape} (if x || false then Some (verb_leaf verb) else find (λ s. answers_to word (label_of s)) (map verb_leaf vs)) (option_map verb_leaf (if x then Some verb else find (is_named word) vs))
+    go true later = refl
+    go false later = later
+
+-- what is found is what was looked for, and has what all have
+found_is : (is has : Verb → Bool) (vs : List Verb) (verb : Verb) → find is vs ≡ Some verb → list_all has vs ≡ true → (is verb ≡ true) × (has verb ≡ true)
+found_is is has [] verb found all = absurd (none-some verb found)
+found_is is has (first ∷ vs) verb found all =
+    let both = both_so (has first) (list_all has vs) all in
+    go both.0 (λ later. found_is is has vs verb later both.1) (is first) refl found
+  where
+    go : has first ≡ true → (find is vs ≡ Some verb → (is verb ≡ true) × (has verb ≡ true)) → (x : Bool) → is first ≡ x → ◌≡◌ {A = Option Verb} (if x then Some first else find is vs) (Some verb) → (is verb ≡ true) × (has verb ≡ true)
+    go here later true e same = subst (λ v. (is v ≡ true) × (has v ≡ true)) (same_Some first verb same) (e, here)
+    go here later false e found = later found
+
+abbrev at_most : ℕ → List Place → Bool
+at_most n [] = true
+at_most zero (place ∷ places) = false
+at_most (suc n) (place ∷ places) = at_most n places
+
+abbrev has_five : Verb → Bool
+has_five verb = at_most 5 (row_of verb).places
+
+all_have_five : list_all has_five verbs ≡ true
+all_have_five = refl
+
+-- ---- what values come to in the places of a row
+
+-- whether one is wanted in a place behind so many
+abbrev lacks : ℕ → List Place → Bool
+lacks n [] = false
+lacks zero (place ∷ places) = (place.is_wanted && true) || lacks zero places
+lacks (suc n) (place ∷ places) = (place.is_wanted && false) || lacks n places
+
+is_lacking : (n : ℕ) (places : List Place) → lacks n places ≡ list_any (λ place. place.is_wanted) (drop n places)
+is_lacking zero [] = refl
+is_lacking (suc n) [] = refl
+is_lacking zero (place ∷ places) = ap₂ (λ x y. x || y) (go place.is_wanted) (is_lacking zero places)
+  where
+    go : (x : Bool) → (x && true) ≡ x
+    go true = refl
+    go false = refl
+is_lacking (suc n) (place ∷ places) = ap (λ x. x || lacks n places) (go place.is_wanted) ∙ is_lacking n places
+  where
+    go : (x : Bool) → (x && false) ≡ false
+    go true = refl
+    go false = refl
+
+fits_lacking : (n : ℕ) (places : List Place) (found : Placed) → Fits (if not (list_any (λ place. place.is_wanted) (drop n places)) then Some found else None) (check_kinds false false (lacks n places)) found
+fits_lacking n places found = go (lacks n places) (list_any (λ place. place.is_wanted) (drop n places)) (is_lacking n places)
+  where
+    by_one : (x : Bool) → Fits (if not x then Some found else None) (check_kinds false false x) found
+    by_one true = refl
+    by_one false = (refl, refl)
+
+    go : (x y : Bool) → x ≡ y → Fits (if not y then Some found else None) (check_kinds false false x) found
+    go x y e = subst (λ y. Fits (if not y then Some found else None) (check_kinds false false x) found) e (by_one x)
+
+-- each place takes one value
+single_places : (row : TableRow) → IsSingle (leaf_of row)
+single_places row = go row.places
+  where
+    go : (places : List Place) → IsSingle (leaf_of (record row { places = places }))
+    go [] = refl
+    go (a ∷ []) = refl
+    go (a ∷ b ∷ []) = refl
+    go (a ∷ b ∷ c ∷ []) = refl
+    go (a ∷ b ∷ c ∷ d ∷ []) = refl
+    go (a ∷ b ∷ c ∷ d ∷ e ∷ more) = refl
+
+-- values in them ask for themselves, where none is wanted that isn't there
+abbrev place_asks : TableRow → List Text → Option Placed
+place_asks row values = if fit row.places values then Some (in_places values) else None
+
+abbrev FitsPlaces : TableRow → List Text → Type 0
+FitsPlaces row values = Fits (place_asks row values) (values_leaf (leaf_of row) values) (values_found (leaf_of row) values)
+
+places_fit : (row : TableRow) → at_most 5 row.places ≡ true → (values : List Text) → FitsPlaces row values
 unfolding clap_on_literals
-run_command = record { stops = refl; faultless = refl; is_whole = λ rest. refl; is_found = λ rest. refl }
+places_fit row = go row.places
+  where
+    go : (places : List Place) → at_most 5 places ≡ true → (values : List Text) → FitsPlaces (record row { places = places }) values
+    go [] few [] = fits_lacking 0 [] _
+    go [] few (v ∷ vs) = refl
+    go (a ∷ []) few [] = fits_lacking 0 (a ∷ []) _
+    go (a ∷ []) few (v ∷ []) = fits_lacking 1 (a ∷ []) _
+    go (a ∷ []) few (v ∷ w ∷ vs) = refl
+    go (a ∷ b ∷ []) few [] = fits_lacking 0 (a ∷ b ∷ []) _
+    go (a ∷ b ∷ []) few (v ∷ []) = fits_lacking 1 (a ∷ b ∷ []) _
+    go (a ∷ b ∷ []) few (v ∷ w ∷ []) = fits_lacking 2 (a ∷ b ∷ []) _
+    go (a ∷ b ∷ []) few (v ∷ w ∷ x ∷ vs) = refl
+    go (a ∷ b ∷ c ∷ []) few [] = fits_lacking 0 (a ∷ b ∷ c ∷ []) _
+    go (a ∷ b ∷ c ∷ []) few (v ∷ []) = fits_lacking 1 (a ∷ b ∷ c ∷ []) _
+    go (a ∷ b ∷ c ∷ []) few (v ∷ w ∷ []) = fits_lacking 2 (a ∷ b ∷ c ∷ []) _
+    go (a ∷ b ∷ c ∷ []) few (v ∷ w ∷ x ∷ []) = fits_lacking 3 (a ∷ b ∷ c ∷ []) _
+    go (a ∷ b ∷ c ∷ []) few (v ∷ w ∷ x ∷ y ∷ vs) = refl
+    go (a ∷ b ∷ c ∷ d ∷ []) few [] = fits_lacking 0 (a ∷ b ∷ c ∷ d ∷ []) _
+    go (a ∷ b ∷ c ∷ d ∷ []) few (v ∷ []) = fits_lacking 1 (a ∷ b ∷ c ∷ d ∷ []) _
+    go (a ∷ b ∷ c ∷ d ∷ []) few (v ∷ w ∷ []) = fits_lacking 2 (a ∷ b ∷ c ∷ d ∷ []) _
+    go (a ∷ b ∷ c ∷ d ∷ []) few (v ∷ w ∷ x ∷ []) = fits_lacking 3 (a ∷ b ∷ c ∷ d ∷ []) _
+    go (a ∷ b ∷ c ∷ d ∷ []) few (v ∷ w ∷ x ∷ y ∷ []) = fits_lacking 4 (a ∷ b ∷ c ∷ d ∷ []) _
+    go (a ∷ b ∷ c ∷ d ∷ []) few (v ∷ w ∷ x ∷ y ∷ z ∷ vs) = refl
+    go (a ∷ b ∷ c ∷ d ∷ e ∷ []) few [] = fits_lacking 0 (a ∷ b ∷ c ∷ d ∷ e ∷ []) _
+    go (a ∷ b ∷ c ∷ d ∷ e ∷ []) few (v ∷ []) = fits_lacking 1 (a ∷ b ∷ c ∷ d ∷ e ∷ []) _
+    go (a ∷ b ∷ c ∷ d ∷ e ∷ []) few (v ∷ w ∷ []) = fits_lacking 2 (a ∷ b ∷ c ∷ d ∷ e ∷ []) _
+    go (a ∷ b ∷ c ∷ d ∷ e ∷ []) few (v ∷ w ∷ x ∷ []) = fits_lacking 3 (a ∷ b ∷ c ∷ d ∷ e ∷ []) _
+    go (a ∷ b ∷ c ∷ d ∷ e ∷ []) few (v ∷ w ∷ x ∷ y ∷ []) = fits_lacking 4 (a ∷ b ∷ c ∷ d ∷ e ∷ []) _
+    go (a ∷ b ∷ c ∷ d ∷ e ∷ []) few (v ∷ w ∷ x ∷ y ∷ z ∷ []) = fits_lacking 5 (a ∷ b ∷ c ∷ d ∷ e ∷ []) _
+    go (a ∷ b ∷ c ∷ d ∷ e ∷ []) few (v ∷ w ∷ x ∷ y ∷ z ∷ u ∷ vs) = refl
+    go (a ∷ b ∷ c ∷ d ∷ e ∷ f ∷ more) few values = absurd (false≢true few)
 
-check_command : IsCommand (codes "check") check_leaf
+-- ---- a word that is a command
+
+met_command : (command : Text) (verb : Verb) → verb_named command ≡ Some verb → (row_of verb).name ≡ command → subcommand_met names idle command ≡ Some command
+met_command command verb named same =
+    ap (option_map (λ (s : Text × List Text). s.0)) (found_label command verbs ∙ ap (option_map label) named) ∙ ap Some same
+
+command_stops : (command : Text) → subcommand_met names idle command ≡ Some command → walked (built program).top.rules names (walk_from nothing_held) command ≡ stopped_at command []
+unfolding walked
+command_stops command met =
+    let c = (built program).top.rules in
+    ap (λ (met : Option Text). let step = subcommand_or_other c met idle 1 command nothing_held in after_step c command (walk_from nothing_held) step.0 step.1) met
+
+command_faultless : (command : Text) → subcommand_met names idle command ≡ Some command → turn_fault (built program).top names (walk_from nothing_held) command ≡ []
 unfolding clap_on_literals
-check_command = record { stops = refl; faultless = refl; is_whole = λ rest. refl; is_found = λ rest. refl }
+command_faultless command met =
+    let t = (built program).top in
+    ap (λ (met : Option Text). let step = subcommand_or_other t.rules met idle 1 command nothing_held in or_else (other_fault t met command nothing_held) (step_fault t 1 step.0 step.1)) met ∙ go (bytes_eq command (codes "help"))
+  where
+    go : (x : Bool) → or_else (if x && false then DisplayHelp ∷ InvalidSubcommand ∷ [] else []) [] ≡ []
+    go true = refl
+    go false = refl
 
-explain_command : IsCommand (codes "explain") explain_leaf
+-- what the words behind it come to
+abbrev whole_met : List Text → Option Shape → Kinds
+whole_met rest met = level (built program).top [] (option_map_or (λ s. level_fault s [] nothing_held rest false []) met []) (is_some (option_map (λ s. rows_at s rest) met)) nothing_held
+
+found_command : (command : Text) (verb : Verb) → verb_named command ≡ Some verb → find (λ s. answers_to command (label_of s)) (built program).subs ≡ Some (verb_leaf verb)
+found_command command verb named = found_leaf command verbs ∙ ap (option_map verb_leaf) named
+
+whole_some : (rest : List Text) (s : Shape) → whole_met rest (Some s) ≡ or_else (leaf s rest) []
 unfolding clap_on_literals
-explain_command = record { stops = refl; faultless = refl; is_whole = λ rest. refl; is_found = λ rest. refl }
+whole_some rest s = refl
 
-diff_command : IsCommand (codes "diff") diff_leaf
-unfolding clap_on_literals
-diff_command = record { stops = refl; faultless = refl; is_whole = λ rest. refl; is_found = λ rest. refl }
+command_whole : (command : Text) (verb : Verb) (rest : List Text) → verb_named command ≡ Some verb → whole [] (stopped_at command rest) ≡ leaf (verb_leaf verb) rest
+command_whole command verb rest named = ap (whole_met rest) (found_command command verb named) ∙ whole_some rest (verb_leaf verb) ∙ or_else-nil (leaf (verb_leaf verb) rest)
 
-sweep_command : IsCommand (codes "sweep") sweep_leaf
-unfolding clap_on_literals
-sweep_command = record { stops = refl; faultless = refl; is_whole = λ rest. refl; is_found = λ rest. refl }
+abbrev request : Verb → Placed → Request
+request verb words = record { verb = verb; words = words }
 
-summary_command : IsCommand (codes "summary") summary_leaf
-unfolding clap_on_literals
-summary_command = record { stops = refl; faultless = refl; is_whole = λ rest. refl; is_found = λ rest. refl }
+command_found : (command : Text) (verb : Verb) (rest : List Text) → verb_named command ≡ Some verb → (row_of verb).name ≡ command → whole_found (stopped_at command rest) ≡ request verb (leaf_found (verb_leaf verb) rest)
+command_found command verb rest named same =
+    ap (λ (met : Option Shape). asked_of (option_map (λ s. rows_at s rest) met)) (found_command command verb named)
+    ∙ ap (λ (v : Option Verb). request (unwrap_or v Run) (leaf_found (verb_leaf verb) rest)) (ap verb_named same ∙ named)
 
-dot_command : IsCommand (codes "dot") dot_leaf
-unfolding clap_on_literals
-dot_command = record { stops = refl; faultless = refl; is_whole = λ rest. refl; is_found = λ rest. refl }
+-- what asks for words in places asks for them with the verb
+with_verb : (verb : Verb) (x : Bool) (words found : Placed) (kinds : Kinds) → Fits (if x then Some words else None) kinds found → Fits (if x then Some (request verb words) else None) kinds (request verb found)
+with_verb verb true words found kinds fits = (fits.0, ap (request verb) fits.1)
+with_verb verb false words found kinds fits = fits
 
-ask_command : IsCommand (codes "ask") ask_leaf
-unfolding clap_on_literals
-ask_command = record { stops = refl; faultless = refl; is_whole = λ rest. refl; is_found = λ rest. refl }
-
-verify_command : IsCommand (codes "verify") verify_leaf
-unfolding clap_on_literals
-verify_command = record { stops = refl; faultless = refl; is_whole = λ rest. refl; is_found = λ rest. refl }
-
-edits_command : IsCommand (codes "edits") edits_leaf
-unfolding clap_on_literals
-edits_command = record { stops = refl; faultless = refl; is_whole = λ rest. refl; is_found = λ rest. refl }
-
-steps_command : IsCommand (codes "steps") steps_leaf
-unfolding clap_on_literals
-steps_command = record { stops = refl; faultless = refl; is_whole = λ rest. refl; is_found = λ rest. refl }
-
-advise_command : IsCommand (codes "advise") advise_leaf
-unfolding clap_on_literals
-advise_command = record { stops = refl; faultless = refl; is_whole = λ rest. refl; is_found = λ rest. refl }
-
--- a command, by what its own words come to
-fits_command : (command : Text) (s : Shape) (rest : List Text) → IsCommand command s → is_dashes command ≡ false → Fits (asked_by (command ∷ without_dashes rest)) (leaf s rest) (leaf_found s rest) → FitsWords (command ∷ rest)
-fits_command command s rest is plain fits =
-    let asks = asked_by (command ∷ without_dashes rest) in
-    let goes = at_command command rest is.stops in
-    let kinds = ap₂ whole (command_faults command rest is.stops is.faultless) goes ∙ is.is_whole rest ∙ or_else-nil (leaf s rest) in
-    let finds = ap whole_found goes ∙ is.is_found rest in
+fits_command : (command : Text) (verb : Verb) (rest : List Text) → is_plain command ≡ true → are_values rest ≡ true → verb_named command ≡ Some verb → FitsWords (command ∷ rest)
+fits_command command verb rest plain values named =
+    let behind = without_dashes rest in
+    let s = verb_leaf verb in
+    let is = found_is (is_named command) has_five verbs verb named all_have_five in
+    let same : (row_of verb).name ≡ command = (bytes_eq-Decides (row_of verb).name command).0 is.0 in
+    let met = met_command command verb named same in
+    let stops = command_stops command met in
+    let goes = at_command command rest stops in
+    let kinds = ap₂ whole (command_faults command rest stops (command_faultless command met)) goes ∙ command_whole command verb rest named in
+    let finds = ap whole_found goes ∙ command_found command verb rest named same in
+    let fits = with_verb verb (fit (row_of verb).places behind) (in_places behind) (leaf_found s rest) (leaf s rest) (fits_values s (single_places (row_of verb)) (place_asks (row_of verb)) rest values (places_fit (row_of verb) is.1)) in
+    let asks = ap asked_by (no_dashes command rest (plain_dashes command plain)) ∙ ap (option_and_then (asked_of_verb behind)) named in
     subst (λ (k : Kinds). Fits (asked_by (without_dashes (command ∷ rest))) k (found (command ∷ rest))) (sym kinds)
     (subst (Fits (asked_by (without_dashes (command ∷ rest))) (leaf s rest)) (sym finds)
-    (subst (λ (asks : Option Request). Fits asks (leaf s rest) (leaf_found s rest)) (sym (ap asked_by (no_dashes command rest plain))) fits))
+    (subst (λ (asks : Option Request). Fits asks (leaf s rest) (request verb (leaf_found s rest))) (sym asks) fits))
 
--- ---- a word that is no command
+-- ---- a word that is none
 
-record IsOther (command : Text) : Type 0 where
-  not_run : bytes_eq (codes "run") command ≡ false
-  not_check : bytes_eq (codes "check") command ≡ false
-  not_explain : bytes_eq (codes "explain") command ≡ false
-  not_diff : bytes_eq (codes "diff") command ≡ false
-  not_sweep : bytes_eq (codes "sweep") command ≡ false
-  not_summary : bytes_eq (codes "summary") command ≡ false
-  not_dot : bytes_eq (codes "dot") command ≡ false
-  not_ask : bytes_eq (codes "ask") command ≡ false
-  not_verify : bytes_eq (codes "verify") command ≡ false
-  not_edits : bytes_eq (codes "edits") command ≡ false
-  not_steps : bytes_eq (codes "steps") command ≡ false
-  not_advise : bytes_eq (codes "advise") command ≡ false
-
--- what is found where the first isn't
-abbrev met_or : Text → Bool → Option (Text × List Text) → Option (Text × List Text)
-met_or name x later = if x || false then Some (name, []) else later
-
-unmet : (name : Text) (x : Bool) (later : Option (Text × List Text)) → x ≡ false → met_or name x later ≡ later
-unmet name x later e = ap (λ y. met_or name y later) e
-
-names_none : (command : Text) → IsOther command → subcommand_met names idle command ≡ None
-unfolding clap_on_literals
-names_none command other =
-    ap (option_map (λ (s : Text × List Text). s.0))
-    (unmet (codes "run") _ _ other.not_run ∙ unmet (codes "check") _ _ other.not_check ∙ unmet (codes "explain") _ _ other.not_explain ∙ unmet (codes "diff") _ _ other.not_diff
-    ∙ unmet (codes "sweep") _ _ other.not_sweep ∙ unmet (codes "summary") _ _ other.not_summary ∙ unmet (codes "dot") _ _ other.not_dot
-    ∙ unmet (codes "ask") _ _ other.not_ask ∙ unmet (codes "verify") _ _ other.not_verify ∙ unmet (codes "edits") _ _ other.not_edits ∙ unmet (codes "steps") _ _ other.not_steps
-    ∙ unmet (codes "advise") _ _ other.not_advise)
+names_none : (command : Text) → verb_named command ≡ None → subcommand_met names idle command ≡ None
+names_none command none = ap (option_map (λ (s : Text × List Text). s.0)) (found_label command verbs ∙ ap (option_map label) none)
 
 stray_refused : (more : Kinds) (end : Walk) → refuses (whole (or_else (step_fault (built program).top 1 nothing_held value) more) end) ≡ true
 unfolding clap_on_literals
@@ -373,30 +298,10 @@ other_refused command rest plain none =
     let end = walk t.rules names nothing_held (command ∷ rest) in
     ap (λ k. refuses (whole (or_else k later) end)) (plain_turn t names 1 command nothing_held plain none) ∙ stray_refused later end
 
--- which then asks for nothing
-unless : (x : Bool) (this other : Option Request) → x ≡ false → ◌≡◌ {A = Option Request} (if x then this else other) other
-unless true this other e = absurd (false≢true (sym e))
-unless false this other e = refl
-
-asks_none : (command : Text) (rest : List Text) → IsOther command → asked_by (command ∷ rest) ≡ None
-asks_none command rest other =
-    unless (bytes_eq (codes "run") command) (by_one run rest) _ other.not_run
-    ∙ unless (bytes_eq (codes "check") command) (by_two check rest) _ other.not_check
-    ∙ unless (bytes_eq (codes "explain") command) (by_port rest) _ other.not_explain
-    ∙ unless (bytes_eq (codes "diff") command) (by_two diff rest) _ other.not_diff
-    ∙ unless (bytes_eq (codes "sweep") command) (by_one_to_three sweep rest) _ other.not_sweep
-    ∙ unless (bytes_eq (codes "summary") command) (by_one summary rest) _ other.not_summary
-    ∙ unless (bytes_eq (codes "dot") command) (by_two_or_three dot rest) _ other.not_dot
-    ∙ unless (bytes_eq (codes "ask") command) (by_one_or_two ask rest) _ other.not_ask
-    ∙ unless (bytes_eq (codes "verify") command) (by_two verify rest) _ other.not_verify
-    ∙ unless (bytes_eq (codes "edits") command) (by_two edits rest) _ other.not_edits
-    ∙ unless (bytes_eq (codes "steps") command) (by_two_or_three steps rest) _ other.not_steps
-    ∙ unless (bytes_eq (codes "advise") command) (by_goal rest) _ other.not_advise
-
-fits_other : (command : Text) (rest : List Text) → is_plain command ≡ true → IsOther command → FitsWords (command ∷ rest)
-fits_other command rest plain other =
+fits_other : (command : Text) (rest : List Text) → is_plain command ≡ true → verb_named command ≡ None → FitsWords (command ∷ rest)
+fits_other command rest plain none =
     subst (λ (asks : Option Request). Fits asks (faults (command ∷ rest)) (found (command ∷ rest)))
-    (sym (ap asked_by (no_dashes command rest (plain_dashes command plain)) ∙ asks_none command (without_dashes rest) other)) (other_refused command rest plain (names_none command other))
+    (sym (ap asked_by (no_dashes command rest (plain_dashes command plain)) ∙ ap (option_and_then (asked_of_verb (without_dashes rest))) none)) (other_refused command rest plain (names_none command none))
 
 -- ---- the words behind the program's name
 
@@ -404,32 +309,15 @@ fits_none : FitsWords []
 unfolding clap_on_literals
 fits_none = (refl, refl)
 
--- a word is this name, or another word
-is_or_not : (name command : Text) (rest : List Text) → FitsWords (name ∷ rest) → (bytes_eq name command ≡ false → FitsWords (command ∷ rest)) → FitsWords (command ∷ rest)
-is_or_not name command rest fits other = go (bytes_eq name command) refl
-  where
-    go : (x : Bool) → bytes_eq name command ≡ x → FitsWords (command ∷ rest)
-    go true e = subst (λ c. FitsWords (c ∷ rest)) ((bytes_eq-Decides name command).0 e) fits
-    go false e = other e
-
 words_fit : (words : List Text) → are_plain words ≡ true → FitsWords words
 words_fit [] h = fits_none
 words_fit (command ∷ rest) h =
     let both = both_so (is_plain command) (are_values rest) h in
-    let values = both.1 in
-    is_or_not (codes "run") command rest (fits_command (codes "run") run_leaf rest run_command refl (fits_values run_leaf run_single (by_one run) rest values run_values))
-    (λ r. is_or_not (codes "check") command rest (fits_command (codes "check") check_leaf rest check_command refl (fits_values check_leaf check_single (by_two check) rest values check_values))
-    (λ c. is_or_not (codes "explain") command rest (fits_command (codes "explain") explain_leaf rest explain_command refl (fits_values explain_leaf explain_single (by_port) rest values explain_values))
-    (λ e. is_or_not (codes "diff") command rest (fits_command (codes "diff") diff_leaf rest diff_command refl (fits_values diff_leaf diff_single (by_two diff) rest values diff_values))
-    (λ d. is_or_not (codes "sweep") command rest (fits_command (codes "sweep") sweep_leaf rest sweep_command refl (fits_values sweep_leaf sweep_single (by_one_to_three sweep) rest values sweep_values))
-    (λ s. is_or_not (codes "summary") command rest (fits_command (codes "summary") summary_leaf rest summary_command refl (fits_values summary_leaf summary_single (by_one summary) rest values summary_values))
-    (λ m. is_or_not (codes "dot") command rest (fits_command (codes "dot") dot_leaf rest dot_command refl (fits_values dot_leaf dot_single (by_two_or_three dot) rest values dot_values))
-    (λ p. is_or_not (codes "ask") command rest (fits_command (codes "ask") ask_leaf rest ask_command refl (fits_values ask_leaf ask_single (by_one_or_two ask) rest values ask_values))
-    (λ a. is_or_not (codes "verify") command rest (fits_command (codes "verify") verify_leaf rest verify_command refl (fits_values verify_leaf verify_single (by_two verify) rest values verify_values))
-    (λ v. is_or_not (codes "edits") command rest (fits_command (codes "edits") edits_leaf rest edits_command refl (fits_values edits_leaf edits_single (by_two edits) rest values edits_values))
-    (λ t. is_or_not (codes "steps") command rest (fits_command (codes "steps") steps_leaf rest steps_command refl (fits_values steps_leaf steps_single (by_two_or_three steps) rest values steps_values))
-    (λ u. is_or_not (codes "advise") command rest (fits_command (codes "advise") advise_leaf rest advise_command refl (fits_values advise_leaf advise_single by_goal rest values advise_values))
-    (λ w. fits_other command rest both.0 (record { not_run = r; not_check = c; not_explain = e; not_diff = d; not_sweep = s; not_summary = m; not_dot = p; not_ask = a; not_verify = v; not_edits = t; not_steps = u; not_advise = w })))))))))))))
+    go both.0 both.1 (verb_named command) refl
+  where
+    go : is_plain command ≡ true → are_values rest ≡ true → (verb : Option Verb) → verb_named command ≡ verb → FitsWords (command ∷ rest)
+    go plain values (Some verb) named = fits_command command verb rest plain values named
+    go plain values None none = fits_other command rest plain none
 
 -- the same of all the words, the program's name first
 pub all_fit : (words : List Text) → are_plain (drop 1 words) ≡ true → Fits (asked_by (without_dashes (drop 1 words))) (fault_of program words) (asked_of (subcommand_of program words))

@@ -9,9 +9,9 @@ use Rattle.mstplan.specs.declared.flags.Flags.{Flags}
 
 -- what refuses words refuses them with flags, too
 pub refused_with : (IsThere : List ℕ → Type 0) (words : List (List ℕ)) (flags : Flags) (asked : Option Request) (stop : Stop) → IsRefusal IsThere words asked stop
-    → IsRefusal IsThere words (option_and_then (λ request. if are_worded request && takes flags request then Some request else None) asked) stop
+    → IsRefusal IsThere words (option_and_then (λ request. if are_worded request && takes flags request.verb then Some request else None) asked) stop
 refused_with IsThere words flags None stop h = h
-refused_with IsThere words flags (Some request) stop h = by (are_worded request && takes flags request)
+refused_with IsThere words flags (Some request) stop h = by (are_worded request && takes flags request.verb)
   where
     by : (b : Bool) → IsRefusal IsThere words (if b then Some request else None) stop
     by true = h

@@ -1,13 +1,8 @@
-pub mod Answered
 pub mod CommandLine
-pub mod Comparisons
+pub mod Commands
 pub mod Entered
-pub mod Kept
-pub mod Names
 pub mod PlainWords
 pub mod Flagged
-pub mod Hinted
 pub mod Shown
 pub mod Parting
-pub mod Moved
 pub mod Meanings

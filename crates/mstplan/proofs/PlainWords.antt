@@ -14,7 +14,7 @@ use Rattle.clap.specs.declared.error.kind.ErrorKind.{ErrorKind}
 use Rattle.clap.specs.declared.error.kind.ErrorKind.TheVariants.{DisplayHelp, DisplayVersion}
 use Rattle.clap.specs.Lexer.{long_of, long_of_rest, short_of, short_of_rest, strip_byte}
 use Rattle.clap.specs.Walk.{Held, Names as Labels, Step, Walk, after_step, arg_by_index, finished, idle, is_multiple, long_or_other, next_position, nothing_held, positional, positional_held, rows_after, settled, short_or_plain, subcommand_met, subcommand_or_other, to_positional, trailing, value, walked, word_met}
-use Rattle.mstplan.specs.Words.{Request, are_values, is_dashes, is_plain, request_of, without_dashes}
+use Rattle.mstplan.specs.Words.{Placed, are_values, found_in, is_dashes, is_plain, without_dashes}
 
 -- ---- a plain word
 
@@ -96,7 +96,7 @@ refuses [] = false
 refuses (kind ∷ kinds) = list_all is_no_help (kind ∷ kinds)
 
 -- words that ask for something have no fault, and it is found, and others have a fault
-abbrev pub Fits : Option Request → Kinds → Request → Type 0
+abbrev pub Fits : {A : Type 0} → Option A → Kinds → A → Type 0
 Fits (Some asked) kinds found = (kinds ≡ []) × (found ≡ asked)
 Fits None kinds found = refuses kinds ≡ true
 
@@ -110,8 +110,8 @@ level s faults below has end =
 abbrev pub leaf : Shape → List Text → Kinds
 leaf s words = level_fault s [] nothing_held words false []
 
-abbrev pub leaf_found : Shape → List Text → Request
-leaf_found s words = request_of s.name (rows_after s.rules [] words)
+abbrev pub leaf_found : Shape → List Text → Placed
+leaf_found s words = found_in (rows_after s.rules [] words)
 
 -- ---- values
 
@@ -149,8 +149,8 @@ values_fault s h position (word ∷ words) =
 abbrev pub values_leaf : Shape → List Text → Kinds
 values_leaf s words = level s (values_fault s nothing_held 1 words) [] false (values_held s nothing_held 1 words)
 
-abbrev pub values_found : Shape → List Text → Request
-values_found s words = request_of s.name (finished s.rules (values_held s nothing_held 1 words))
+abbrev pub values_found : Shape → List Text → Placed
+values_found s words = found_in (finished s.rules (values_held s nothing_held 1 words))
 
 -- an argument that takes one value
 abbrev pub is_single : Rule → Bool
@@ -265,10 +265,10 @@ faults_of_values s single (word ∷ words) h position all =
         ∙ ap (or_else (step_fault s position h value)) (later plain.1)
 
 -- so it is enough to know what values come to
-pub fits_values : (s : Shape) → IsSingle s → (asks : List Text → Option Request) (words : List Text) → are_values words ≡ true
+pub fits_values : (s : Shape) → IsSingle s → (asks : List Text → Option Placed) (words : List Text) → are_values words ≡ true
     → ((values : List Text) → Fits (asks values) (values_leaf s values) (values_found s values)) → Fits (asks (without_dashes words)) (leaf s words) (leaf_found s words)
 fits_values s single asks words all fits =
     let held = held_of_values s single words nothing_held 1 all in
     let faults = faults_of_values s single words nothing_held 1 all in
     subst (λ (k : Kinds). Fits (asks (without_dashes words)) k (leaf_found s words)) (sym (ap₂ (λ k h. level s k [] false h) faults held))
-    (subst (λ (r : Request). Fits (asks (without_dashes words)) (values_leaf s (without_dashes words)) r) (sym (ap (λ h. request_of s.name (finished s.rules h)) held)) (fits (without_dashes words)))
+    (subst (λ (r : Placed). Fits (asks (without_dashes words)) (values_leaf s (without_dashes words)) r) (sym (ap (λ h. found_in (finished s.rules h)) held)) (fits (without_dashes words)))

@@ -4,14 +4,21 @@ use Rattle.mst_io.specs.declared.outcome.Outcome.{Outcome}
 use Rattle.mst_io.specs.declared.outcome.RunFault.{RunFault}
 use Rattle.mst_io.specs.declared.outcome.RunFault.TheVariants.{Read, Write, Memory}
 use Rattle.mst_tool.specs.Run.{status_of}
-use Rattle.mstplan.specs.Buffered.{is_broken}
+use Rattle.mst_frame.specs.Framed.{is_broken}
+use Rattle.mst_frame.specs.declared.inputs.Unserved.{Unserved}
+use Rattle.mst_frame.specs.declared.inputs.Unserved.TheVariants.{Unopened as not_opened, Starved}
+use Rattle.mst_frame.specs.declared.sources.Unopened.{Unopened as Why}
+use Rattle.mst_frame.specs.declared.sources.Unopened.TheVariants.{Missing, Denied, Folder, Other}
 use Rattle.mstplan.specs.Said.{shown}
 use Rattle.mstplan.specs.declared.endings.Stop.{Stop}
 use Rattle.mstplan.specs.declared.endings.Stop.TheVariants.{Told, NoWord, Unopened, Fault}
 use Rattle.mstplan.specs.declared.strays.Meant.{Meant}
 use Rattle.mstplan.specs.declared.strays.Meant.TheVariants.{File, Json, Hints, Help, Version, Flag}
-use Rattle.mstplan.specs.declared.sources.Unopened.{Unopened as Why}
-use Rattle.mstplan.specs.declared.sources.Unopened.TheVariants.{Missing, Denied, Folder, Other}
+
+-- why a word wasn't served
+abbrev pub stop_by : Unserved → Stop
+stop_by (not_opened name why) = Unopened name why
+stop_by Starved = Fault Memory
 
 -- what stopped the run, or want of memory where that refused a line
 abbrev pub told_fault : Result Outcome RunFault → Option RunFault

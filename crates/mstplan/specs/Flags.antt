@@ -4,8 +4,10 @@ use Rattle.std.specs.Option.{option_and_then}
 use Rattle.std.specs.Str.{bytes_eq}
 use Rattle.mst_tool.specs.printing.declared.form.Form.{Form}
 use Rattle.mst_tool.specs.printing.declared.form.Form.TheVariants.{Text, Json}
-use Rattle.mstplan.specs.Words.{Request, are_worded, asked_by, is_dashes, run, check, explain, diff, sweep, summary, dot, ask, verify, edits, steps, advise}
+use Rattle.mstplan.specs.Table.{row_of}
+use Rattle.mstplan.specs.Words.{Request, are_worded, asked_by, is_dashes}
 use Rattle.mstplan.specs.declared.flags.Flags.{Flags}
+use Rattle.mstplan.specs.declared.table.Verb.{Verb}
 
 -- this flag stands among these words, before the first `--`
 abbrev pub has_flag : List ℕ → List (List ℕ) → Bool
@@ -36,25 +38,10 @@ without_flags_behind (name ∷ words) = name ∷ without_flags words
 abbrev pub form_of : Flags → Form
 form_of flags = if flags.json then Json else Text
 
--- what is asked for can be told in JSON
-abbrev pub has_json : Request → Bool
-has_json (run script) = true
-has_json (check script captures) = true
-has_json (explain script bridge port tree) = true
-has_json (diff old new) = true
-has_json (sweep script word behind) = true
-has_json (summary script) = true
-has_json (dot script tree vid) = false
-has_json (ask script policy) = true
-has_json (verify script policy) = true
-has_json (edits old new) = true
-has_json (steps script change policy) = true
-has_json (advise script goal tree bridge port) = true
-
--- it takes these flags: each takes hints
-abbrev pub takes : Flags → Request → Bool
-takes flags request = not flags.json || has_json request
+-- what is to be done takes these flags: each takes hints
+abbrev pub takes : Flags → Verb → Bool
+takes flags verb = not flags.json || (row_of verb).is_json
 
 -- what words that aren't options ask for with these flags, where those for a part of a sweep, a picture or advice are some
 abbrev pub asked_with : Flags → List (List ℕ) → Option Request
-asked_with flags words = option_and_then (λ request. if are_worded request && takes flags request then Some request else None) (asked_by words)
+asked_with flags words = option_and_then (λ request. if are_worded request && takes flags request.verb then Some request else None) (asked_by words)

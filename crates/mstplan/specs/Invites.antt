@@ -3,14 +3,20 @@ use Rattle.std.specs.Prelude.{ℕ, Bool, ◌++◌, List, [], Result, Ok, Err, co
 use Rattle.std.specs.Str.{bytes_eq}
 use Rattle.mstplan.specs.declared.endings.Stop.{Stop}
 use Rattle.mstplan.specs.declared.words.Asked.{Asked}
-use Rattle.mstplan.specs.declared.words.Asked.TheVariants.{Run, Ask}
+use Rattle.mstplan.specs.declared.words.Behind.{Behind}
+use Rattle.mstplan.specs.declared.table.Verb.{Verb}
+use Rattle.mstplan.specs.declared.table.Verb.TheVariants.{Run, Ask}
 
 -- with so many words, of which the first is the program's name: for a script, where there is no other; and for questions, where
 -- they don't come behind the script
+abbrev pub waits_by : ℕ → Verb → Behind → List ℕ
+waits_by words Run behind = if nat_lt words 2 then codes "mstplan: reading a script from the terminal, until Ctrl-D; --help tells of its commands\n" else []
+waits_by words Ask behind = if bytes_eq behind.first.now (codes "-") then [] else codes "mstplan: reading questions from the terminal, until Ctrl-D; --help tells of them\n"
+waits_by words _ behind = []
+
 abbrev pub waits_for : ℕ → Result Asked Stop → List ℕ
-waits_for words (Ok (Run script)) = if nat_lt words 2 then codes "mstplan: reading a script from the terminal, until Ctrl-D; --help tells of its commands\n" else []
-waits_for words (Ok (Ask script policy)) = if bytes_eq script.now (codes "-") then [] else codes "mstplan: reading questions from the terminal, until Ctrl-D; --help tells of them\n"
-waits_for words _ = []
+waits_for words (Ok asked) = waits_by words asked.verb asked.behind
+waits_for words (Err stop) = []
 
 -- the line on standard error, before anything is read, where standard input is a terminal
 abbrev pub invitation : Bool → ℕ → Result Asked Stop → List ℕ

@@ -1,14 +1,10 @@
 pub mod Endings
 pub mod Said
 pub mod Strays
+pub mod Table
 pub mod Words
 pub mod Flags
-pub mod Inputs
-pub mod Hinted
-pub mod Buffered
-pub mod Compared
-pub mod Named
+pub mod Serving
 pub mod Program
 pub mod Invites
-pub mod Opened
 pub mod Piped

@@ -1,121 +1,72 @@
 -- What the program does and how it ends, by what its words ask for.
-use Rattle.std.specs.Prelude.{◌≡◌, ◌⊎◌, ℕ, Bool, true, List, codes, drop, length, option_map, is_some, Option, Some, None, Result, Ok, Err, IfOk, IfErr, IsErrAnd}
+use Rattle.std.specs.Prelude.{◌≡◌, ℕ, Bool, true, List, drop, length, is_some, Option, Some, None, Result, Ok, Err, IfOk, IfErr, IsErrAnd}
 use Rattle.std.specs.Borrow.{Bor}
-use Rattle.mst_tool.specs.Ask.{advice_question, dot_question, explain_question, sweep_question}
+use Rattle.mst_ask.specs.Asking.{standing}
+use Rattle.mst_tool.specs.Alter.{altering}
+use Rattle.mst_tool.specs.Ask.{asking}
+use Rattle.mst_tool.specs.Check.{checking}
+use Rattle.mst_tool.specs.Diff.{differing}
+use Rattle.mst_tool.specs.Run.{running}
+use Rattle.mst_tool.specs.Verify.{verifying}
 use Rattle.mst_tool.specs.declared.asked.Question.{Question}
-use Rattle.mst_tool.specs.declared.asked.Question.TheVariants as question
+use Rattle.mst_tool.specs.printing.declared.form.Form.{Form}
 use Rattle.mst_io.specs.Devices.{Seen}
 use Rattle.mst_io.specs.declared.outcome.Outcome.{Outcome}
 use Rattle.mst_io.specs.declared.outcome.RunFault.{RunFault}
 use Rattle.mstplan.specs.declared.endings.Stop.{Stop}
-use Rattle.mstplan.specs.declared.endings.Stop.TheVariants.{Told as told_stop}
 use Rattle.mstplan.specs.declared.words.Asked.{Asked}
-use Rattle.mstplan.specs.declared.words.Asked.TheVariants.{Run, Check, Explain, Diff, Sweep, Summary, Dot, Ask, Verify, Edits, Steps, Advise}
-use Rattle.mstplan.specs.declared.compared.Comparison.{Comparison}
-use Rattle.mstplan.specs.declared.compared.Comparison.TheVariants.{Captures, Networks, Policy, Questions, Steps as steps_of}
+use Rattle.mstplan.specs.declared.words.Behind.{Behind}
+use Rattle.mstplan.specs.declared.table.Verb.{Verb}
+use Rattle.mstplan.specs.declared.table.Verb.TheVariants.{Run, Check, Explain, Diff, Sweep, Summary, Dot, Ask, Verify, Edits, Steps, Advise}
 use Rattle.mst_tool.specs.declared.diffs.Between.TheVariants.{Plans, Settings}
-use Rattle.mstplan.specs.declared.words.GoalWords.{GoalWords}
-use Rattle.mstplan.specs.declared.words.PortWords.{PortWords}
 use Rattle.mstplan.specs.declared.flags.Flags.{Flags}
 use Rattle.mstplan.specs.declared.piped.Piped.{Piped}
-use Rattle.mstplan.specs.declared.sources.Unopened.{Unopened as Why}
-use Rattle.mstplan.specs.Buffered.{EndsAskHinted, EndsHinted, Outputs}
-use Rattle.mstplan.specs.Compared.{EndsComparisonHinted}
+use Rattle.mst_frame.specs.declared.sources.Unopened.{Unopened as Why}
+use Rattle.mst_frame.specs.Served.{Outputs}
+use Rattle.mst_hints.specs.declared.whose.Script.TheVariants as kind
 use Rattle.mstplan.specs.Endings.{told_of, told_of_hints, said_of, line_of, status_after, status_of_stop, status_with}
 use Rattle.mstplan.specs.Flags.{form_of, asked_with}
-use Rattle.mstplan.specs.Inputs.{Inputs}
 use Rattle.mstplan.specs.Invites.{invitation}
 use Rattle.mstplan.specs.Said.{IsSaid}
-use Rattle.mstplan.specs.Named.{IsNamed, AreNamed, IsWhyNot, IsWhyNotIf, IsWhyNone}
-use Rattle.mstplan.specs.Words.{port_word, tree_word, words_of, are_plain, without_dashes, is_help, is_version, IsAnswer, IsRefusal}
+use Rattle.mstplan.specs.Serving.{IsWhyUndone, ServesTask, Task, nothing, policy_if, scripts, serves, stands}
+use Rattle.mstplan.specs.Words.{question_by, texts_of, words_of, are_plain, without_dashes, is_help, is_version, IsAnswer, IsRefusal}
 
--- what the words that name a port ask of a network
-abbrev pub port_question : PortWords → Question
-port_question port = explain_question port.bridge.now port.number.now (tree_word port)
+-- what is to be done where the network of the script of this name is asked something, if words ask it
+abbrev pub asking_of : Form → Option Question → Bor (List ℕ) → Task
+asking_of form None script = nothing
+asking_of form (Some question) script = serves (asking form question) 1 (scripts kind.Loaded None None) script None None
 
--- a word that may be there
-abbrev pub word_of : Option (Bor (List ℕ)) → Option (List ℕ)
-word_of word = option_map (λ word. word.now) word
+-- What there is to be done by what the words ask for, printing in this form: the script is run; or the captures are compared with its plan;
+-- or the network that it leaves is asked of a port, of its failures or pairs of them, for its summary, for its picture or for advice; or the
+-- networks of two scripts are told apart; or the questions that come by standard input are answered, of which there are none where the
+-- script comes there, with a policy, if one is named; or the network is verified by a policy; or the edits are told that make the network
+-- of the second script of that of the first; or what the steps of a change do, with a policy, if one is named
+abbrev pub task_of : Form → Verb → Behind → Task
+task_of form Run behind = serves (running form) 1 (scripts kind.Run None None) behind.first None None
+task_of form Check behind = serves (checking form) 2 (scripts kind.Run None None) behind.first behind.second None
+task_of form Explain behind = asking_of form (question_by Explain (texts_of behind)) behind.first
+task_of form Diff behind = serves (differing Plans form) 2 (scripts kind.Old (Some kind.New) None) behind.first behind.second None
+task_of form Sweep behind = asking_of form (question_by Sweep (texts_of behind)) behind.first
+task_of form Summary behind = asking_of form (question_by Summary (texts_of behind)) behind.first
+task_of form Dot behind = asking_of form (question_by Dot (texts_of behind)) behind.first
+task_of form Ask behind = stands (standing form) (scripts kind.Loaded None (policy_if behind.second)) behind.first behind.second
+task_of form Verify behind = serves (verifying form) 2 (scripts kind.Loaded (Some kind.Policy) None) behind.first behind.second None
+task_of form Edits behind = serves (differing Settings form) 2 (scripts kind.Old (Some kind.New) None) behind.first behind.second None
+task_of form Steps behind = serves (altering form (is_some behind.third)) 3 (scripts kind.Loaded (Some kind.Change) (policy_if behind.third)) behind.first behind.second behind.third
+task_of form Advise behind = asking_of form (question_by Advise (texts_of behind)) behind.first
 
--- what the words for a part of a sweep, if there are some, ask of it: nothing, where they name none
-abbrev pub part_question : Option (Bor (List ℕ)) → Option (Bor (List ℕ)) → Option Question
-part_question word behind = sweep_question (word_of word) (word_of behind)
-
--- what the words of a picture ask, and those of what is wanted: nothing, where they are none that do
-abbrev pub drawn_question : Bor (List ℕ) → Option (Bor (List ℕ)) → Option Question
-drawn_question tree vid = dot_question tree.now (word_of vid)
-
-abbrev pub goal_question : GoalWords → Option Question
-goal_question goal = advice_question goal.goal.now goal.tree.now goal.bridge.now (port_word goal)
-
--- the script of this name was run in the form that the flags say, with its hints, where they ask for them; or its network was asked
--- this; or this was told of the inputs of two names, or of three
-abbrev pub ServesRun : (Option (List ℕ) → Type 0) → (List ℕ → Option (List ℕ) → Type 0) → Flags → Bor (List ℕ) → Outputs → Outputs → Result Outcome RunFault → Result (Unit {0}) RunFault → Type 0
-ServesRun IsGiven IsFile flags script old new answer hints = (reads : Option (List ℕ)) × IsNamed IsGiven IsFile script.now reads × EndsHinted (form_of flags) flags.hints reads old new answer hints
-
-abbrev pub ServesQuestion : (Option (List ℕ) → Type 0) → (List ℕ → Option (List ℕ) → Type 0) → Flags → Question → Bor (List ℕ) → Outputs → Outputs → Result Outcome RunFault → Result (Unit {0}) RunFault → Type 0
-ServesQuestion IsGiven IsFile flags question script old new answer hints =
-    (reads : Option (List ℕ)) × IsNamed IsGiven IsFile script.now reads × EndsAskHinted (form_of flags) flags.hints question reads old new answer hints
-
-abbrev pub ServesAll : (Option (List ℕ) → Type 0) → (List ℕ → Option (List ℕ) → Type 0) → Flags → Comparison → List ℕ → List ℕ → Option (List ℕ) → Outputs → Outputs → Result Outcome RunFault → Result (Unit {0}) RunFault → Type 0
-ServesAll IsGiven IsFile flags comparison name other third old new answer hints =
-    (given : Inputs) × AreNamed IsGiven IsFile name other third given × EndsComparisonHinted comparison flags.hints given old new answer hints
-
-abbrev pub ServesBoth : (Option (List ℕ) → Type 0) → (List ℕ → Option (List ℕ) → Type 0) → Flags → Comparison → List ℕ → List ℕ → Outputs → Outputs → Result Outcome RunFault → Result (Unit {0}) RunFault → Type 0
-ServesBoth IsGiven IsFile flags comparison name other old new answer hints = ServesAll IsGiven IsFile flags comparison name other None old new answer hints
-
--- the network of the script of this name was asked what words ask that ask something
-abbrev pub ServesWords : (Option (List ℕ) → Type 0) → (List ℕ → Option (List ℕ) → Type 0) → Flags → Option Question → Bor (List ℕ) → Outputs → Outputs → Result Outcome RunFault → Result (Unit {0}) RunFault → Type 0
-ServesWords IsGiven IsFile flags asked script old new answer hints =
-    (question : Question) × (asked ≡ Some question) × ServesQuestion IsGiven IsFile flags question script old new answer hints
-
--- What the words ask for was done with these flags, of the inputs that they name, this came to the outputs, and this was answered: the
--- script was run; or the captures were compared with its plan; or the network that it leaves was asked of the port, of its failures
--- or pairs of them, for its summary, for its picture or for advice; or the networks of two scripts were told apart; or the questions that came by
--- standard input were answered, of which there are none where the script comes there, with a policy, if one is named; or the network was
--- verified by a policy; or the edits were told that make the network of the second script of that of the first; or what the steps of a change do, with a policy, if
--- one is named
+-- what the words ask for was done with these flags, of the inputs that they name, this came to the outputs, and this was answered
 abbrev pub Serves : (Option (List ℕ) → Type 0) → (List ℕ → Option (List ℕ) → Type 0) → Flags → Asked → Outputs → Outputs → Result Outcome RunFault → Result (Unit {0}) RunFault → Type 0
-Serves IsGiven IsFile flags (Run script) old new answer hints = ServesRun IsGiven IsFile flags script old new answer hints
-Serves IsGiven IsFile flags (Check script captures) old new answer hints = ServesBoth IsGiven IsFile flags (Captures (form_of flags)) script.now captures.now old new answer hints
-Serves IsGiven IsFile flags (Explain script port) old new answer hints = ServesQuestion IsGiven IsFile flags (port_question port) script old new answer hints
-Serves IsGiven IsFile flags (Diff before after) old new answer hints = ServesBoth IsGiven IsFile flags (Networks Plans (form_of flags)) before.now after.now old new answer hints
-Serves IsGiven IsFile flags (Sweep script word behind) old new answer hints = ServesWords IsGiven IsFile flags (part_question word behind) script old new answer hints
-Serves IsGiven IsFile flags (Summary script) old new answer hints = ServesQuestion IsGiven IsFile flags question.Summary script old new answer hints
-Serves IsGiven IsFile flags (Dot script tree vid) old new answer hints = ServesWords IsGiven IsFile flags (drawn_question tree vid) script old new answer hints
-Serves IsGiven IsFile flags (Ask script policy) old new answer hints =
-    ServesAll IsGiven IsFile flags (Questions (is_some policy) (form_of flags)) script.now (codes "-") (word_of policy) old new answer hints
-Serves IsGiven IsFile flags (Verify script policy) old new answer hints = ServesBoth IsGiven IsFile flags (Policy (form_of flags)) script.now policy.now old new answer hints
-Serves IsGiven IsFile flags (Edits before after) old new answer hints = ServesBoth IsGiven IsFile flags (Networks Settings (form_of flags)) before.now after.now old new answer hints
-Serves IsGiven IsFile flags (Steps script change policy) old new answer hints =
-    ServesAll IsGiven IsFile flags (steps_of (is_some policy) (form_of flags)) script.now change.now (word_of policy) old new answer hints
-Serves IsGiven IsFile flags (Advise script goal) old new answer hints = ServesWords IsGiven IsFile flags (goal_question goal) script old new answer hints
-
--- why the network of the script of this name wasn't asked what words ask: they ask nothing, which is told with status 2, or the script
--- wasn't opened
-abbrev pub IsWhyUnasked : (List ℕ → Why → Type 0) → Bor (List ℕ) → Option Question → Stop → Type 0
-IsWhyUnasked IsUnopened script None stop = stop ≡ told_stop 2
-IsWhyUnasked IsUnopened script (Some question) stop = IsWhyNot IsUnopened script stop
+Serves IsGiven IsFile flags asked old new answer hints = ServesTask IsGiven IsFile flags (task_of (form_of flags) asked.verb asked.behind) old new answer hints
 
 -- why nothing was done with the inputs of these names
-abbrev pub IsWhyUnserved : (List ℕ → Why → Type 0) → Asked → Stop → Type 0
-IsWhyUnserved IsUnopened (Run script) stop = IsWhyNot IsUnopened script stop
-IsWhyUnserved IsUnopened (Check script captures) stop = IsWhyNone IsUnopened script captures None stop
-IsWhyUnserved IsUnopened (Explain script port) stop = IsWhyNot IsUnopened script stop
-IsWhyUnserved IsUnopened (Diff old new) stop = IsWhyNone IsUnopened old new None stop
-IsWhyUnserved IsUnopened (Sweep script word behind) stop = IsWhyUnasked IsUnopened script (part_question word behind) stop
-IsWhyUnserved IsUnopened (Summary script) stop = IsWhyNot IsUnopened script stop
-IsWhyUnserved IsUnopened (Dot script tree vid) stop = IsWhyUnasked IsUnopened script (drawn_question tree vid) stop
-IsWhyUnserved IsUnopened (Ask script policy) stop = IsWhyNot IsUnopened script stop ⊎ IsWhyNotIf IsUnopened policy stop
-IsWhyUnserved IsUnopened (Verify script policy) stop = IsWhyNone IsUnopened script policy None stop
-IsWhyUnserved IsUnopened (Edits old new) stop = IsWhyNone IsUnopened old new None stop
-IsWhyUnserved IsUnopened (Steps script change policy) stop = IsWhyNone IsUnopened script change policy stop
-IsWhyUnserved IsUnopened (Advise script goal) stop = IsWhyUnasked IsUnopened script (goal_question goal) stop
+abbrev pub IsWhyUnserved : (List ℕ → Why → Type 0) → Flags → Asked → Stop → Type 0
+IsWhyUnserved IsUnopened flags asked stop = IsWhyUndone IsUnopened (task_of (form_of flags) asked.verb asked.behind) stop
 
 -- why nothing was run: what the words said, or what kept that which they ask for from being run
-abbrev pub IsReason : (List ℕ → Why → Type 0) → Result Asked Stop → Stop → Type 0
-IsReason IsUnopened (Err said) stop = stop ≡ said
-IsReason IsUnopened (Ok asked) stop = IsWhyUnserved IsUnopened asked stop
+abbrev pub IsReason : (List ℕ → Why → Type 0) → Flags → Result Asked Stop → Stop → Type 0
+IsReason IsUnopened flags (Err said) stop = stop ≡ said
+IsReason IsUnopened flags (Ok asked) stop = IsWhyUnserved IsUnopened flags asked stop
 
 -- standard output: what it has, as far as it tells, and whether who read it has closed it
 pub record Output : Type 0 where
@@ -140,15 +91,15 @@ pub record IsAfterRun (IsGiven : Option (List ℕ) → Type 0) (IsFile : List �
   pub says_of_hints : IsSaid told now (said_of (told_of_hints hints))
 
 -- how it ends where nothing was run: the exit status and what is told are those of the reason
-pub record IsAfterStop (IsUnopened : List ℕ → Why → Type 0) (asked : Result Asked Stop) (errors now : Seen) (status : ℕ) : Type 0 where
+pub record IsAfterStop (IsUnopened : List ℕ → Why → Type 0) (flags : Flags) (asked : Result Asked Stop) (errors now : Seen) (status : ℕ) : Type 0 where
   pub stop : Stop
-  pub reason : IsReason IsUnopened asked stop
+  pub reason : IsReason IsUnopened flags asked stop
   pub ends : status ≡ status_of_stop stop
   pub told : IsSaid errors now (line_of stop)
 
 -- one of the two, by whether there is an output that something was run to
 abbrev pub IsCarriedOut : (Option (List ℕ) → Type 0) → (List ℕ → Option (List ℕ) → Type 0) → (List ℕ → Why → Type 0) → Flags → Result Asked Stop → Option (List ℕ) → Option Output → Seen → Seen → ℕ → Type 0
-IsCarriedOut IsGiven IsFile IsUnopened flags asked written None errors now status = IsAfterStop IsUnopened asked errors now status
+IsCarriedOut IsGiven IsFile IsUnopened flags asked written None errors now status = IsAfterStop IsUnopened flags asked errors now status
 IsCarriedOut IsGiven IsFile IsUnopened flags asked written (Some output) errors now status = IsAfterRun IsGiven IsFile flags asked written output errors now status
 
 -- what words behind the program's name ask for with these flags, where none of them is an option; and what comes of those that

@@ -1,14 +1,15 @@
 ghost use Rattle.std.specs.Prelude.{◌≡◌, ◌++◌, option_map};
 ghost use Rattle.mst_io.specs.Devices.{seen_by};
-ghost use Rattle.mstplan.specs.Endings.{before_name as before_file, behind_name as behind_file, behind_word as behind_stray, is_left as left_alone, line_of, message_of, said_of, status_after, status_of_stop, status_with, told_fault, told_of, told_of_hints};
+ghost use Rattle.mstplan.specs.Endings.{before_name as before_file, behind_name as behind_file, behind_word as behind_stray, is_left as left_alone, line_of, message_of, said_of, status_after, status_of_stop, status_with, stop_by, told_fault, told_of, told_of_hints};
 ghost use Rattle.mstplan.specs.Said.{IsSaid, shown};
 
-use crate::buffered::{Ran, is_write_fault};
 use crate::piped::Piped;
 use crate::said::{Part, say};
-use crate::sources::Unopened;
 use crate::strays::Meant;
-use mst_tool::{Outcome, RunFault, Sink, status};
+use mst_frame::{Ran, Unopened, Unserved, is_write_fault};
+use mst_io::{Outcome, RunFault, Sink};
+use mst_tool::status;
+use std::alloc::AllocError;
 
 /// Why a script isn't run, or not to its end, or not in full.
 #[derive(Clone, Copy)]
@@ -21,6 +22,23 @@ pub(crate) enum Stop<'a> {
     Unopened(&'a str, Unopened),
     /// A fault of a device, or want of memory.
     Fault(RunFault),
+}
+
+/// What stops the program where memory was refused.
+pub(crate) fn starved(_refused: AllocError) -> Stop<'static>
+    ensures { result ≡ Stop.Fault RunFault.Memory }
+{
+    Stop::Fault(RunFault::Memory)
+}
+
+/// Why nothing was run, where a word wasn't served.
+pub(crate) fn stop_unserved(why: Unserved<'_>) -> Stop<'_>
+    ensures { result ≡ stop_by why.entry }
+{
+    match why {
+        Unserved::Unopened(name, why) => Stop::Unopened(name, why),
+        Unserved::Starved => Stop::Fault(RunFault::Memory),
+    }
 }
 
 /// The program's end after a run: its exit status, and what is still to be told, of the run and then of its hints.

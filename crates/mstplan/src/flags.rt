@@ -1,8 +1,8 @@
 ghost use Rattle.std.specs.Prelude.{◌≡◌, map, string_bytes};
-ghost use Rattle.mstplan.specs.Flags.{flags_in, form_of, has_flag as stands_among, has_json as told_in_json, is_flag as flag_word, no_flags, takes as takes_flags, without_flags_behind};
-ghost use Rattle.mstplan.specs.Words.{behind_name, is_dashes as dashes, words_of};
+ghost use Rattle.mstplan.specs.Flags.{flags_in, form_of, has_flag as stands_among, is_flag as flag_word, no_flags, takes as takes_flags, without_flags_behind};
+ghost use Rattle.mstplan.specs.Words.{behind_name, is_dashes as dashes};
 
-use crate::words::Asked;
+use crate::table::Verb;
 use mst_tool::Form;
 
 /// What asks for JSON.
@@ -115,21 +115,11 @@ impl Flags {
         if self.json { Form::Json } else { Form::Text }
     }
 
-    /// Whether what is asked for takes these flags.
-    pub(crate) fn are_of(self, asked: &Asked<'_>) -> bool
-        ensures { result ≡ takes_flags self (words_of asked.now) }
+    /// Whether what is to be done takes these flags.
+    pub(crate) fn are_of(self, verb: Verb) -> bool
+        ensures { result ≡ takes_flags self verb }
     {
-        !self.json || has_json(asked)
-    }
-}
-
-/// Whether what is asked for can be told in JSON.
-fn has_json(asked: &Asked<'_>) -> bool
-    ensures { result ≡ told_in_json (words_of asked.now) }
-{
-    match asked {
-        Asked::Dot { .. } => false,
-        _ => true,
+        !self.json || verb.row().is_json
     }
 }
 

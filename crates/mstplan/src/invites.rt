@@ -5,8 +5,9 @@ ghost use Rattle.mstplan.specs.Said.{IsSaid};
 
 use crate::endings::Stop;
 use crate::said::{Part, say};
+use crate::table::Verb;
 use crate::words::Asked;
-use mst_tool::Sink;
+use mst_io::Sink;
 
 /// The lines that tell whom the program waits for.
 const FOR_SCRIPT: &[u8] =
@@ -30,11 +31,11 @@ pub(crate) fn invite<K: Sink>(
         return;
     }
     match asked {
-        Ok(Asked::Run { .. }) if words.len() < 2 => say(errors, &[Part::Text(FOR_SCRIPT)]),
-        Ok(Asked::Ask { script, .. }) if *script != "-" => say(
-            errors,
-            &[Part::Text(FOR_QUESTIONS)],
-        ),
-        _ => say(errors, &[]),
+        Ok(asked) => match asked.verb {
+            Verb::Run if words.len() < 2 => say(errors, &[Part::Text(FOR_SCRIPT)]),
+            Verb::Ask if asked.behind.first != "-" => say(errors, &[Part::Text(FOR_QUESTIONS)]),
+            _ => say(errors, &[]),
+        },
+        Err(_) => say(errors, &[]),
     }
 }

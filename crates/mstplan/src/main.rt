@@ -5,26 +5,23 @@
 //! the network of one script that of another, and what each step of a change does.
 #![tactic(auto)]
 
-mod buffered;
 mod closed;
-mod compared;
+mod command;
 mod endings;
 mod flags;
-mod forms;
-mod hinting;
-mod inputs;
 mod invites;
-mod named;
 mod page;
 mod piped;
 mod program;
+mod rows;
 mod said;
-mod sources;
+mod serving;
 mod strays;
+mod table;
 mod words;
 
 use closed::StandIns;
-use mst_tool::ToWrite;
+use mst_io::ToWrite;
 use program::run_program;
 use std::io::{self, IsTerminal};
 use std::process::ExitCode;

@@ -1,20 +1,24 @@
 ghost use Rattle.std.specs.Prelude.{◌≡◌, map, Err, IfOk, IfErr, OnErr, option_map, string_bytes};
 ghost use Rattle.mst_io.specs.Devices.{seen_by};
-ghost use Rattle.mstplan.specs.Buffered.{outputs};
-ghost use Rattle.mstplan.specs.Flags.{flags_in, no_flags, without_flags_behind};
-ghost use Rattle.mstplan.specs.Program.{Serves, ServesWords, drawn_question, goal_question, part_question, port_question, IsWhyUnserved, IsWhyUnasked, IsCarriedOut, IsProgram, output_of};
+ghost use Rattle.mst_frame.specs.Served.{outputs};
+ghost use Rattle.mstplan.specs.Flags.{flags_in, form_of, no_flags, without_flags_behind};
+ghost use Rattle.mstplan.specs.Program.{Serves, IsWhyUnserved, IsCarriedOut, IsProgram, asking_of, output_of};
+ghost use Rattle.mstplan.specs.Serving.{IsWhyUndone, ServesTask};
 ghost use Rattle.mstplan.specs.Words.{behind_name};
 
-use crate::buffered::Ran;
-use crate::compared::Comparison;
 use crate::endings::{Stop, after_run, status_of_stop, tell, tell_stop};
 use crate::flags::{Flags, Parted};
 use crate::invites::invite;
-use crate::named::{ask_named, compare_named, run_named};
 use crate::piped::Piped;
-use crate::sources::Sources;
-use crate::words::{Asked, GoalWords, PortWords, asked_for, bytes_of};
-use mst_tool::{Between, Question, Sink};
+use crate::serving::{
+    answer_questions, ask_script, check_captures, diff_scripts, run_script, tell_steps,
+    verify_script,
+};
+use crate::table::Verb;
+use crate::words::{Asked, asked_for, question_of};
+use mst_frame::{Ran, Sources};
+use mst_io::Sink;
+use mst_tool::{Between, Question};
 use std::alloc::Global;
 use std::io::Write;
 
@@ -37,72 +41,31 @@ fn serve<'a, S: Sources, W: Write + Drop, K: Sink>(
     errors: &mut K,
 ) -> Result<Ran<W>, Stop<'a>>
     ensures ran { IfOk result (λ ran. Serves (S.is_given sources.now) (S.is_file sources.now) flags asked.entry (outputs W.contents (seen_by K.told K.contents K.lent) output errors.old) (outputs W.contents (seen_by K.told K.contents K.lent) ran.writer errors.new) ran.ended ran.hints) }
-    ensures stopped { IfErr result (IsWhyUnserved (S.is_unopened sources.now) asked.entry) }
+    ensures stopped { IfErr result (IsWhyUnserved (S.is_unopened sources.now) flags asked.entry) }
     ensures untold { OnErr result (errors.new ≡ errors.old) }
 {
-    let hints = flags.hints;
-    let form = flags.form();
-    match asked {
-        Asked::Run { script } => run_named(alloc, sources, flags, script, output, errors),
-        Asked::Check { script, captures } => {
-            let how = Comparison::Captures(form);
-            compare_named(
-                alloc, sources, how, hints, script, captures, None, output, errors,
+    let first = asked.behind.first;
+    let second = asked.behind.second;
+    let third = asked.behind.third;
+    match asked.verb {
+        Verb::Run => run_script(alloc, sources, flags, first, output, errors),
+        Verb::Check => check_captures(alloc, sources, flags, first, second, output, errors),
+        Verb::Diff => {
+            let plans = Between::Plans;
+            diff_scripts(alloc, sources, flags, plans, first, second, output, errors)
+        }
+        Verb::Ask => answer_questions(alloc, sources, flags, first, second, output, errors),
+        Verb::Verify => verify_script(alloc, sources, flags, first, second, output, errors),
+        Verb::Edits => {
+            let settings = Between::Settings;
+            diff_scripts(
+                alloc, sources, flags, settings, first, second, output, errors,
             )
         }
-        Asked::Explain { script, port } => {
-            let question = question_of(port);
-            ask_named(alloc, sources, flags, &question, script, output, errors)
-        }
-        Asked::Diff { old, new } => {
-            let how = Comparison::Networks(Between::Plans, form);
-            compare_named(alloc, sources, how, hints, old, new, None, output, errors)
-        }
-        Asked::Sweep {
-            script,
-            word,
-            behind,
-        } => {
-            let question = part_of(word, behind);
-            ask_by_words(alloc, sources, flags, question, script, output, errors)
-        }
-        Asked::Summary { script } => {
-            let question = Question::Summary;
-            ask_named(alloc, sources, flags, &question, script, output, errors)
-        }
-        Asked::Dot { script, tree, vid } => {
-            let question = drawn_of(tree, vid);
-            ask_by_words(alloc, sources, flags, question, script, output, errors)
-        }
-        Asked::Ask { script, policy } => {
-            let how = Comparison::Questions(policy.is_some(), form);
-            compare_named(
-                alloc, sources, how, hints, script, "-", policy, output, errors,
-            )
-        }
-        Asked::Verify { script, policy } => {
-            let how = Comparison::Policy(form);
-            compare_named(
-                alloc, sources, how, hints, script, policy, None, output, errors,
-            )
-        }
-        Asked::Edits { old, new } => {
-            let how = Comparison::Networks(Between::Settings, form);
-            compare_named(alloc, sources, how, hints, old, new, None, output, errors)
-        }
-        Asked::Steps {
-            script,
-            change,
-            policy,
-        } => {
-            let how = Comparison::Steps(policy.is_some(), form);
-            compare_named(
-                alloc, sources, how, hints, script, change, policy, output, errors,
-            )
-        }
-        Asked::Advise { script, goal } => {
-            let question = advice_of(goal);
-            ask_by_words(alloc, sources, flags, question, script, output, errors)
+        Verb::Steps => tell_steps(alloc, sources, flags, first, second, third, output, errors),
+        Verb::Explain | Verb::Sweep | Verb::Summary | Verb::Dot | Verb::Advise => {
+            let question = question_of(asked);
+            ask_by_words(alloc, sources, flags, question, first, output, errors)
         }
     }
 }
@@ -117,51 +80,14 @@ fn ask_by_words<'a, S: Sources, W: Write + Drop, K: Sink>(
     output: W,
     errors: &mut K,
 ) -> Result<Ran<W>, Stop<'a>>
-    ensures ran { IfOk result (λ ran. ServesWords (S.is_given sources.now) (S.is_file sources.now) flags asked script.entry (outputs W.contents (seen_by K.told K.contents K.lent) output errors.old) (outputs W.contents (seen_by K.told K.contents K.lent) ran.writer errors.new) ran.ended ran.hints) }
-    ensures stopped { IfErr result (IsWhyUnasked (S.is_unopened sources.now) script.entry asked) }
+    ensures ran { IfOk result (λ ran. ServesTask (S.is_given sources.now) (S.is_file sources.now) flags (asking_of (form_of flags) asked script.entry) (outputs W.contents (seen_by K.told K.contents K.lent) output errors.old) (outputs W.contents (seen_by K.told K.contents K.lent) ran.writer errors.new) ran.ended ran.hints) }
+    ensures stopped { IfErr result (IsWhyUndone (S.is_unopened sources.now) (asking_of (form_of flags) asked script.entry)) }
     ensures untold { OnErr result (errors.new ≡ errors.old) }
 {
     match asked {
-        Some(question) => ask_named(alloc, sources, flags, &question, script, output, errors),
+        Some(question) => ask_script(alloc, sources, flags, question, script, output, errors),
         None => Err(Stop::Told(2)),
     }
-}
-
-/// What the words that name a port ask of a network.
-fn question_of(port: PortWords<'_>) -> Question
-    ensures { result ≡ port_question port.entry }
-{
-    Question::explain(
-        port.bridge.as_bytes(),
-        port.number.as_bytes(),
-        bytes_of(port.tree),
-    )
-}
-
-/// What the words for a part of a sweep ask, if they name one.
-fn part_of(word: Option<&str>, behind: Option<&str>) -> Option<Question>
-    ensures { result ≡ part_question word.entry behind.entry }
-{
-    Question::sweep(bytes_of(word), bytes_of(behind))
-}
-
-/// What the words of a picture ask, if they are some.
-fn drawn_of(tree: &str, vid: Option<&str>) -> Option<Question>
-    ensures { result ≡ drawn_question tree.entry vid.entry }
-{
-    Question::dot(tree.as_bytes(), bytes_of(vid))
-}
-
-/// Which settings the words of what is wanted ask for, if they say what it is.
-fn advice_of(goal: GoalWords<'_>) -> Option<Question>
-    ensures { result ≡ goal_question goal.entry }
-{
-    Question::advice(
-        goal.goal.as_bytes(),
-        goal.tree.as_bytes(),
-        goal.bridge.as_bytes(),
-        bytes_of(goal.port),
-    )
 }
 
 /// Does what the words ask for, with the hints of its scripts, and tells in a line on standard error what stopped it, and in another

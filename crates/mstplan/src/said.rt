@@ -4,8 +4,7 @@ ghost use Rattle.mst_io.specs.Devices.{Works, IsStopped, seen_by};
 ghost use Rattle.mst_io.specs.Written.{AppendsFront};
 ghost use Rattle.mstplan.specs.Said.{IsSaid, coded, is_control as control, hex_digit as hex, part_text, parts_text, shown};
 
-use mst_io::{WriteFailed, put};
-use mst_tool::Sink;
+use mst_io::{Sink, WriteFailed, put};
 
 /// A part of what is said.
 #[derive(Clone, Copy)]

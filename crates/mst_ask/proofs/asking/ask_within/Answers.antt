@@ -1,196 +1,101 @@
-use Rattle.std.proofs.Common.{◌≡◌, ◌<◌, ◌^◌, [], Result, Err, refl, sym, ap, subst, inl, inr}
-use Rattle.mst_io.specs.declared.outcome.RunFault.{RunFault}
-use Rattle.mst_io.proofs.Calls.{stops_after, stops_working, works_both, works_unbroken}
-use Rattle.mst_ask.specs.Opening.{OpensNot}
-use Rattle.mst_ask.proofs.Opened.{opened_with}
-use Rattle.mst_ask.proofs.Stand.{begins, begins_front, not_opened, nothing_loaded, script_ended, script_printed, stands, stands_ended, stands_front, ways_by}
-use Rattle.mst_ask.proofs.Stopped.{all_uncut, left_uncut, open_calls, open_read, open_write, policy_read, policy_write, serve_read, serve_write}
+use Rattle.std.proofs.Common.{◌<◌, ◌^◌, [], ◌∷◌, Err, None, Some, ap, refl, subst, sym, inl, inr, ◌∙◌}
+use Rattle.mst_io.specs.Devices.{seen_by}
+use Rattle.mst_drive.specs.Turned.{turning}
+use Rattle.mst_drive.specs.Words.{inputs}
+use Rattle.mst_drive.proofs.Turned.{turned_stopped, turned_then}
+use Rattle.mst_drive.proofs.Words.{ended_fault, front_as, wrote_as, wrote_front, wrote_still}
+use Rattle.mst_ask.specs.Asking.{standing}
+use Rattle.mst_ask.proofs.Opened.{one_fault, opened_with}
+use Rattle.mst_ask.proofs.Stand.{ask_ways, asked_all, asked_ended, asked_front, may_tell}
 use Rattle.mst_ask.proofs.asking.ask_within.Goals as goal
 
-abbrev fails : (A : Type 0) → RunFault → Result A RunFault
-fails A fault = Err fault
-
-one_fault : (A : Type 0) (a b : RunFault) → fails A a ≡ fails A b → a ≡ b
-one_fault A a b p = cc
-
--- ---- no memory for the script
-pub returns-in-Err-clause-fault : goal.returns-in-Err-clause-fault
-returns-in-Err-clause-fault g c =
-    let ways = ways_by c.has_load.ensures.lines c.one_load.ensures.same c.one_load.ensures.full c.states.ensures.network c.has_turns.ensures c.one_asking.ensures c.standings.ensures.loaded in
-    inl (nothing_loaded ways c.args.form (g.S.Source.remaining c.args.script.now) (g.K.Sink.contents c.args.sink.now))
-
-pub returns-in-Err-clause-memory : goal.returns-in-Err-clause-memory
-returns-in-Err-clause-memory g c is =
-    let ways = ways_by c.has_load.ensures.lines c.one_load.ensures.same c.one_load.ensures.full c.states.ensures.network c.has_turns.ensures c.one_asking.ensures c.standings.ensures.loaded in
-    inl (nothing_loaded ways c.args.form (g.S.Source.remaining c.args.script.now) (g.K.Sink.contents c.args.sink.now))
-
-pub returns-in-Err-clause-read_fault : goal.returns-in-Err-clause-read_fault
-returns-in-Err-clause-read_fault g c = (λ e. cc, λ h. absurd (left_uncut c.args.turns (g.S.Source.told c.args.script.now) (g.S.Source.told c.read_script.new.source) (g.P.Source.told c.args.policy.now) (g.Q.Source.told c.args.questions.now) c.in-Err.ensures.err c.requires.policy c.requires.questions h.0))
-
 -- ---- stopped in the script
-pub returns-in-Err-open-clause-fault : goal.returns-in-Err-open-clause-fault
-returns-in-Err-open-clause-fault g c =
-    let ways = ways_by c.has_load.ensures.lines c.one_load.ensures.same c.one_load.ensures.full c.states.ensures.network c.has_turns.ensures c.one_asking.ensures c.standings.ensures.loaded in
-    not_opened ways c.args.form c.args.turns _ _ (g.P.Source.remaining c.args.policy.now) (g.Q.Source.remaining c.args.questions.now) _ _ _ _ c.in-Ok.read c.in-Err-open.fault c.in-Ok.ensures.ok c.in-Err-open.ensures.fault
+pub returns-in-Err-clause-ended : goal.returns-in-Err-clause-ended
+returns-in-Err-clause-ended g c =
+    let ways = ask_ways c.has_turns.ensures c.one_asking.ensures c.standings.ensures.loaded in
+    let given = inputs (g.S.Source.remaining c.args.script.now) (g.Q.Source.remaining c.args.questions.now) (g.P.Source.remaining c.args.policy.now) in
+    let left = inputs (g.S.Source.remaining c.open.new.source) (g.Q.Source.remaining c.args.questions.now) (g.P.Source.remaining c.args.policy.now) in
+    ended_fault (standing c.args.form) given left _ _ c.in-Err.fault (may_tell ways c.args.form given _ _ c.in-Err.ensures.fault)
+    (λ e. wrote_as _ _ _ _ (λ text h. inl h) (c.in-Err.ensures.read (ap Err e))) (λ e. wrote_as _ _ _ _ (λ text h. inl h) (c.in-Err.ensures.memory (ap Err e)))
 
-pub returns-in-Err-open-clause-read : goal.returns-in-Err-open-clause-read
-returns-in-Err-open-clause-read g c is =
-    let ways = ways_by c.has_load.ensures.lines c.one_load.ensures.same c.one_load.ensures.full c.states.ensures.network c.has_turns.ensures c.one_asking.ensures c.standings.ensures.loaded in
-    let p = subst (OpensNot c.args.form c.in-Ok.read (g.K.Sink.contents c.args.sink.now) (g.K.Sink.contents c.open.new.sink)) (one_fault _ _ _ is) c.in-Err-open.ensures.fault in
-    inl (script_ended ways c.args.form c.args.turns _ _ _ _ _ _ c.in-Ok.read c.in-Ok.ensures.ok p.0 p.1)
-
-pub returns-in-Err-open-clause-memory : goal.returns-in-Err-open-clause-memory
-returns-in-Err-open-clause-memory g c is =
-    let ways = ways_by c.has_load.ensures.lines c.one_load.ensures.same c.one_load.ensures.full c.states.ensures.network c.has_turns.ensures c.one_asking.ensures c.standings.ensures.loaded in
-    let p = subst (OpensNot c.args.form c.in-Ok.read (g.K.Sink.contents c.args.sink.now) (g.K.Sink.contents c.open.new.sink)) (one_fault _ _ _ is) c.in-Err-open.ensures.fault in
-    inl (script_printed ways c.args.form c.args.turns _ _ _ _ _ _ c.in-Ok.read c.in-Ok.ensures.ok p.1)
-
-pub returns-in-Err-open-clause-read_fault : goal.returns-in-Err-open-clause-read_fault
-returns-in-Err-open-clause-read_fault g c =
-    let fault = c.in-Err-open.fault in
-    let h = open_read c.args.form c.args.turns c.in-Ok.read _ _ (g.K.Sink.contents c.args.sink.now) (g.K.Sink.contents c.open.new.sink) _ _ (g.P.Source.told c.args.policy.now) (g.Q.Source.told c.args.questions.now) _ _ c.in-Ok.ensures.ok c.read_script.ensures.calls c.requires.policy c.requires.questions fault c.in-Err-open.ensures.fault
-    (λ not. c.in-Err-open.ensures.works (λ e. not (one_fault _ _ _ e))) (λ e. c.in-Err-open.ensures.broken (ap Err e)) in
-    (λ e. h.0 (one_fault _ _ _ e), λ k. ap Err (h.1 k))
-
-pub returns-in-Err-open-clause-write_fault : goal.returns-in-Err-open-clause-write_fault
-returns-in-Err-open-clause-write_fault g c =
-    let h = open_write _ _ c.in-Err-open.fault (λ not. c.in-Err-open.ensures.works (λ e. not (one_fault _ _ _ e))) (λ e. c.in-Err-open.ensures.broken (ap Err e)) in
-    (λ e. h.0 (one_fault _ _ _ e), λ k. ap Err (h.1 k))
-
-pub returns-in-Err-open-clause-sink_calls : goal.returns-in-Err-open-clause-sink_calls
-returns-in-Err-open-clause-sink_calls g c = open_calls _ _ c.in-Err-open.fault (λ not. c.in-Err-open.ensures.works (λ e. not (one_fault _ _ _ e))) (λ e. c.in-Err-open.ensures.broken (ap Err e))
+pub returns-in-Err-clause-turned : goal.returns-in-Err-clause-turned
+returns-in-Err-clause-turned g c =
+    let source = turning (seen_by g.S.Source.told g.S.Source.remaining g.S.Source.lent) c.args.script.now c.open.new.source in
+    let policy = turning (seen_by g.P.Source.told g.P.Source.remaining g.P.Source.lent) c.args.policy.now c.args.policy.now in
+    let questions = turning (seen_by g.Q.Source.told g.Q.Source.remaining g.Q.Source.lent) c.args.questions.now c.args.questions.now in
+    turned_stopped c.args.turns source (policy ∷ questions ∷ []) _ _ (Some c.in-Err.fault) c.in-Err.ensures.turned (λ e. cc) (refl, c.requires.policy, (refl, c.requires.questions, tt))
 
 -- ---- stopped in the policy
-pub returns-in-Err-read_policy-clause-fault : goal.returns-in-Err-read_policy-clause-fault
-returns-in-Err-read_policy-clause-fault g c =
-    let ways = ways_by c.has_load.ensures.lines c.one_load.ensures.same c.one_load.ensures.full c.states.ensures.network c.has_turns.ensures c.one_asking.ensures c.standings.ensures.loaded in
-    begins_front ways c.args.form c.args.turns _ _ (g.P.Source.remaining c.args.policy.now) (g.Q.Source.remaining c.args.questions.now) _ _ _ _ c.in-Ok.read [] c.in-Ok-open.opened c.in-Ok.ensures.ok c.in-Ok-open.ensures.ok
+pub returns-in-Err-read_policy-clause-ended : goal.returns-in-Err-read_policy-clause-ended
+returns-in-Err-read_policy-clause-ended g c =
+    let ways = ask_ways c.has_turns.ensures c.one_asking.ensures c.standings.ensures.loaded in
+    let given = inputs (g.S.Source.remaining c.args.script.now) (g.Q.Source.remaining c.args.questions.now) (g.P.Source.remaining c.args.policy.now) in
+    let w = wrote_still _ _ _ _ (wrote_as _ _ _ _ (λ text o. o.0) c.in-Ok.ensures.ok) c.read_policy.ensures.unwritten in
+    let left = inputs (g.S.Source.remaining c.open.new.source) (g.Q.Source.remaining c.args.questions.now) (g.P.Source.remaining c.read_policy.new.source) in
+    ended_fault (standing c.args.form) given left _ _ c.in-Err-read_policy.fault (may_tell ways c.args.form given _ _ (front_as _ _ _ _ (λ text b. inr b) (wrote_front _ _ _ w)))
+    (λ e. wrote_as _ _ _ _ (λ text b. inr (inl b)) w) (λ e. wrote_as _ _ _ _ (λ text b. inr b) w)
 
-pub returns-in-Err-read_policy-clause-read : goal.returns-in-Err-read_policy-clause-read
-returns-in-Err-read_policy-clause-read g c is =
-    let ways = ways_by c.has_load.ensures.lines c.one_load.ensures.same c.one_load.ensures.full c.states.ensures.network c.has_turns.ensures c.one_asking.ensures c.standings.ensures.loaded in
-    inr (inl (begins ways c.args.form c.args.turns _ _ (g.P.Source.remaining c.args.policy.now) (g.Q.Source.remaining c.args.questions.now) _ _ _ _ c.in-Ok.read [] c.in-Ok-open.opened c.in-Ok.ensures.ok c.in-Ok-open.ensures.ok))
-
-pub returns-in-Err-read_policy-clause-memory : goal.returns-in-Err-read_policy-clause-memory
-returns-in-Err-read_policy-clause-memory g c is =
-    let ways = ways_by c.has_load.ensures.lines c.one_load.ensures.same c.one_load.ensures.full c.states.ensures.network c.has_turns.ensures c.one_asking.ensures c.standings.ensures.loaded in
-    inr (begins ways c.args.form c.args.turns _ _ (g.P.Source.remaining c.args.policy.now) (g.Q.Source.remaining c.args.questions.now) _ _ _ _ c.in-Ok.read [] c.in-Ok-open.opened c.in-Ok.ensures.ok c.in-Ok-open.ensures.ok)
-
-pub returns-in-Err-read_policy-clause-read_fault : goal.returns-in-Err-read_policy-clause-read_fault
-returns-in-Err-read_policy-clause-read_fault g c =
-    let fault = c.in-Err-read_policy.fault in
-    let cut = c.in-Err-read_policy.ensures.read in
-    let h = policy_read c.args.turns (g.S.Source.told c.args.script.now) (g.S.Source.told c.read_script.new.source) (g.P.Source.told c.args.policy.now) (g.P.Source.told c.read_policy.new.source) (g.Q.Source.told c.args.questions.now) _ _ (c.in-Ok.ensures.ok.whole c.in-Ok-open.ensures.ok.whole).1 (c.in-Ok-open.ensures.works (λ e. cc)) fault (λ e. cut.0 (ap Err e), λ k. one_fault _ _ _ (cut.1 k)) (λ e. c.in-Err-read_policy.ensures.left (ap Err e))
-    (λ e. c.in-Err-read_policy.ensures.write (ap Err e)) c.requires.questions in
-    (λ e. h.0 (one_fault _ _ _ e), λ k. ap Err (h.1 k))
-
-pub returns-in-Err-read_policy-clause-write_fault : goal.returns-in-Err-read_policy-clause-write_fault
-returns-in-Err-read_policy-clause-write_fault g c =
-    let h = policy_write c.args.turns (g.S.Source.told c.args.script.now) (g.S.Source.told c.read_script.new.source) (g.P.Source.told c.args.policy.now) (g.P.Source.told c.read_policy.new.source) (g.Q.Source.told c.args.questions.now) _ _ (c.in-Ok.ensures.ok.whole c.in-Ok-open.ensures.ok.whole).1 (c.in-Ok-open.ensures.works (λ e. cc)) c.in-Err-read_policy.fault (λ e. c.in-Err-read_policy.ensures.write (ap Err e)) in
-    (λ e. h.0 (one_fault _ _ _ e), λ k. ap Err (h.1 k))
-
-pub returns-in-Err-read_policy-clause-sink_calls : goal.returns-in-Err-read_policy-clause-sink_calls
-returns-in-Err-read_policy-clause-sink_calls g c = stops_working _ _ (c.in-Ok-open.ensures.works (λ e. cc))
+pub returns-in-Err-read_policy-clause-turned : goal.returns-in-Err-read_policy-clause-turned
+returns-in-Err-read_policy-clause-turned g c =
+    let source = turning (seen_by g.S.Source.told g.S.Source.remaining g.S.Source.lent) c.args.script.now c.open.new.source in
+    let policy = turning (seen_by g.P.Source.told g.P.Source.remaining g.P.Source.lent) c.args.policy.now c.read_policy.new.source in
+    let questions = turning (seen_by g.Q.Source.told g.Q.Source.remaining g.Q.Source.lent) c.args.questions.now c.args.questions.now in
+    let why = Some c.in-Err-read_policy.fault in
+    turned_then c.args.turns source (policy ∷ questions ∷ []) _ _ _ why c.in-Ok.ensures.turned
+    (turned_stopped c.args.turns policy (questions ∷ []) _ _ why c.in-Err-read_policy.ensures.turned (λ e. cc) (refl, c.requires.questions, tt))
 
 -- ---- the policy goes with what was opened
 pub serve_questions-requires-clause-kept : goal.serve_questions-requires-clause-kept
-serve_questions-requires-clause-kept g c = (opened_with c.args.form c.in-Ok.read c.in-Ok-read_policy.lines _ _ c.in-Ok-open.opened c.with_policy-asking.result c.with_policy-asking.ensures c.in-Ok-open.ensures.ok).kept
-
-pub serve_questions-requires-clause-form : goal.serve_questions-requires-clause-form
-serve_questions-requires-clause-form g c = (opened_with c.args.form c.in-Ok.read c.in-Ok-read_policy.lines _ _ c.in-Ok-open.opened c.with_policy-asking.result c.with_policy-asking.ensures c.in-Ok-open.ensures.ok).prints
+serve_questions-requires-clause-kept g c = (opened_with c.args.form _ _ c.in-Ok-read_policy.lines c.in-Ok.opened c.with_policy-asking.result c.with_policy-asking.ensures (c.in-Ok.ensures.ok.1).1).kept
 
 pub serve_questions-requires-clause-begins : goal.serve_questions-requires-clause-begins
-serve_questions-requires-clause-begins g c = (opened_with c.args.form c.in-Ok.read c.in-Ok-read_policy.lines _ _ c.in-Ok-open.opened c.with_policy-asking.result c.with_policy-asking.ensures c.in-Ok-open.ensures.ok).begins
+serve_questions-requires-clause-begins g c = (opened_with c.args.form _ _ c.in-Ok-read_policy.lines c.in-Ok.opened c.with_policy-asking.result c.with_policy-asking.ensures (c.in-Ok.ensures.ok.1).1).begins
 
 pub counted-requires-clause-script : goal.counted-requires-clause-script
 counted-requires-clause-script g c =
-    let o = opened_with c.args.form c.in-Ok.read c.in-Ok-read_policy.lines _ _ c.in-Ok-open.opened c.with_policy-asking.result c.with_policy-asking.ensures c.in-Ok-open.ensures.ok in
-    subst (λ n. n < 2 ^ 60) (sym c.serve_questions.ensures.loaded) o.few
+    let o = opened_with c.args.form _ _ c.in-Ok-read_policy.lines c.in-Ok.opened c.with_policy-asking.result c.with_policy-asking.ensures (c.in-Ok.ensures.ok.1).1 in
+    subst (λ n. n < 2 ^ 60) (sym c.in-Ok-serve_questions.ensures.loaded) o.few
 
 -- ---- stopped in the questions
-pub returns-in-Err-serve_questions-clause-fault : goal.returns-in-Err-serve_questions-clause-fault
-returns-in-Err-serve_questions-clause-fault g c =
-    let ways = ways_by c.has_load.ensures.lines c.one_load.ensures.same c.one_load.ensures.full c.states.ensures.network c.has_turns.ensures c.one_asking.ensures c.standings.ensures.loaded in
-    let o = opened_with c.args.form c.in-Ok.read c.in-Ok-read_policy.lines _ _ c.in-Ok-open.opened c.with_policy-asking.result c.with_policy-asking.ensures c.in-Ok-open.ensures.ok in
-    stands_front ways c.args.form c.args.turns _ _ _ _ _ _ _ _ c.in-Ok.read c.in-Ok-read_policy.lines c.with_policy-asking.result c.in-Ok.ensures.ok o _ c.in-Ok-read_policy.ensures.ok c.in-Err-serve_questions.ensures.fault
-
-pub returns-in-Err-serve_questions-clause-read : goal.returns-in-Err-serve_questions-clause-read
-returns-in-Err-serve_questions-clause-read g c is =
-    let ways = ways_by c.has_load.ensures.lines c.one_load.ensures.same c.one_load.ensures.full c.states.ensures.network c.has_turns.ensures c.one_asking.ensures c.standings.ensures.loaded in
-    let o = opened_with c.args.form c.in-Ok.read c.in-Ok-read_policy.lines _ _ c.in-Ok-open.opened c.with_policy-asking.result c.with_policy-asking.ensures c.in-Ok-open.ensures.ok in
-    inr (inr (stands_ended ways c.args.form c.args.turns _ _ _ _ _ _ _ _ c.in-Ok.read c.in-Ok-read_policy.lines c.with_policy-asking.result c.in-Ok.ensures.ok o _ c.in-Ok-read_policy.ensures.ok _ (c.in-Err-serve_questions.ensures.read (ap Err (one_fault _ _ _ is)))))
-
-pub returns-in-Err-serve_questions-clause-memory : goal.returns-in-Err-serve_questions-clause-memory
-returns-in-Err-serve_questions-clause-memory g c is = absurd (c.in-Err-serve_questions.ensures.memory (ap Err (one_fault _ _ _ is)))
+pub returns-in-Err-serve_questions-clause-ended : goal.returns-in-Err-serve_questions-clause-ended
+returns-in-Err-serve_questions-clause-ended g c =
+    let ways = ask_ways c.has_turns.ensures c.one_asking.ensures c.standings.ensures.loaded in
+    let given = inputs (g.S.Source.remaining c.args.script.now) (g.Q.Source.remaining c.args.questions.now) (g.P.Source.remaining c.args.policy.now) in
+    let left = inputs (g.S.Source.remaining c.open.new.source) (g.Q.Source.remaining c.serve_questions.new.questions) (g.P.Source.remaining c.read_policy.new.source) in
+    let asking = c.with_policy-asking in
+    let lines = c.in-Ok-read_policy.lines in
+    let are = c.in-Ok-read_policy.ensures.ok in
+    ended_fault (standing c.args.form) given left _ _ c.in-Err-serve_questions.fault
+    (asked_front ways c.args.form given _ _ _ _ c.in-Ok.opened asking.result lines c.in-Ok.ensures.ok c.read_policy.ensures.unwritten are asking.ensures c.in-Err-serve_questions.ensures.fault)
+    (λ e. asked_ended ways c.args.form given _ _ _ _ c.in-Ok.opened asking.result lines c.in-Ok.ensures.ok c.read_policy.ensures.unwritten are asking.ensures left (c.in-Err-serve_questions.ensures.read (ap Err e)))
+    (λ e. absurd (c.in-Err-serve_questions.ensures.memory (ap Err e)))
 
 pub returns-in-Err-serve_questions-clause-unread : goal.returns-in-Err-serve_questions-clause-unread
-returns-in-Err-serve_questions-clause-unread g c is = absurd (c.in-Err-serve_questions.ensures.memory (ap Err (one_fault _ _ _ is)))
+returns-in-Err-serve_questions-clause-unread g c is = absurd (c.in-Err-serve_questions.ensures.memory (ap Err (one_fault _ _ _ refl is)))
 
-pub returns-in-Err-serve_questions-clause-read_fault : goal.returns-in-Err-serve_questions-clause-read_fault
-returns-in-Err-serve_questions-clause-read_fault g c =
-    let fault = c.in-Err-serve_questions.fault in
-    let h = serve_read c.args.turns _ _ _ _ _ _ _ _ _ (c.in-Ok.ensures.ok.whole c.in-Ok-open.ensures.ok.whole).1 (c.in-Ok-read_policy.ensures.ended refl) (c.in-Ok-open.ensures.works (λ e. cc)) fault (λ e. c.in-Err-serve_questions.ensures.memory (ap Err e)) c.in-Err-serve_questions.ensures.stops in
-    (λ e. h.0 (one_fault _ _ _ e), λ k. ap Err (h.1 k))
-
-pub returns-in-Err-serve_questions-clause-write_fault : goal.returns-in-Err-serve_questions-clause-write_fault
-returns-in-Err-serve_questions-clause-write_fault g c =
-    let fault = c.in-Err-serve_questions.fault in
-    let h = serve_write c.args.turns _ _ _ _ _ _ _ _ _ (c.in-Ok.ensures.ok.whole c.in-Ok-open.ensures.ok.whole).1 (c.in-Ok-read_policy.ensures.ended refl) (c.in-Ok-open.ensures.works (λ e. cc)) fault (λ e. c.in-Err-serve_questions.ensures.memory (ap Err e)) c.in-Err-serve_questions.ensures.stops in
-    (λ e. h.0 (one_fault _ _ _ e), λ k. ap Err (h.1 k))
-
-pub returns-in-Err-serve_questions-clause-sink_calls : goal.returns-in-Err-serve_questions-clause-sink_calls
-returns-in-Err-serve_questions-clause-sink_calls g c = stops_after _ _ _ (c.in-Ok-open.ensures.works (λ e. cc)) c.serve_questions.ensures.sink_calls
+pub returns-in-Err-serve_questions-clause-turned : goal.returns-in-Err-serve_questions-clause-turned
+returns-in-Err-serve_questions-clause-turned g c =
+    let source = turning (seen_by g.S.Source.told g.S.Source.remaining g.S.Source.lent) c.args.script.now c.open.new.source in
+    let policy = turning (seen_by g.P.Source.told g.P.Source.remaining g.P.Source.lent) c.args.policy.now c.read_policy.new.source in
+    let questions = turning (seen_by g.Q.Source.told g.Q.Source.remaining g.Q.Source.lent) c.args.questions.now c.serve_questions.new.questions in
+    let why = Some c.in-Err-serve_questions.fault in
+    turned_then c.args.turns source (policy ∷ questions ∷ []) _ _ _ why c.in-Ok.ensures.turned
+    (turned_then c.args.turns policy (questions ∷ []) _ _ _ why c.in-Ok-read_policy.ensures.turned c.in-Err-serve_questions.ensures.turned)
 
 -- ---- all questions were answered
-pub returns-clause-ok : goal.returns-clause-ok
-returns-clause-ok g c =
-    let ways = ways_by c.has_load.ensures.lines c.one_load.ensures.same c.one_load.ensures.full c.states.ensures.network c.has_turns.ensures c.one_asking.ensures c.standings.ensures.loaded in
-    let o = opened_with c.args.form c.in-Ok.read c.in-Ok-read_policy.lines _ _ c.in-Ok-open.opened c.with_policy-asking.result c.with_policy-asking.ensures c.in-Ok-open.ensures.ok in
-    stands ways c.args.form c.args.turns _ _ _ _ _ _ _ _ c.in-Ok.read c.in-Ok-read_policy.lines c.with_policy-asking.result c.in-Ok.ensures.ok o _ c.in-Ok-read_policy.ensures.ok c.serve_questions.new.asking c.counted.result
-    c.in-Ok-serve_questions.ensures.ok c.counted.ensures c.serve_questions.ensures.loaded
+pub returns-clause-ended : goal.returns-clause-ended
+returns-clause-ended g c =
+    let ways = ask_ways c.has_turns.ensures c.one_asking.ensures c.standings.ensures.loaded in
+    let given = inputs (g.S.Source.remaining c.args.script.now) (g.Q.Source.remaining c.args.questions.now) (g.P.Source.remaining c.args.policy.now) in
+    let asking = c.with_policy-asking in
+    let new = c.serve_questions.new.asking in
+    asked_all ways c.args.form given _ _ _ _ c.in-Ok.opened asking.result c.in-Ok-read_policy.lines c.in-Ok.ensures.ok c.read_policy.ensures.unwritten c.in-Ok-read_policy.ensures.ok asking.ensures new.outcome c.counted.result new.loaded c.in-Ok-serve_questions.ensures.ok
+    c.counted.ensures c.in-Ok-serve_questions.ensures.loaded
 
-pub returns-clause-read_fault : goal.returns-clause-read_fault
-returns-clause-read_fault g c =
-    (λ e. cc, λ h. absurd (all_uncut c.args.turns _ _ _ _ _ _ _ _ (g.K.Sink.told c.serve_questions.new.sink) (c.in-Ok.ensures.ok.whole c.in-Ok-open.ensures.ok.whole).1 (c.in-Ok-read_policy.ensures.ended refl) (c.in-Ok-open.ensures.works (λ e. cc)) c.in-Ok-serve_questions.ensures.stops.0 h.0))
-
-pub returns-clause-write_fault : goal.returns-clause-write_fault
-returns-clause-write_fault g c =
-    let works = works_both _ _ _ (c.in-Ok-open.ensures.works (λ e. cc)) c.in-Ok-serve_questions.ensures.stops.1 in
-    (λ e. cc, λ broken. absurd (works_unbroken _ _ works broken))
-
-pub returns-clause-sink_calls : goal.returns-clause-sink_calls
-returns-clause-sink_calls g c = stops_after _ _ _ (c.in-Ok-open.ensures.works (λ e. cc)) c.serve_questions.ensures.sink_calls
-
-pub returns-clause-ended_script : goal.returns-clause-ended_script
-returns-clause-ended_script g c ok = (c.in-Ok.ensures.ok.whole c.in-Ok-open.ensures.ok.whole).1
-
--- ---- the policy follows the script, and the questions the policy
-pub returns-in-Err-clause-policy_order : goal.returns-in-Err-clause-policy_order
-returns-in-Err-clause-policy_order g c = inl refl
-
-pub returns-in-Err-open-clause-policy_order : goal.returns-in-Err-open-clause-policy_order
-returns-in-Err-open-clause-policy_order g c = inl refl
-
-pub returns-in-Err-read_policy-clause-policy_order : goal.returns-in-Err-read_policy-clause-policy_order
-returns-in-Err-read_policy-clause-policy_order g c = inr (c.in-Ok.ensures.ok.whole c.in-Ok-open.ensures.ok.whole).1
-
-pub returns-in-Err-serve_questions-clause-policy_order : goal.returns-in-Err-serve_questions-clause-policy_order
-returns-in-Err-serve_questions-clause-policy_order g c = inr (c.in-Ok.ensures.ok.whole c.in-Ok-open.ensures.ok.whole).1
-
-pub returns-clause-policy_order : goal.returns-clause-policy_order
-returns-clause-policy_order g c = inr (c.in-Ok.ensures.ok.whole c.in-Ok-open.ensures.ok.whole).1
-
-pub returns-in-Err-clause-questions_order : goal.returns-in-Err-clause-questions_order
-returns-in-Err-clause-questions_order g c = inl refl
-
-pub returns-in-Err-open-clause-questions_order : goal.returns-in-Err-open-clause-questions_order
-returns-in-Err-open-clause-questions_order g c = inl refl
-
-pub returns-in-Err-read_policy-clause-questions_order : goal.returns-in-Err-read_policy-clause-questions_order
-returns-in-Err-read_policy-clause-questions_order g c = inl refl
-
-pub returns-in-Err-serve_questions-clause-questions_order : goal.returns-in-Err-serve_questions-clause-questions_order
-returns-in-Err-serve_questions-clause-questions_order g c = inr (c.in-Ok-read_policy.ensures.ended refl)
-
-pub returns-clause-questions_order : goal.returns-clause-questions_order
-returns-clause-questions_order g c = inr (c.in-Ok-read_policy.ensures.ended refl)
+pub returns-clause-turned : goal.returns-clause-turned
+returns-clause-turned g c =
+    let source = turning (seen_by g.S.Source.told g.S.Source.remaining g.S.Source.lent) c.args.script.now c.open.new.source in
+    let policy = turning (seen_by g.P.Source.told g.P.Source.remaining g.P.Source.lent) c.args.policy.now c.read_policy.new.source in
+    let questions = turning (seen_by g.Q.Source.told g.Q.Source.remaining g.Q.Source.lent) c.args.questions.now c.serve_questions.new.questions in
+    turned_then c.args.turns source (policy ∷ questions ∷ []) _ _ _ None c.in-Ok.ensures.turned
+    (turned_then c.args.turns policy (questions ∷ []) _ _ _ None c.in-Ok-read_policy.ensures.turned c.in-Ok-serve_questions.ensures.turned)

@@ -4,6 +4,7 @@ use Rattle.std.proofs.lemmas.Result.{err_from_is_err_and}
 use Rattle.mst_io.proofs.Calls.{works_both}
 use Rattle.mst_engine.specs.Engine.{Tally, begun, does, tally_of, tallied, version_from}
 use Rattle.mst_engine.specs.Script.{version_of}
+use Rattle.mst_engine.specs.Steps.{texts_of}
 use Rattle.mst_engine.specs.declared.engine.Input.TheVariants.{Network}
 use Rattle.mst_print.specs.Shape.{of_script}
 use Rattle.mst_ask.specs.Lines.{lines_in}
@@ -20,6 +21,7 @@ loop-line-init g c =
     record {
       done = [];
       loading = subst (λ bytes. Loading shape lines (lines_in script.is_whole bytes) t []) (sym c.as_slice-left.ensures.value) (loading_begins shape lines t begins);
+      shorter = omega (arith, ap length c.as_slice-left.ensures.value);
       few = omega (arith, ap (λ (t : Tally). t.number) begins, ap length c.as_slice-left.ensures.value, c.requires.few);
       written = Appends-nil _;
       works = record { working = c.requires.working; taken = refl; each = omega arith };
@@ -36,6 +38,11 @@ returns-in_err-load_line-clause-err g c =
     rw p.1 (loading_breaks c.has_load.ensures.lines c.args.form (lines_in script.is_whole script.bytes.items) t was.done c.in-Some.line.now (lines_in script.is_whole c.loop-line.left.now) (lines_in script.is_whole c.in-Some.rest.now) h.0 _ _ _ c.in-Some.ensures.next was.loading
     (subst (λ shape. does (Network shape) t.version t.number t.state c.in-Some.line.now h.0) c.shape.ensures h.1) h.2 was.written h.3)
 
+pub returns-in_err-load_line-clause-some : goal.returns-in_err-load_line-clause-some
+returns-in_err-load_line-clause-some g c =
+    let p = err_from_is_err_and c.from_residual.result c.from_residual.ensures.1 in
+    rw p.1 (omega (arith, c.in-Some.ensures.shorter, c.loop-line.invariant.shorter))
+
 pub loop-line-preserved : goal.loop-line-preserved
 loop-line-preserved g c =
     let script = c.args.script.now in
@@ -48,6 +55,7 @@ loop-line-preserved g c =
       done = was.done ++ h.0 ∷ [];
       loading = loading_on (of_script c.args.form) (lines_in script.is_whole script.bytes.items) t u was.done line (lines_in script.is_whole c.loop-line.left.now) (lines_in script.is_whole c.in-Some.rest.now) h.0 c.in-Some.ensures.next was.loading
           (subst (λ shape. does (Network shape) t.version t.number t.state line h.0) c.shape.ensures h.1) (subst (λ shape. u ≡ tallied (Network shape) t line h.0) c.shape.ensures h.2);
+      shorter = omega (arith, c.in-Some.ensures.shorter, was.shorter);
       few = omega (arith, ap (λ (t : Tally). t.number) h.2, c.in-Some.ensures.shorter, was.few);
       written = texts_on _ _ _ was.done h.0 was.written h.3;
       works = works_both _ _ _ was.works c.in_ok-load_line.ensures.works;
@@ -61,13 +69,16 @@ returns-clause-ok g c =
     let left = lines_in script.is_whole c.loop-line.left.now in
     let was = c.loop-line.invariant in
     let t = tally_of c.loop-line.engine in
-    let none : left ≡ [] = c.in_default.ensures.next in
-    record {
-      loads = was.done;
-      loaded = loading_ends (of_script c.args.form) lines t was.done left none was.loading;
-      printed = was.written;
-      state = was.loading.state;
-      refused = was.loading.refused;
-      memory = was.loading.memory;
-      version = subst (λ l. version_from t.version l ≡ version_of lines) none was.loading.version;
-    }
+    let none : left ≡ [] = c.in_default.ensures.next in (
+      texts_of was.done,
+      record {
+        loads = was.done;
+        loaded = loading_ends (of_script c.args.form) lines t was.done left none was.loading;
+        printed = refl;
+        state = was.loading.state;
+        refused = was.loading.refused;
+        memory = was.loading.memory;
+        version = subst (λ l. version_from t.version l ≡ version_of lines) none was.loading.version;
+      },
+      was.written,
+    )

@@ -1,4 +1,4 @@
-use Rattle.std.proofs.Common.{◌≡◌, ◌<◌, ◌+◌, ◌^◌, List, length}
+use Rattle.std.proofs.Common.{◌≡◌, ◌<◌, ◌≤◌, ◌+◌, ◌^◌, List, length}
 use Rattle.std.specs.Io.KnownBytes.{Appends}
 use Rattle.mst_io.specs.Devices.{Works}
 use Rattle.mst_engine.specs.Engine.{tally_of}
@@ -12,6 +12,7 @@ abbrev pub invariant-loop-line : goal.invariant-loop-line
 invariant-loop-line g l = record {
   done : List Step;
   loading : Loading (of_script l.fn.form) (lines_in l.script.is_whole l.script.bytes.items) (lines_in l.script.is_whole l.left) (tally_of l.engine) done;
+  shorter : length l.left ≤ length l.script.bytes.items;
   few : l.engine.number + length l.left < 2 ^ 60;
   written : Appends (g.K.Sink.contents l.fn.sink) (g.K.Sink.contents l.sink) (texts_of done);
   works : Works (g.K.Sink.told l.fn.sink) (g.K.Sink.told l.sink);

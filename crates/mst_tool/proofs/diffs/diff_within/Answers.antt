@@ -1,173 +1,121 @@
-use Rattle.std.proofs.Common.{◌≡◌, ◌⊎◌, Result, Ok, Err, refl, sym, subst, ◌∙◌, inl, inr}
+use Rattle.std.proofs.Common.{refl, sym, subst, ◌∙◌, inl}
 use Rattle.std.specs.Io.KnownBytes.{Appends}
-use Rattle.mst_io.specs.Devices.{IsCut}
-use Rattle.mst_tool.specs.Diff.{Diffs, counted_both}
 use Rattle.mst_engine.specs.Engine.{tally_of}
-use Rattle.mst_print.specs.Shape.{of_old, of_new}
-use Rattle.mst_engine.specs.Served.{Served, ServedFront, ServedEnded}
 use Rattle.mst_io.specs.Written.{AppendsFront}
-use Rattle.mst_engine.specs.declared.engine.Input.TheVariants.{Network}
 use Rattle.mst_io.specs.declared.outcome.Outcome.{Outcome}
-use Rattle.mst_io.specs.declared.outcome.RunFault.{RunFault}
-use Rattle.mst_io.specs.declared.outcome.RunFault.TheVariants.{Read, Write}
-use Rattle.mst_io.proofs.Calls.{works_both, broken_after, stops_after, stops_working, works_unbroken, read_uncut}
-use Rattle.mst_tool.proofs.WholeDiff.{front_in_old, front_in_new, new_ended, both_scripts, both_whole, differs_front, diffs}
-use Rattle.mst_tool.proofs.WholeLoad.{loads_ended}
 use Rattle.mst_io.proofs.Chains.{Hears-none}
+use Rattle.mst_drive.specs.Words.{Wrote, two_inputs}
+use Rattle.mst_drive.proofs.Turned.{turned_broken, turned_lacking, turned_on, turned_stopped, turned_then}
+use Rattle.mst_drive.proofs.Words.{ended_fault, wrote_as}
+use Rattle.mst_print.specs.Shape.{of_old}
+use Rattle.mst_tool.specs.Diff.{Diffs, counted_both, differing}
+use Rattle.mst_tool.proofs.Faults.{err_of}
+use Rattle.mst_tool.proofs.WholeDiff.{Laws, both_front, both_scripts, diffs_front, diffs_whole, front_in_new, front_in_old, new_ended}
+use Rattle.mst_tool.proofs.WholeLoad.{loads_ended}
 use Rattle.mst_tool.proofs.diffs.diff_within.Goals as goal
 
-one_fault : (r : Result Outcome RunFault) (a b : RunFault) → r ≡ Err a → r ≡ Err b → a ≡ b
-one_fault r a b p q = cc
-
-not_read : (r : Result Outcome RunFault) → r ≡ Err Write → r ≡ Err Read → ⊥
-not_read r p q = cc
-
-not_err : (r : Result Outcome RunFault) (outcome : Outcome) (fault : RunFault) → r ≡ Ok outcome → r ≡ Err fault → ⊥
-not_err r outcome fault p q = cc
-
-pub returns-in-Err-clause-fault : goal.returns-in-Err-clause-fault
-returns-in-Err-clause-fault g c =
-    let olds = g.O.Source.remaining c.args.old.now in
+pub returns-in-Err-clause-ended : goal.returns-in-Err-clause-ended
+returns-in-Err-clause-ended g c =
+    let form = c.args.form in
+    let between = c.args.between in
+    let given = two_inputs (g.O.Source.remaining c.args.old.now) (g.N.Source.remaining c.args.new.now) in
+    let left = two_inputs (g.O.Source.remaining c.serve_first.new.source) (g.N.Source.remaining c.args.new.now) in
     let written = g.K.Sink.contents c.args.sink.now in
-    let now = g.K.Sink.contents c.serve_input.new.sink in
-    front_in_old (record { one = c.one_difference.ensures.one; some = c.one_difference.ensures.some }) c.one_load.ensures.same c.states.ensures.network c.has_load.ensures.script c.args.between c.args.form olds (g.N.Source.remaining c.args.new.now) written now
-    (subst (λ from. ServedFront (Network (of_old c.args.form)) from olds written now) c.new-before.ensures.empty c.in-Err.ensures.fault)
+    let now = g.K.Sink.contents c.serve_first.new.sink in
+    let laws : Laws = record { one = c.one_difference.ensures.one; some = c.one_difference.ensures.some } in
+    let one = c.one_load.ensures.same in
+    ended_fault (differing between form) given left written now c.in-Err.fault
+    (front_in_old laws one c.states.ensures.network between form given left written now c.has_load.ensures.script c.in-Err.ensures.fault)
+    (λ e. wrote_as written now _ ((differing between form).cut given left) (λ text h. inl (loads_ended one (of_old form) given.first left.first text h)) (c.in-Err.ensures.read (err_of e)))
+    (λ e. absurd (c.in-Err.ensures.memory (err_of e)))
 
-pub returns-in-Err-clause-read : goal.returns-in-Err-clause-read
-returns-in-Err-clause-read g c is =
-    let same = one_fault (Err c.in-Err.fault) c.in-Err.fault Read refl is in
-    let olds = g.O.Source.remaining c.args.old.now in
-    let left = g.O.Source.remaining c.serve_input.new.source in
-    let written = g.K.Sink.contents c.args.sink.now in
-    let now = g.K.Sink.contents c.serve_input.new.sink in
-    inl (loads_ended c.one_load.ensures.same (of_old c.args.form) olds left written now (subst (λ from. ServedEnded (Network (of_old c.args.form)) from olds left written now) c.new-before.ensures.empty (c.in-Err.ensures.read (λ i. Err (same i)))))
-
-pub returns-in-Err-serve_input-clause-fault : goal.returns-in-Err-serve_input-clause-fault
-returns-in-Err-serve_input-clause-fault g c =
-    let olds = g.O.Source.remaining c.args.old.now in
-    let news = g.N.Source.remaining c.args.new.now in
-    let written = g.K.Sink.contents c.args.sink.now in
-    let mid = g.K.Sink.contents c.serve_input.new.sink in
-    let now = g.K.Sink.contents c.serve_input-in-Ok.new.sink in
-    let t = tally_of c.serve_input.new.engine in
-    front_in_new c.one_load.ensures.same c.args.form olds news written mid t (subst (λ from. Served (Network (of_old c.args.form)) from olds written mid t) c.new-before.ensures.empty c.in-Ok.ensures.ok)
-    (record { one = c.one_difference.ensures.one; some = c.one_difference.ensures.some }) c.states.ensures.network c.args.between now
-    (subst (λ from. ServedFront (Network (of_new c.args.form)) from news mid now) c.new-after.ensures.empty c.in-Err-serve_input.ensures.fault)
-
-pub returns-in-Err-serve_input-clause-read : goal.returns-in-Err-serve_input-clause-read
-returns-in-Err-serve_input-clause-read g c is =
-    let same = one_fault (Err c.in-Err-serve_input.fault) c.in-Err-serve_input.fault Read refl is in
-    let olds = g.O.Source.remaining c.args.old.now in
-    let news = g.N.Source.remaining c.args.new.now in
-    let left = g.N.Source.remaining c.serve_input-in-Ok.new.source in
-    let written = g.K.Sink.contents c.args.sink.now in
-    let mid = g.K.Sink.contents c.serve_input.new.sink in
-    let now = g.K.Sink.contents c.serve_input-in-Ok.new.sink in
-    let t = tally_of c.serve_input.new.engine in
-    inr (new_ended c.one_load.ensures.same c.args.form olds news written mid t (subst (λ from. Served (Network (of_old c.args.form)) from olds written mid t) c.new-before.ensures.empty c.in-Ok.ensures.ok) left now
-    (subst (λ from. ServedEnded (Network (of_new c.args.form)) from news left mid now) c.new-after.ensures.empty (c.in-Err-serve_input.ensures.read (λ i. Err (same i)))))
-
-pub returns-in-Err-what_differs-clause-fault : goal.returns-in-Err-what_differs-clause-fault
-returns-in-Err-what_differs-clause-fault g c =
-    let olds = g.O.Source.remaining c.args.old.now in
-    let news = g.N.Source.remaining c.args.new.now in
-    let written = g.K.Sink.contents c.args.sink.now in
-    let mid = g.K.Sink.contents c.serve_input.new.sink in
-    let end = g.K.Sink.contents c.serve_input-in-Ok.new.sink in
-    let t = tally_of c.serve_input.new.engine in
-    let u = tally_of c.serve_input-in-Ok.new.engine in
-    both_whole c.one_load.ensures.same c.args.form olds news written mid t (subst (λ from. Served (Network (of_old c.args.form)) from olds written mid t) c.new-before.ensures.empty c.in-Ok.ensures.ok)
-    end u (subst (λ from. Served (Network (of_new c.args.form)) from news mid end u) c.new-after.ensures.empty c.in-Ok-serve_input.ensures.ok)
-    (record { one = c.one_difference.ensures.one; some = c.one_difference.ensures.some }) c.states.ensures.network c.args.between
-
-pub returns-in-Err-what_differs-clause-memory : goal.returns-in-Err-what_differs-clause-memory
-returns-in-Err-what_differs-clause-memory g c is =
-    let olds = g.O.Source.remaining c.args.old.now in
-    let news = g.N.Source.remaining c.args.new.now in
-    let written = g.K.Sink.contents c.args.sink.now in
-    let mid = g.K.Sink.contents c.serve_input.new.sink in
-    let end = g.K.Sink.contents c.serve_input-in-Ok.new.sink in
-    let t = tally_of c.serve_input.new.engine in
-    let u = tally_of c.serve_input-in-Ok.new.engine in
-    both_scripts c.one_load.ensures.same c.args.form olds news written mid t (subst (λ from. Served (Network (of_old c.args.form)) from olds written mid t) c.new-before.ensures.empty c.in-Ok.ensures.ok)
-    end u (subst (λ from. Served (Network (of_new c.args.form)) from news mid end u) c.new-after.ensures.empty c.in-Ok-serve_input.ensures.ok)
-
-pub returns-in-Err-put-clause-fault : goal.returns-in-Err-put-clause-fault
-returns-in-Err-put-clause-fault g c =
-    let olds = g.O.Source.remaining c.args.old.now in
-    let news = g.N.Source.remaining c.args.new.now in
-    let written = g.K.Sink.contents c.args.sink.now in
-    let mid = g.K.Sink.contents c.serve_input.new.sink in
-    let end = g.K.Sink.contents c.serve_input-in-Ok.new.sink in
-    let now = g.K.Sink.contents c.put.new.sink in
-    let t = tally_of c.serve_input.new.engine in
-    let u = tally_of c.serve_input-in-Ok.new.engine in
-    let found = c.in-Ok-what_differs.found in
-    let told = c.in-Ok-what_differs.ensures in
-    differs_front c.one_load.ensures.same c.args.form olds news written mid t (subst (λ from. Served (Network (of_old c.args.form)) from olds written mid t) c.new-before.ensures.empty c.in-Ok.ensures.ok)
-    end u (subst (λ from. Served (Network (of_new c.args.form)) from news mid end u) c.new-after.ensures.empty c.in-Ok-serve_input.ensures.ok)
-    c.args.between told.0 found.text.items told.2 now (record { one = c.one_difference.ensures.one; some = c.one_difference.ensures.some }) c.states.ensures.network (subst (AppendsFront end now) c.as_slice.ensures.value c.in-Err-put.ensures.err)
-
-pub returns-in-Err-put-clause-read_fault : goal.returns-in-Err-put-clause-read_fault
-returns-in-Err-put-clause-read_fault g c =
-    let works = works_both _ _ _ c.in-Ok.ensures.stops.1 c.in-Ok-serve_input.ensures.stops.1 in
-    (λ e. absurd (not_read _ refl e), λ h. absurd (works_unbroken _ _ h.1 (broken_after _ _ (g.K.Sink.told c.put.new.sink) works c.in-Err-put.ensures.broken.broken)))
-
-pub returns-in-Err-put-clause-write_fault : goal.returns-in-Err-put-clause-write_fault
-returns-in-Err-put-clause-write_fault g c =
-    let works = works_both _ _ _ c.in-Ok.ensures.stops.1 c.in-Ok-serve_input.ensures.stops.1 in
-    (λ e. broken_after _ _ (g.K.Sink.told c.put.new.sink) works c.in-Err-put.ensures.broken.broken, λ h. refl)
-
-pub returns-in-Err-put-clause-sink_calls : goal.returns-in-Err-put-clause-sink_calls
-returns-in-Err-put-clause-sink_calls g c =
-    let works = works_both _ _ _ c.in-Ok.ensures.stops.1 c.in-Ok-serve_input.ensures.stops.1 in
-    stops_after _ _ _ works c.in-Err-put.ensures.broken.calls
-
-pub returns-clause-read_fault : goal.returns-clause-read_fault
-returns-clause-read_fault g c = (λ e. absurd (not_err _ _ _ refl e), λ h. absurd (by h.0))
-  where
-    by : IsCut c.args.turns (g.O.Source.told c.args.old.now) (g.O.Source.told c.serve_input.new.source)
-        ⊎ IsCut c.args.turns (g.N.Source.told c.args.new.now) (g.N.Source.told c.serve_input-in-Ok.new.source) → ⊥
-    by (inl cut) = read_uncut c.args.turns _ _ c.in-Ok.ensures.stops.0 cut
-    by (inr cut) = read_uncut c.args.turns _ _ c.in-Ok-serve_input.ensures.stops.0 cut
-
-pub returns-clause-sink_calls : goal.returns-clause-sink_calls
-returns-clause-sink_calls g c =
-    let works = works_both _ _ _ c.in-Ok.ensures.stops.1 c.in-Ok-serve_input.ensures.stops.1 in
-    stops_working _ _ (works_both _ _ _ works c.in-Ok-put.ensures.works)
-
-pub returns-clause-ok : goal.returns-clause-ok
-returns-clause-ok g c =
-    let olds = g.O.Source.remaining c.args.old.now in
-    let news = g.N.Source.remaining c.args.new.now in
-    let written = g.K.Sink.contents c.args.sink.now in
-    let mid = g.K.Sink.contents c.serve_input.new.sink in
-    let end = g.K.Sink.contents c.serve_input-in-Ok.new.sink in
-    let now = g.K.Sink.contents c.put.new.sink in
-    let t = tally_of c.serve_input.new.engine in
-    let u = tally_of c.serve_input-in-Ok.new.engine in
-    let found = c.in-Ok-what_differs.found in
-    let told = c.in-Ok-what_differs.ensures in
-    subst (Diffs c.args.between c.args.form olds news written now) (sym (c.with_difference.ensures ∙ (λ i. counted_both (c.outcome-old_served.ensures i) (c.outcome-new_served.ensures i) found.differs)))
-    (diffs c.one_load.ensures.same c.args.form olds news written mid t (subst (λ from. Served (Network (of_old c.args.form)) from olds written mid t) c.new-before.ensures.empty c.in-Ok.ensures.ok)
-    end u (subst (λ from. Served (Network (of_new c.args.form)) from news mid end u) c.new-after.ensures.empty c.in-Ok-serve_input.ensures.ok)
-    c.args.between told.0 found.text.items told.2 now (record { one = c.one_difference.ensures.one; some = c.one_difference.ensures.some }) c.states.ensures.network found.differs told.1 (subst (Appends end now) c.as_slice.ensures.value c.in-Ok-put.ensures.ok))
+pub returns-in-Err-clause-turned : goal.returns-in-Err-clause-turned
+returns-in-Err-clause-turned g c = turned_stopped c.args.turns _ _ _ _ _ c.in-Err.ensures.turned (λ e. cc) (refl, c.requires.new, tt)
 
 pub returns-in-Err-clause-heard_new : goal.returns-in-Err-clause-heard_new
 returns-in-Err-clause-heard_new g c = Hears-none g.N.Source.hears c.args.new.now
 
--- ---- the new script follows the old one
-pub returns-in-Err-clause-order : goal.returns-in-Err-clause-order
-returns-in-Err-clause-order g c = inl refl
+-- ---- the new script
+pub returns-in-Err-serve_first-clause-ended : goal.returns-in-Err-serve_first-clause-ended
+returns-in-Err-serve_first-clause-ended g c =
+    let form = c.args.form in
+    let between = c.args.between in
+    let given = two_inputs (g.O.Source.remaining c.args.old.now) (g.N.Source.remaining c.args.new.now) in
+    let left = two_inputs (g.O.Source.remaining c.serve_first.new.source) (g.N.Source.remaining c.serve_first-in-Ok.new.source) in
+    let written = g.K.Sink.contents c.args.sink.now in
+    let mid = g.K.Sink.contents c.serve_first.new.sink in
+    let now = g.K.Sink.contents c.serve_first-in-Ok.new.sink in
+    let laws : Laws = record { one = c.one_difference.ensures.one; some = c.one_difference.ensures.some } in
+    let one = c.one_load.ensures.same in
+    let t = tally_of c.in-Ok.before.engine in
+    ended_fault (differing between form) given left written now c.in-Err-serve_first.fault
+    (front_in_new laws one c.states.ensures.network between form given left written now mid t c.in-Ok.ensures.ok c.in-Err-serve_first.ensures.fault)
+    (λ e. new_ended laws one c.states.ensures.network between form given left written now mid t c.in-Ok.ensures.ok (c.in-Err-serve_first.ensures.read (err_of e)))
+    (λ e. absurd (c.in-Err-serve_first.ensures.memory (err_of e)))
 
-pub returns-in-Err-serve_input-clause-order : goal.returns-in-Err-serve_input-clause-order
-returns-in-Err-serve_input-clause-order g c = inr c.in-Ok.ensures.stops.0
+pub returns-in-Err-serve_first-clause-turned : goal.returns-in-Err-serve_first-clause-turned
+returns-in-Err-serve_first-clause-turned g c = turned_then c.args.turns _ _ _ _ _ _ c.in-Ok.ensures.turned c.in-Err-serve_first.ensures.turned
 
-pub returns-in-Err-what_differs-clause-order : goal.returns-in-Err-what_differs-clause-order
-returns-in-Err-what_differs-clause-order g c = inr c.in-Ok.ensures.stops.0
+-- ---- what differs
+pub returns-in-Err-what_differs-clause-ended : goal.returns-in-Err-what_differs-clause-ended
+returns-in-Err-what_differs-clause-ended g c =
+    let form = c.args.form in
+    let between = c.args.between in
+    let given = two_inputs (g.O.Source.remaining c.args.old.now) (g.N.Source.remaining c.args.new.now) in
+    let left = two_inputs (g.O.Source.remaining c.serve_first.new.source) (g.N.Source.remaining c.serve_first-in-Ok.new.source) in
+    let written = g.K.Sink.contents c.args.sink.now in
+    let mid = g.K.Sink.contents c.serve_first.new.sink in
+    let end = g.K.Sink.contents c.serve_first-in-Ok.new.sink in
+    let laws : Laws = record { one = c.one_difference.ensures.one; some = c.one_difference.ensures.some } in
+    let one = c.one_load.ensures.same in
+    let t = tally_of c.in-Ok.before.engine in
+    let u = tally_of c.in-Ok-serve_first.after.engine in (
+      both_scripts laws one c.states.ensures.network between form given left written end mid t c.in-Ok.ensures.ok end u c.in-Ok-serve_first.ensures.ok,
+      both_front laws one c.states.ensures.network between form given left written end mid t c.in-Ok.ensures.ok end u c.in-Ok-serve_first.ensures.ok,
+    )
 
-pub returns-in-Err-put-clause-order : goal.returns-in-Err-put-clause-order
-returns-in-Err-put-clause-order g c = inr c.in-Ok.ensures.stops.0
+pub returns-in-Err-what_differs-clause-turned : goal.returns-in-Err-what_differs-clause-turned
+returns-in-Err-what_differs-clause-turned g c = turned_lacking c.args.turns _ _ _ (turned_then c.args.turns _ _ _ _ _ _ c.in-Ok.ensures.turned c.in-Ok-serve_first.ensures.turned)
 
-pub returns-clause-order : goal.returns-clause-order
-returns-clause-order g c = inr c.in-Ok.ensures.stops.0
+pub returns-in-Err-put-clause-ended : goal.returns-in-Err-put-clause-ended
+returns-in-Err-put-clause-ended g c =
+    let form = c.args.form in
+    let between = c.args.between in
+    let given = two_inputs (g.O.Source.remaining c.args.old.now) (g.N.Source.remaining c.args.new.now) in
+    let left = two_inputs (g.O.Source.remaining c.serve_first.new.source) (g.N.Source.remaining c.serve_first-in-Ok.new.source) in
+    let written = g.K.Sink.contents c.args.sink.now in
+    let mid = g.K.Sink.contents c.serve_first.new.sink in
+    let end = g.K.Sink.contents c.serve_first-in-Ok.new.sink in
+    let now = g.K.Sink.contents c.put.new.sink in
+    let laws : Laws = record { one = c.one_difference.ensures.one; some = c.one_difference.ensures.some } in
+    let t = tally_of c.in-Ok.before.engine in
+    let u = tally_of c.in-Ok-serve_first.after.engine in
+    let found = c.in-Ok-what_differs.found in
+    let is = c.in-Ok-what_differs.ensures in
+    diffs_front laws c.one_load.ensures.same c.states.ensures.network between form given left written now mid t c.in-Ok.ensures.ok end u c.in-Ok-serve_first.ensures.ok is.0 found.text.items found.differs is.2 is.1
+    (subst (AppendsFront end now) c.as_slice.ensures.value c.in-Err-put.ensures.err)
+
+pub returns-in-Err-put-clause-turned : goal.returns-in-Err-put-clause-turned
+returns-in-Err-put-clause-turned g c = turned_broken c.args.turns _ _ _ (turned_then c.args.turns _ _ _ _ _ _ c.in-Ok.ensures.turned c.in-Ok-serve_first.ensures.turned) _ c.in-Err-put.ensures.broken c.put.ensures.lent
+
+pub returns-clause-turned : goal.returns-clause-turned
+returns-clause-turned g c = turned_on c.args.turns _ _ _ (turned_then c.args.turns _ _ _ _ _ _ c.in-Ok.ensures.turned c.in-Ok-serve_first.ensures.turned) _ c.in-Ok-put.ensures.works c.put.ensures.lent
+
+pub returns-clause-ended : goal.returns-clause-ended
+returns-clause-ended g c =
+    let form = c.args.form in
+    let between = c.args.between in
+    let given = two_inputs (g.O.Source.remaining c.args.old.now) (g.N.Source.remaining c.args.new.now) in
+    let left = two_inputs (g.O.Source.remaining c.serve_first.new.source) (g.N.Source.remaining c.serve_first-in-Ok.new.source) in
+    let written = g.K.Sink.contents c.args.sink.now in
+    let mid = g.K.Sink.contents c.serve_first.new.sink in
+    let end = g.K.Sink.contents c.serve_first-in-Ok.new.sink in
+    let now = g.K.Sink.contents c.put.new.sink in
+    let laws : Laws = record { one = c.one_difference.ensures.one; some = c.one_difference.ensures.some } in
+    let t = tally_of c.in-Ok.before.engine in
+    let u = tally_of c.in-Ok-serve_first.after.engine in
+    let found = c.in-Ok-what_differs.found in
+    let is = c.in-Ok-what_differs.ensures in
+    subst (λ (outcome : Outcome). Wrote written now (λ text. Diffs between form given.first given.second text outcome)) (sym (c.with_difference.ensures ∙ (λ i. counted_both (c.outcome-old_served.ensures i) (c.outcome-new_served.ensures i) found.differs)))
+    (diffs_whole laws c.one_load.ensures.same c.states.ensures.network between form given left written now mid t c.in-Ok.ensures.ok end u c.in-Ok-serve_first.ensures.ok is.0 found.text.items found.differs is.2 is.1
+    (subst (Appends end now) c.as_slice.ensures.value c.in-Ok-put.ensures.ok))
