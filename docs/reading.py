@@ -22,7 +22,7 @@ import sys
 TOP = os.path.join(os.path.dirname(os.path.abspath(__file__)), os.pardir, "crates")
 CALLS = ["mst_tool::runs::run", "mst_tool::checks::check", "mst_vlan::topology::active_ports/named", "mst_vlan::topology::active_ports/joined"]
 ASKED = ["mst_tool::asks::ask", "mst_tool::diffs::diff"]
-STANDING = [f"mst_ask::asking::ask_within/{clause}" for clause in ("ok", "fault", "read", "memory")]
+STANDING = ["mst_ask::asking::ask_within/ended"]
 VERIFIED = ["mst_tool::verifies::verify"]
 ALTERED = ["mst_tool::alters::steps"]
 LOOPS = ["mst_vlan::laws::joined_without_loop"]
@@ -316,8 +316,9 @@ def of_page(given):
     with open(page, encoding="utf-8") as file:
         text = file.read()
     if option == "--update":
+        now = updated(text)
         with open(page, "w", encoding="utf-8") as file:
-            file.write(updated(text))
+            file.write(now)
         return
     found = list(faults(text))
     for fault in found:
