@@ -7,16 +7,16 @@ use Rattle.mst_ids.specs.declared.name.PortName.{PortName}
 use Rattle.mst_lag.specs.View.{LogicalPort, view_ports}
 use Rattle.mst_policy.specs.Items as policy
 use Rattle.mst_policy.specs.declared.expectation.Expectation.TheVariants as expect
-use Rattle.mst_roles.specs.net.Tables.{Net, port_eq}
+use Rattle.mst_net.specs.Tables.{Net, port_eq}
 use Rattle.mst_roles.specs.Roles.{forwards, role_in}
 use Rattle.mst_roles.specs.declared.kind.Role.{Role}
 use Rattle.mst_roles.specs.declared.kind.Role.TheVariants as role
-use Rattle.mst_roles.specs.trees.Outcome.{Outcome}
-use Rattle.mst_roles.specs.trees.Settled.{SettledNet, IsSettledNet, outcome_of}
+use Rattle.mst_trees.specs.Outcome.{Outcome}
+use Rattle.mst_trees.specs.Settled.{SettledNet, IsSettledNet, outcome_of}
 use Rattle.mst_roles.proofs.Named.{port_found, port_is, port_same}
-use Rattle.mst_roles.proofs.trees_lemmas.Lists.{no_some, some_is}
-use Rattle.mst_roles.proofs.trees_lemmas.Looking.{first_found}
-use Rattle.mst_roles.proofs.trees_lemmas.Seen.{port_there}
+use Rattle.mst_trees.proofs.Lists.{no_some, some_is}
+use Rattle.mst_trees.proofs.Looking.{first_found}
+use Rattle.mst_trees.proofs.Seen.{port_there}
 use Rattle.mst_verify.specs.Holds.{Holds, is_wanted}
 use Rattle.mst_verify.specs.Named.{is_enabled, is_port_named, stopped}
 use Rattle.mst_verify.proofs.RegionOf.{found_there}

@@ -2,10 +2,10 @@
 use Rattle.std.proofs.Common.{◌≡◌, ℕ, List, map, Option, Some, None, sym, ap, ◌∙◌}
 use Rattle.mst_lag.specs.View.{LogicalPort}
 use Rattle.mst_rows.specs.Rows.{Row}
-use Rattle.mst_roles.specs.net.Tables.{Net}
+use Rattle.mst_net.specs.Tables.{Net}
 use Rattle.mst_roles.specs.Roles.{role_in}
 use Rattle.mst_roles.specs.declared.kind.Role.{Role}
-use Rattle.mst_roles.specs.trees.Outcome.{Outcome}
+use Rattle.mst_trees.specs.Outcome.{Outcome}
 use Rattle.mst_explain.specs.Explained.{IsExplained}
 use Rattle.mst_summary.specs.diff.Roots.{each_once}
 use Rattle.mst_advise.specs.Candidates.{AreCandidates}

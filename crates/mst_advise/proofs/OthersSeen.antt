@@ -7,14 +7,14 @@ use Rattle.std.specs.FinMap as fin
 use Rattle.mst_graph.proofs.Members.{from_filter}
 use Rattle.mst_ids.specs.Identifiers.{bridge_id}
 use Rattle.mst_lag.specs.Aggregation.{same_name}
-use Rattle.mst_roles.specs.net.ByTree.{by_tree}
-use Rattle.mst_roles.specs.net.Tables.{Net, BridgeRow}
-use Rattle.mst_roles.specs.trees.InUse.{id_in}
-use Rattle.mst_roles.specs.trees.Outcome.{Outcome}
-use Rattle.mst_roles.proofs.trees_lemmas.Entries.{all_weaker}
-use Rattle.mst_roles.proofs.trees_lemmas.Lists.{all_contained, all_there, filter_mapped, mapped_twice}
-use Rattle.mst_roles.proofs.trees_lemmas.Looking.{filter_alike}
-use Rattle.mst_roles.proofs.trees_lemmas.Views.{bridges_are}
+use Rattle.mst_net.specs.ByTree.{by_tree}
+use Rattle.mst_net.specs.Tables.{Net, BridgeRow}
+use Rattle.mst_trees.specs.InUse.{id_in}
+use Rattle.mst_trees.specs.Outcome.{Outcome}
+use Rattle.mst_trees.proofs.Entries.{all_weaker}
+use Rattle.mst_trees.proofs.Lists.{all_contained, all_there, filter_mapped, mapped_twice}
+use Rattle.mst_trees.proofs.Looking.{filter_alike}
+use Rattle.mst_trees.proofs.Views.{bridges_are}
 use Rattle.mst_summary.specs.declared.roots.Follower.{Follower}
 use Rattle.mst_summary.proofs.Lists.{all_mapped}
 use Rattle.mst_verify.specs.Roots.{identifier}

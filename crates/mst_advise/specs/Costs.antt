@@ -5,11 +5,11 @@ use Rattle.std.specs.Option.{option_map_or}
 use Rattle.mst_ids.specs.declared.name.PortName.{PortName}
 use Rattle.mst_lag.specs.View.{LogicalPort, view_ports}
 use Rattle.mst_vector.specs.Rules.{is_cost}
-use Rattle.mst_roles.specs.net.ByTree.{by_tree}
-use Rattle.mst_roles.specs.net.Tables.{Net, port_eq}
-use Rattle.mst_roles.specs.trees.Cist.{cist_port}
-use Rattle.mst_roles.specs.trees.Msti.{is_internal, msti_port}
-use Rattle.mst_roles.specs.trees.Outcome.{Outcome}
+use Rattle.mst_net.specs.ByTree.{by_tree}
+use Rattle.mst_net.specs.Tables.{Net, port_eq}
+use Rattle.mst_trees.specs.Cist.{cist_port}
+use Rattle.mst_trees.specs.Msti.{is_internal, msti_port}
+use Rattle.mst_trees.specs.Outcome.{Outcome}
 use Rattle.mst_advise.specs.declared.contests.RootContest.{RootContest}
 use Rattle.mst_advise.specs.declared.setting.Setting.{Setting}
 use Rattle.mst_advise.specs.declared.setting.Setting.TheVariants.{ExternalCost, InternalCost}

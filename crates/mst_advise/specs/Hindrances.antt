@@ -3,10 +3,10 @@ use Rattle.std.specs.Prelude.{ℕ, ◌==◌, not, Bool, false, List, [], Option,
 use Rattle.std.specs.Option.{option_and_then, option_map_or}
 use Rattle.std.specs.FinMap as fin
 use Rattle.mst_lag.specs.View.{LogicalPort, is_on}
-use Rattle.mst_roles.specs.net.ByTree.{by_tree}
-use Rattle.mst_roles.specs.net.Tables.{Net}
-use Rattle.mst_roles.specs.trees.InUse.{id_in}
-use Rattle.mst_roles.specs.trees.Outcome.{Outcome}
+use Rattle.mst_net.specs.ByTree.{by_tree}
+use Rattle.mst_net.specs.Tables.{Net}
+use Rattle.mst_trees.specs.InUse.{id_in}
+use Rattle.mst_trees.specs.Outcome.{Outcome}
 use Rattle.mst_summary.specs.diff.Roots.{root_of}
 use Rattle.mst_verify.specs.Roots.{concerned}
 use Rattle.mst_advise.specs.Costs.{port_named}

@@ -1,6 +1,3 @@
-pub use Rattle.mst_roles.specs.net as net
-pub use Rattle.mst_roles.specs.trees as trees
-pub use Rattle.mst_verify.specs as verify
 pub mod Goals
 pub mod Settings
 pub mod Contests

@@ -4,8 +4,8 @@ use Rattle.std.specs.List.{list_all}
 use Rattle.mst_ids.specs.Identifiers.{bridge_id}
 use Rattle.mst_lag.specs.Aggregation.{same_name}
 use Rattle.mst_summary.specs.declared.roots.Follower.{Follower}
-use Rattle.mst_roles.specs.net.Tables.{Net}
-use Rattle.mst_roles.specs.trees.Outcome.{Outcome}
+use Rattle.mst_net.specs.Tables.{Net}
+use Rattle.mst_trees.specs.Outcome.{Outcome}
 use Rattle.mst_verify.specs.Seen.{concerned_followers}
 use Rattle.mst_advise.specs.declared.setting.Setting.{Setting}
 use Rattle.mst_advise.specs.declared.setting.Setting.TheVariants.{Priority}

@@ -1,11 +1,11 @@
 ghost use Rattle.std.specs.Prelude.{◌≡◌};
 ghost use Rattle.std.specs.List.{find};
 ghost use Rattle.std.specs.Option.{option_copied};
-ghost use Rattle.mst_roles.specs.net.Tables.{port_eq};
+ghost use Rattle.mst_net.specs.Tables.{port_eq};
 
 use mst_ids::PortName;
 use mst_lag::PortInView;
-use mst_roles::Settled;
+use mst_trees::Settled;
 
 /// The logical port of a name.
 pub fn port_named<'a>(plan: &'a Settled, name: &PortName) -> Option<&'a PortInView>

@@ -79,12 +79,14 @@ fn try_ahead<R: Rows>(
 ) -> Result<bool, AllocError>
     requires plan { IsPlan network.now.net network.now.numbers plan.now }
     requires ready { CanCommit ready.now network.now }
+    requires edit { ready.now ≡ its_edit setting.now }
     requires made { after_settings network.now.net (setting.now ∷ []) ≡ Ok (ahead_of network.now ready.now).net }
     ensures { IfOk result (λ found. (is : IsPlan network.now.net network.now.numbers plan.now)
         → (rows : List Row) × Tries goal.now network.now.net is.forest.outcome (setting.now ∷ []) found rows × Puts R.grew out.old out.new rows) }
 {
+    let edit = edit_of(*setting);
     let next = plan_beside(alloc, &network.ahead(ready), plan, false)?;
-    let settled = Settled::ahead(network, ready, &next.view, &next.forest);
+    let settled = Settled::ahead(network, &edit, &next.view, &next.forest);
     put_if_had(alloc, goal, from_ref(setting), plan, &next, &settled, out)
 }
 

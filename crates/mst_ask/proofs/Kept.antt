@@ -1,11 +1,10 @@
 -- The networks that the lines which are kept make, one after another.
 use Rattle.std.proofs.Common.{◌≡◌, ℕ, ◌+◌, ◌<◌, ◌≤◌, zero, suc, Bool, true, false, nat_eq, cond, List, [], ◌∷◌, ◌++◌, length, map, take, drop, Some, None, Result, Ok, Err, refl, sym, ap, ◌∙◌, arith, length-drop, take-append-drop, reverse, get_or, Vec}
 use Rattle.std.proofs.Math.Seq.{take-append_seam, drop-append_seam}
-use Rattle.std.specs.List.{take-map}
+use Rattle.std.specs.List.{take-map, AllByRecursion}
 use Rattle.std.specs.Global.{Global}
 use Rattle.std.proofs.lemmas.Grind.{common_steps}
 use Rattle.std.proofs.lemmas.List.{length-reverse, length-take, map-append, reverse-append, reverse-reverse, take_more}
-use Rattle.std.specs.List.{AllByRecursion}
 use Rattle.mst_lang.specs.Lines.{lines_of}
 use Rattle.mst_lang.specs.Ranges.{InRange}
 use Rattle.mst_lang.specs.Reading.{reading_as}

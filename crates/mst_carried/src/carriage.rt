@@ -39,7 +39,7 @@ impl<'a> Model for Carriage<'a> {
 
 impl<'a> Carriage<'a> {
     ghost use Rattle.std.specs.Prelude.{◌≡◌, ◌<◌, IfOk, false, length, map, slice_index_or};
-    ghost use Rattle.mst_roles.specs.net.Tables.{Net, Numbers};
+    ghost use Rattle.mst_net.specs.Tables.{Net, Numbers};
     ghost use Rattle.mst_roles.specs.trees.Agrees.{AreOf, Known};
     ghost use Rattle.mst_roles.specs.trees.Forest.{IsForest};
     ghost use Rattle.mst_vlan.specs.Reach.{AreReached};

@@ -2,8 +2,8 @@ ghost use Rattle.std.specs.Prelude.{◌≡◌, ◌+◌, ◌<◌, length, map, If
 ghost use Rattle.std.specs.List.{All};
 ghost use Rattle.mst_carried.specs.Kept.{seen_vlans, seen_row, link_at, HaveRows};
 
-use mst_classes::{numbers_of_vids, tables};
-use mst_graph::{Numbering, number_keys};
+use mst_classes::classes_by_tables;
+use mst_graph::Numbering;
 use mst_ids::{Vid, VidSet};
 use mst_lag::View;
 use mst_roles::Forest;
@@ -61,9 +61,7 @@ impl Rows {
     pub(crate) fn new(alloc: Global, view: &View, forest: &Forest) -> Result<Rows, AllocError>
         ensures { IfOk result (λ r. HaveRows view.now forest.now r.numbers.items (map (λ row. row.items) r.rows.items)) }
     {
-        let tables = tables(alloc, view)?;
-        let told = numbers_of_vids(alloc, tables.as_slice(), &[])?;
-        let Numbering { numbers, firsts } = number_keys(alloc, told)?;
+        let Numbering { numbers, firsts } = classes_by_tables(alloc, view)?;
         let rows = rows_of(alloc, view, forest, firsts.as_slice())?;
         Ok(Rows { numbers, rows })
     }

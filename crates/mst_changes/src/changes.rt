@@ -1,6 +1,6 @@
 ghost use Rattle.std.specs.Prelude.{◌≡◌, ◌<◌, ◌++◌, List, OnOk};
 ghost use Rattle.mst_rows.specs.Rows.{Row};
-ghost use Rattle.mst_roles.specs.net.Tables.{Net};
+ghost use Rattle.mst_net.specs.Tables.{Net};
 ghost use Rattle.mst_roles.specs.trees.InUse.{AreInUse};
 ghost use Rattle.mst_roles.specs.trees.Outcome.{Outcome};
 ghost use Rattle.mst_roles.specs.trees.Settled.{outcome_of};

@@ -1,6 +1,6 @@
 //! Laws of the rows of changes. Their functions do nothing: a caller has their clauses.
 ghost use Rattle.std.specs.Prelude.{◌≡◌, []};
-ghost use Rattle.mst_roles.specs.net.Tables.{Net, IsNetwork};
+ghost use Rattle.mst_net.specs.Tables.{Net, IsNetwork};
 ghost use Rattle.mst_roles.specs.trees.Outcome.{Outcome, IsOutcome};
 ghost use Rattle.mst_changes.specs.ChangesText.{all_changes};
 ghost use Rattle.mst_changes.specs.Kept.{entries_of};

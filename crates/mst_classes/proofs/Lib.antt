@@ -4,3 +4,4 @@ pub mod Starting
 pub mod Split
 pub mod Told
 pub mod Pairing
+pub mod Firsts

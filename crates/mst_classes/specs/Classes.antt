@@ -1,5 +1,5 @@
 -- Classes of VIDs that nothing in a network tells apart, or nothing in either of two.
-use Rattle.std.specs.Prelude.{ℕ, Bool, List, nat_eq}
+use Rattle.std.specs.Prelude.{ℕ, Bool, List, [], nat_eq}
 use Rattle.std.specs.List.{AllByRecursion, Contains}
 use Rattle.mst_graph.specs.Numbers.{AreNumbers}
 use Rattle.mst_graph.specs.declared.keys.Numbering.{Numbering}
@@ -15,6 +15,14 @@ pub record AreClasses (v : Viewed) (c : Numbering) : Type 0 where
   pub have_sets : AllByRecursion (λ p. Contains sets (vlans_in v.settings.vlans p.name)) v.ports
   pub numbers : List ℕ
   pub tell : TellApart tables sets numbers
+  pub classes : AreNumbers nat_eq numbers c.numbers.items c.firsts.items
+
+-- VIDs of one class have one tree in each table
+pub record AreClassesByTables (v : Viewed) (c : Numbering) : Type 0 where
+  pub tables : List (List ℕ)
+  pub have_tables : AllByRecursion (λ b. Contains tables (table_in v.settings.tables b.name)) v.bridges
+  pub numbers : List ℕ
+  pub tell : TellApart tables [] numbers
   pub classes : AreNumbers nat_eq numbers c.numbers.items c.firsts.items
 
 -- the tables and the sets of VLANs of a view are among these

@@ -13,7 +13,7 @@ use std::alloc::{AllocError, Global};
 ///
 /// Each table takes a step for each VID, and each set one for each of its VIDs and of 64 blocks. One that is given again
 /// takes no more than to find it.
-pub fn numbers_of_vids(
+pub(crate) fn numbers_of_vids(
     alloc: Global,
     tables: &[Table],
     sets: &[VidSet],

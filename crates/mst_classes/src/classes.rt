@@ -1,6 +1,6 @@
 ghost use Rattle.std.specs.Prelude.{◌<◌, IfOk};
 ghost use Rattle.std.specs.List.{All};
-ghost use Rattle.mst_classes.specs.Classes.{AreClasses, AreClassesOf};
+ghost use Rattle.mst_classes.specs.Classes.{AreClasses, AreClassesByTables, AreClassesOf};
 
 use crate::alike::numbers_of_vids;
 use crate::distinct::{meet_sets, meet_tables, tables, vlan_sets};
@@ -16,6 +16,15 @@ pub fn classes_of_vids(alloc: Global, view: &View) -> Result<Numbering, AllocErr
     let tables = tables(alloc, view)?;
     let sets = vlan_sets(alloc, view)?;
     let numbers = numbers_of_vids(alloc, tables.as_slice(), sets.as_slice())?;
+    number_keys(alloc, numbers)
+}
+
+/// Classes of VIDs that no table tells apart, whatever sets of VLANs they are in. `AllocError`: memory was wanted and refused.
+pub fn classes_by_tables(alloc: Global, view: &View) -> Result<Numbering, AllocError>
+    ensures { IfOk result (AreClassesByTables view.now) }
+{
+    let tables = tables(alloc, view)?;
+    let numbers = numbers_of_vids(alloc, tables.as_slice(), &[])?;
     number_keys(alloc, numbers)
 }
 

@@ -10,7 +10,7 @@ use mst_net::Table;
 use std::alloc::{AllocError, Global};
 
 /// The tables of the bridges, each once. `AllocError`: memory was wanted and refused.
-pub fn tables(alloc: Global, view: &View) -> Result<Vec<Table>, AllocError>
+pub(crate) fn tables(alloc: Global, view: &View) -> Result<Vec<Table>, AllocError>
     ensures { IfOk result (λ tables. AllByRecursion (λ b. Contains tables.items (table_in view.now.settings.tables b.name)) view.now.bridges) }
 {
     let mut met = IndexSet::new(alloc);
@@ -58,7 +58,7 @@ fn is_same(table: &Table, other: &Table) -> bool
 }
 
 /// The sets of VLANs of the logical ports, each once. `AllocError`: memory was wanted and refused.
-pub fn vlan_sets(alloc: Global, view: &View) -> Result<Vec<VidSet>, AllocError>
+pub(crate) fn vlan_sets(alloc: Global, view: &View) -> Result<Vec<VidSet>, AllocError>
     ensures { IfOk result (λ sets. AllByRecursion (λ p. Contains sets.items (vlans_in view.now.settings.vlans p.name)) view.now.ports) }
 {
     let mut met = IndexSet::new(alloc);

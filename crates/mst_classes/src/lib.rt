@@ -7,6 +7,4 @@ mod classes;
 mod distinct;
 mod splitting;
 
-pub use alike::numbers_of_vids;
-pub use classes::{classes_of_both, classes_of_vids};
-pub use distinct::{tables, vlan_sets};
+pub use classes::{classes_by_tables, classes_of_both, classes_of_vids};

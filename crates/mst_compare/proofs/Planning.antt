@@ -8,31 +8,30 @@ use Rattle.std.specs.FinMap as fin
 use Rattle.std.proofs.lemmas.Bool.{eqb-true}
 use Rattle.mst_ids.specs.declared.name.PortName.{PortName}
 use Rattle.mst_vector.specs.declared.cist.CistBridge.{CistBridge}
-use Rattle.mst_net.specs.Tables.{Net, Numbers, BridgeRow, IsNetwork, port_eq}
+use Rattle.mst_net.specs.Tables.{Net, Numbers, BridgeRow, port_eq}
 use Rattle.mst_net.specs.After.{table_of}
-use Rattle.mst_net.specs.Contents.{Contents, IsNumbered}
 use Rattle.mst_net.specs.ByTree.{by_tree, table_in}
 use Rattle.mst_net.specs.Seen.{bridge_row}
 use Rattle.mst_lag.specs.Trees.{mstis_of}
 use Rattle.mst_lag.specs.View.{LogicalPort, view_ports}
-use Rattle.mst_lag.specs.Viewed.{Viewed, IsView, named_port}
+use Rattle.mst_lag.specs.Viewed.{Viewed, named_port}
 use Rattle.mst_lag.specs.declared.in_view.BridgeInView.{BridgeInView}
 use Rattle.mst_lag.proofs.Placing.{pair_found}
 use Rattle.mst_config.specs.Regions.{region_of}
-use Rattle.mst_report.specs.trees.Sight.{named_bridge as bridge_in_sight}
-use Rattle.mst_report.specs.trees.Cist.{cist_bridge, cist_sight}
-use Rattle.mst_report.specs.trees.Outcome.{Outcome, IsOutcome}
-use Rattle.mst_report.specs.trees.Agrees.{AreOf}
-use Rattle.mst_report.specs.trees.Seen.{trees_at}
-use Rattle.mst_report.specs.trees.Forest.{IsForest}
-use Rattle.mst_report.specs.trees.Forest.{Forest}
-use Rattle.mst_report.proofs.trees_lemmas.Lists.{some_is, kept_in, all_contained}
-use Rattle.mst_report.proofs.trees_lemmas.Views.{IsPort, IsOn, ports_are, row_on, entry_there}
-use Rattle.mst_report.proofs.trees_lemmas.Seen.{SeenBridge, SeenPort, bridge_seen, port_seen, port_of_net}
-use Rattle.mst_report.proofs.trees_lemmas.Looking.{IsFirst, first_found}
-use Rattle.mst_report.specs.roles.Roles.{cist_role, role_in, role_of}
-use Rattle.mst_report.specs.roles.Seen.{seen_role}
-use Rattle.mst_report.proofs.roles_lemmas.Named.{own_role, port_same}
+use Rattle.mst_trees.specs.Sight.{named_bridge as bridge_in_sight}
+use Rattle.mst_trees.specs.Cist.{cist_bridge, cist_sight}
+use Rattle.mst_trees.specs.Outcome.{Outcome, IsOutcome}
+use Rattle.mst_trees.specs.Agrees.{AreOf}
+use Rattle.mst_trees.specs.Seen.{trees_at}
+use Rattle.mst_trees.specs.Forest.{IsForest, Forest}
+use Rattle.mst_trees.specs.Settled.{SettledNet, IsSettledNet, outcome_of}
+use Rattle.mst_trees.proofs.Lists.{some_is, kept_in, all_contained}
+use Rattle.mst_trees.proofs.Views.{IsPort, IsOn, ports_are, row_on, entry_there}
+use Rattle.mst_trees.proofs.Seen.{SeenBridge, SeenPort, bridge_seen, port_seen, port_of_net}
+use Rattle.mst_trees.proofs.Looking.{IsFirst, first_found}
+use Rattle.mst_roles.specs.Roles.{cist_role, role_in, role_of}
+use Rattle.mst_roles.specs.Seen.{seen_role}
+use Rattle.mst_roles.proofs.Named.{own_role, port_same}
 use Rattle.mst_bpdu.specs.Differences.{differences_of}
 use Rattle.mst_bpdu.specs.declared.bpdu.Bpdu.{Bpdu}
 use Rattle.mst_bpdu.specs.declared.difference.Difference.{Difference}
@@ -86,14 +85,12 @@ one_list_of net bpdu found others x y same =
     x.are ∙ ap (λ (p : Planned). differences_of p bpdu) plan ∙ sym y.are
 
 -- ---- under the numbers of records
--- what a planner shows is of one network
-pub of_contents : (c n : Contents) (v : Viewed) (f : Forest) → n ≡ c → IsNetwork n.net → IsNumbered n.net n.numbers → IsView c.net c.numbers v → IsForest c.net c.numbers f → AreOf c.net c.numbers v f.regions
-of_contents c n v f same network numbered view forest = record {
-  network = subst (λ (m : Contents). IsNetwork m.net) same network;
-  numbered = subst (λ (m : Contents). IsNumbered m.net m.numbers) same numbered;
-  view = view;
-  regions = forest.regions;
-}
+-- what a settled network shows belongs together
+pub settled_by : (s : SettledNet) → IsSettledNet s → (v : Viewed) (f : Forest) → v ≡ s.view → f ≡ s.forest → IsSettledNet (record { net = s.net; numbers = s.numbers; view = v; forest = f })
+settled_by s is v f seen grown = subst IsSettledNet (λ i. record { net = s.net; numbers = s.numbers; view = sym seen i; forest = sym grown i }) is
+
+pub forest_of : (s : SettledNet) → IsSettledNet s → IsForest s.net s.numbers s.forest
+forest_of s is = record { outcome = outcome_of s; is_outcome = is.is_outcome; cist = is.cist; mstis = is.mstis; regions = is.of.regions }
 
 module _ (net : Net) (numbers : Numbers) (v : Viewed) (f : Forest) (of : AreOf net numbers v f.regions) where
   -- the trees of a bridge

@@ -3,17 +3,16 @@ use Rattle.std.specs.Prelude.{ℕ, ◌==◌, Option, None, filter_map, if◌then
 use Rattle.std.specs.List.{find}
 use Rattle.std.specs.Option.{option_map, option_and_then}
 use Rattle.mst_ids.specs.Identifiers.{mac_of, port_number_of}
-use Rattle.mst_report.specs.settle.Assignment.{vector_of}
+use Rattle.mst_settle.specs.Assignment.{vector_of}
 use Rattle.mst_net.specs.Tables.{BridgeRow}
 use Rattle.mst_net.specs.ByTree.{table_in}
 use Rattle.mst_net.specs.Seen.{bridge_row}
 use Rattle.mst_lag.specs.Viewed.{Viewed, named_port}
 use Rattle.mst_lag.specs.declared.in_view.BridgeInView.{BridgeInView}
 use Rattle.mst_lag.specs.declared.in_view.PortInView.{PortInView}
-use Rattle.mst_report.specs.trees.Seen.{trees_at}
-use Rattle.mst_report.specs.trees.Forest.{msti_vector}
-use Rattle.mst_report.specs.trees.Forest.{Forest}
-use Rattle.mst_report.specs.roles.Seen.{seen_role}
+use Rattle.mst_trees.specs.Seen.{trees_at}
+use Rattle.mst_trees.specs.Forest.{msti_vector, Forest}
+use Rattle.mst_roles.specs.Seen.{seen_role}
 use Rattle.mst_bpdu.specs.Sender.{bridge_of, port_of}
 use Rattle.mst_bpdu.specs.declared.bpdu.Bpdu.{Bpdu}
 use Rattle.mst_bpdu.specs.declared.planned.Planned.{Planned}

@@ -1,4 +1,4 @@
-ghost use Rattle.std.specs.Prelude.{◌≡◌, true, Some, IfOk, IfErr, IsSome};
+ghost use Rattle.std.specs.Prelude.{◌≡◌, Some, IfOk, IfErr, IsSome};
 ghost use Rattle.mst_net.specs.Seen.{bridge_row};
 ghost use Rattle.mst_bpdu.specs.Differences.{differences_of};
 ghost use Rattle.mst_bpdu.specs.declared.planned.Planned.{Planned as PlannedOf};
@@ -12,7 +12,7 @@ use crate::senders::{Origin, sender_in};
 use mst_bpdu::{Bpdu, BpduFault, Difference, differences};
 use mst_lag::View;
 use mst_net::Contents;
-use mst_report::{Forest, Planner};
+use mst_trees::{Forest, Settled};
 use std::alloc::{AllocError, Global};
 
 /// Where a BPDU differs from what the plan has for the port that sent it, in the order in which fields are compared.
@@ -21,29 +21,27 @@ use std::alloc::{AllocError, Global};
 ///
 /// B07: the BPDU has no sender, as [`sender`](crate::sender) tells. B99: it has one, and memory was wanted and
 /// refused. There is no other fault.
-pub fn compare(alloc: Global, planner: &Planner, bpdu: &Bpdu) -> Result<Vec<Difference>, BpduFault>
-    requires { planner.now.is_settled ≡ true }
-    ensures found { IfOk result (λ found. AreDifferences planner.now.contents.net bpdu.now found.items) }
-    ensures fault { IfErr result (λ fault. fault ≡ fault_of (sender_of planner.now.contents.net bpdu.now)) }
+pub fn compare(alloc: Global, plan: &Settled, bpdu: &Bpdu) -> Result<Vec<Difference>, BpduFault>
+    ensures found { IfOk result (λ found. AreDifferences plan.now.net bpdu.now found.items) }
+    ensures fault { IfErr result (λ fault. fault ≡ fault_of (sender_of plan.now.net bpdu.now)) }
 {
     let mut digests = Digests::new(alloc);
-    compare_with(alloc, planner, &mut digests, bpdu)
+    compare_with(alloc, plan, &mut digests, bpdu)
 }
 
 /// The same as [`compare`], with the digests that are kept from other BPDUs, of this network or another.
 pub fn compare_with(
     alloc: Global,
-    planner: &Planner,
+    plan: &Settled,
     digests: &mut Digests,
     bpdu: &Bpdu,
 ) -> Result<Vec<Difference>, BpduFault>
-    requires { planner.now.is_settled ≡ true }
-    ensures found { IfOk result (λ found. AreDifferences planner.now.contents.net bpdu.now found.items) }
-    ensures fault { IfErr result (λ fault. fault ≡ fault_of (sender_of planner.now.contents.net bpdu.now)) }
+    ensures found { IfOk result (λ found. AreDifferences plan.now.net bpdu.now found.items) }
+    ensures fault { IfErr result (λ fault. fault ≡ fault_of (sender_of plan.now.net bpdu.now)) }
 {
-    planner.network().known();
-    let view = planner.view();
-    let forest = planner.forest();
+    plan.known();
+    let view = plan.view();
+    let forest = plan.forest();
     match sender_in(view, bpdu) {
         None => Err(BpduFault::B07),
         Some(sender) => match from_plan(alloc, view, forest, digests, &sender, bpdu) {

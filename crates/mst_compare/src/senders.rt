@@ -12,7 +12,7 @@ use mst_bpdu::Bpdu;
 use mst_ids::{Mac, Name, PortName};
 use mst_lag::{BridgeInView, PortInView, View};
 use mst_lang::Kind;
-use mst_report::Planner;
+use mst_trees::Settled;
 
 /// Who sent a BPDU: a bridge of the view, and a logical port of that bridge.
 #[derive(Clone, Copy)]
@@ -26,11 +26,11 @@ pub(crate) struct Origin {
 /// is off or has no such port that is enabled.
 ///
 /// It goes once over the bridges and once over the logical ports, and takes no memory.
-pub fn sender(planner: &Planner, bpdu: &Bpdu) -> Option<PortName>
-    requires { planner.now.is_settled ≡ true }
-    ensures { result ≡ sender_of planner.now.contents.net bpdu.now }
+pub fn sender(plan: &Settled, bpdu: &Bpdu) -> Option<PortName>
+    ensures { result ≡ sender_of plan.now.net bpdu.now }
 {
-    sender_name(planner.view(), bpdu)
+    plan.known();
+    sender_name(plan.view(), bpdu)
 }
 
 /// The name of the port that sent a BPDU, by a view.

@@ -8,10 +8,10 @@ use Rattle.std.specs.FinMap as fin
 use Rattle.std.proofs.lemmas.List.Sums.{length-filter}
 use Rattle.mst_net.specs.Tables.{Net, BridgeRow}
 use Rattle.mst_lag.specs.Aggregation.{same_name}
-use Rattle.mst_plan_text.specs.config.Regions.{first_of_region}
-use Rattle.mst_plan_text.specs.trees.Outcome.{Outcome}
-use Rattle.mst_plan_text.proofs.trees_lemmas.Entries.{all_weaker, entries_found}
-use Rattle.mst_plan_text.proofs.trees_lemmas.Lists.{all_kept, all_there, some_is, no_some}
+use Rattle.mst_config.specs.Regions.{first_of_region}
+use Rattle.mst_vlan.specs.trees.Outcome.{Outcome}
+use Rattle.mst_vlan.proofs.trees_lemmas.Entries.{all_weaker, entries_found}
+use Rattle.mst_vlan.proofs.trees_lemmas.Lists.{all_kept, all_there, some_is, no_some}
 use Rattle.mst_graph.proofs.Members.{here, in_whole, filter_none}
 use Rattle.mst_plan_text.specs.PlanText.{all_vids}
 use Rattle.mst_plan_text.proofs.OnePlan.{is_vid_there}

@@ -20,14 +20,14 @@ use Rattle.mst_net.proofs.Keyed.{flipped}
 use Rattle.mst_net.proofs.Keys.{names, ports}
 use Rattle.mst_lag.specs.Aggregation.{same_name}
 use Rattle.mst_lag.specs.View.{LogicalPort, view_ports}
-use Rattle.mst_plan_text.specs.config.Regions.{first_of_region}
-use Rattle.mst_plan_text.specs.trees.Outcome.{Outcome}
-use Rattle.mst_plan_text.proofs.trees_lemmas.Entries.{all_weaker, entries_found}
-use Rattle.mst_plan_text.proofs.trees_lemmas.Lists.{all_contained, all_kept, all_there, some_is, no_some}
-use Rattle.mst_plan_text.proofs.trees_lemmas.Views.{entry_there}
-use Rattle.mst_plan_text.specs.roles.Roles.{role_in, role_of}
-use Rattle.mst_plan_text.specs.roles.declared.kind.Role.{Role}
-use Rattle.mst_plan_text.specs.roles.declared.kind.Role.TheVariants.{Root, Designated, Alternate, Backup, Master, Disabled}
+use Rattle.mst_config.specs.Regions.{first_of_region}
+use Rattle.mst_vlan.specs.trees.Outcome.{Outcome}
+use Rattle.mst_vlan.proofs.trees_lemmas.Entries.{all_weaker, entries_found}
+use Rattle.mst_vlan.proofs.trees_lemmas.Lists.{all_contained, all_kept, all_there, some_is, no_some}
+use Rattle.mst_vlan.proofs.trees_lemmas.Views.{entry_there}
+use Rattle.mst_vlan.specs.roles.Roles.{role_in, role_of}
+use Rattle.mst_vlan.specs.roles.declared.kind.Role.{Role}
+use Rattle.mst_vlan.specs.roles.declared.kind.Role.TheVariants.{Root, Designated, Alternate, Backup, Master, Disabled}
 use Rattle.mst_plan_text.specs.PlanText.{all_vids}
 use Rattle.mst_plan_text.proofs.Grouped.{place_of_vid}
 use Rattle.mst_plan_text.proofs.OnePlan.{is_vid_there}

@@ -1,6 +1,3 @@
-pub use Rattle.mst_net.proofs as net_lemmas
-pub use Rattle.mst_plan_text.proofs.trees_lemmas as trees_lemmas
-pub use Rattle.mst_plan_text.proofs.roles_lemmas as roles_lemmas
 pub use Rattle.mst_changes.proofs as changes_lemmas
 pub use Rattle.mst_plan_text.proofs as plan_text_lemmas
 pub mod Lists

@@ -7,7 +7,7 @@ use Rattle.std.specs.FinMap as fin
 use Rattle.std.specs.FinMap.{get-entries}
 use Rattle.std.specs.FinMap.Entries as entries
 use Rattle.mst_ids.specs.Names.{name_cmp}
-use Rattle.mst_plan_text.specs.settle.Assignment.{vector_of}
+use Rattle.mst_vlan.specs.settle.Assignment.{vector_of}
 use Rattle.mst_net.specs.Tables.{Net, Numbers, BridgeRow}
 use Rattle.mst_net.specs.ByTree.{by_tree}
 use Rattle.mst_net.specs.Seen.{bridge_row}
@@ -18,18 +18,18 @@ use Rattle.mst_lag.specs.Aggregation.{same_name}
 use Rattle.mst_lag.specs.Trees.{is_among, mstis_of}
 use Rattle.mst_lag.specs.Viewed.{Viewed, named_bridge}
 use Rattle.mst_lag.specs.declared.in_view.BridgeInView.{BridgeInView}
-use Rattle.mst_plan_text.specs.config.Shared.{same_in}
-use Rattle.mst_plan_text.specs.config.Regions.{same_region, first_of_region}
-use Rattle.mst_plan_text.specs.trees.Agrees.{AreOf}
-use Rattle.mst_plan_text.specs.trees.Forest.{Forest, IsForest, msti_vector}
-use Rattle.mst_plan_text.specs.trees.InUse.{id_in}
-use Rattle.mst_plan_text.specs.trees.Msti.{has_msti}
-use Rattle.mst_plan_text.specs.trees.Outcome.{Outcome}
-use Rattle.mst_plan_text.specs.trees.Seen.{trees_at}
-use Rattle.mst_plan_text.proofs.trees_lemmas.Entries.{all_weaker}
-use Rattle.mst_plan_text.proofs.trees_lemmas.Lists.{mapped_twice}
-use Rattle.mst_plan_text.proofs.trees_lemmas.Looking.{has_tree_at}
-use Rattle.mst_plan_text.proofs.trees_lemmas.Seen.{SeenBridge, bridge_seen, bridges_seen}
+use Rattle.mst_config.specs.Shared.{same_in}
+use Rattle.mst_config.specs.Regions.{same_region, first_of_region}
+use Rattle.mst_vlan.specs.trees.Agrees.{AreOf}
+use Rattle.mst_vlan.specs.trees.Forest.{Forest, IsForest, msti_vector}
+use Rattle.mst_vlan.specs.trees.InUse.{id_in}
+use Rattle.mst_vlan.specs.trees.Msti.{has_msti}
+use Rattle.mst_vlan.specs.trees.Outcome.{Outcome}
+use Rattle.mst_vlan.specs.trees.Seen.{trees_at}
+use Rattle.mst_vlan.proofs.trees_lemmas.Entries.{all_weaker}
+use Rattle.mst_vlan.proofs.trees_lemmas.Lists.{mapped_twice}
+use Rattle.mst_vlan.proofs.trees_lemmas.Looking.{has_tree_at}
+use Rattle.mst_vlan.proofs.trees_lemmas.Seen.{SeenBridge, bridge_seen, bridges_seen}
 use Rattle.mst_changes.specs.Subjects.{bridge_names}
 use Rattle.mst_diff.specs.declared.roots.Identified.{Identified}
 use Rattle.mst_diff.specs.Roots.{root_of, named_by, root_name}

@@ -9,14 +9,14 @@ use Rattle.mst_graph.specs.Islands.{Island}
 use Rattle.mst_net.specs.Tables.{Net, Numbers}
 use Rattle.mst_lag.proofs.Lists.{map_itself}
 use Rattle.mst_lag.specs.Viewed.{Viewed}
-use Rattle.mst_plan_text.specs.trees.Agrees.{AreOf}
-use Rattle.mst_plan_text.specs.trees.Forest.{Forest}
-use Rattle.mst_plan_text.specs.trees.Outcome.{Outcome}
-use Rattle.mst_plan_text.proofs.trees_lemmas.Entries.{all_weaker}
-use Rattle.mst_plan_text.proofs.trees_lemmas.Lists.{all_there}
-use Rattle.mst_plan_text.specs.vlan.Reach.{bridges_on, lans_up, vid_links, AreReached}
-use Rattle.mst_plan_text.specs.vlan.declared.island.Island.{Island as IslandNos}
-use Rattle.mst_plan_text.proofs.vlan_lemmas.Renumbered.{bridge_listed}
+use Rattle.mst_vlan.specs.trees.Agrees.{AreOf}
+use Rattle.mst_vlan.specs.trees.Forest.{Forest}
+use Rattle.mst_vlan.specs.trees.Outcome.{Outcome}
+use Rattle.mst_vlan.proofs.trees_lemmas.Entries.{all_weaker}
+use Rattle.mst_vlan.proofs.trees_lemmas.Lists.{all_there}
+use Rattle.mst_vlan.specs.Reach.{bridges_on, lans_up, vid_links, AreReached}
+use Rattle.mst_vlan.specs.declared.island.Island.{Island as IslandNos}
+use Rattle.mst_vlan.proofs.Renumbered.{bridge_listed}
 use Rattle.mst_plan_text.specs.text.VlanSeen.{seen_bridge}
 use Rattle.mst_plan_text.proofs.text_lemmas.VlanListed.{by_number}
 use Rattle.mst_plan_text.proofs.text_lemmas.VlanNamed.{bridge_named}

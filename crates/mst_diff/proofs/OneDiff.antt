@@ -8,11 +8,11 @@ use Rattle.mst_graph.specs.Islands.{Island}
 use Rattle.mst_graph.proofs.Alike.{alike_groups}
 use Rattle.mst_graph.proofs.Members.{here, in_whole}
 use Rattle.mst_net.specs.Tables.{Net}
-use Rattle.mst_plan_text.specs.trees.Outcome.{Outcome}
-use Rattle.mst_plan_text.proofs.trees_lemmas.Entries.{all_weaker}
-use Rattle.mst_plan_text.proofs.trees_lemmas.Lists.{all_there}
-use Rattle.mst_plan_text.proofs.trees_lemmas.Looking.{filter_alike}
-use Rattle.mst_plan_text.specs.vlan.Reach.{AreIslandsOf}
+use Rattle.mst_vlan.specs.trees.Outcome.{Outcome}
+use Rattle.mst_vlan.proofs.trees_lemmas.Entries.{all_weaker}
+use Rattle.mst_vlan.proofs.trees_lemmas.Lists.{all_there}
+use Rattle.mst_vlan.proofs.trees_lemmas.Looking.{filter_alike}
+use Rattle.mst_vlan.specs.Reach.{AreIslandsOf}
 use Rattle.mst_plan_text.specs.PlanText.{all_vids}
 use Rattle.mst_plan_text.proofs.OnePlan.{vids_once, is_vid_there, OneGrouping}
 use Rattle.mst_rows.specs.Rows.{Row}

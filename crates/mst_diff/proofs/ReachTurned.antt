@@ -10,7 +10,7 @@ use Rattle.mst_graph.proofs.Alike.{alike_groups}
 use Rattle.mst_graph.proofs.Members.{here, there, in_whole}
 use Rattle.mst_net.specs.Tables.{Net}
 use Rattle.mst_lag.specs.Trees.{is_among}
-use Rattle.mst_plan_text.specs.trees.Outcome.{Outcome}
+use Rattle.mst_vlan.specs.trees.Outcome.{Outcome}
 use Rattle.mst_plan_text.specs.PlanText.{all_vids}
 use Rattle.mst_plan_text.proofs.OnePlan.{vids_once, is_vid_there, OneGrouping}
 use Rattle.mst_rows.specs.Cells as cells

@@ -11,11 +11,11 @@ use Rattle.mst_lag.proofs.Lists.{all_kept}
 use Rattle.mst_lag.specs.Aggregation.{same_name}
 use Rattle.mst_lag.specs.Viewed.{Viewed, named_bridge}
 use Rattle.mst_lag.specs.declared.in_view.BridgeInView.{BridgeInView}
-use Rattle.mst_plan_text.specs.config.Regions.{first_of_region}
-use Rattle.mst_plan_text.specs.trees.InUse.{is_in_use}
-use Rattle.mst_plan_text.specs.trees.Settled.{SettledNet, outcome_of, IsSettledNet}
-use Rattle.mst_plan_text.proofs.trees_lemmas.Entries.{all_weaker}
-use Rattle.mst_plan_text.proofs.trees_lemmas.Lists.{all_there, kept_same, no_some, some_is}
+use Rattle.mst_config.specs.Regions.{first_of_region}
+use Rattle.mst_vlan.specs.trees.InUse.{is_in_use}
+use Rattle.mst_vlan.specs.trees.Settled.{SettledNet, outcome_of, IsSettledNet}
+use Rattle.mst_vlan.proofs.trees_lemmas.Entries.{all_weaker}
+use Rattle.mst_vlan.proofs.trees_lemmas.Lists.{all_there, kept_same, no_some, some_is}
 use Rattle.mst_changes.specs.Subjects.{bridge_names}
 use Rattle.mst_changes.proofs.InUse.{unused, unused_by}
 use Rattle.mst_changes.proofs.Lists.{filter_map-map}

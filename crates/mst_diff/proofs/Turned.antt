@@ -17,14 +17,14 @@ use Rattle.mst_ids.specs.declared.name.PortName.{PortName}
 use Rattle.mst_net.specs.Tables.{Net, BridgeRow}
 use Rattle.mst_net.proofs.Keys.{names, ports}
 use Rattle.mst_lag.specs.Aggregation.{same_name}
-use Rattle.mst_plan_text.specs.config.Regions.{first_of_region}
-use Rattle.mst_plan_text.specs.trees.Apart.{Apart}
-use Rattle.mst_plan_text.specs.trees.Outcome.{Outcome}
-use Rattle.mst_plan_text.proofs.trees_lemmas.Entries.{all_weaker, entries_found}
-use Rattle.mst_plan_text.proofs.trees_lemmas.Lists.{apart_mapped}
-use Rattle.mst_plan_text.proofs.trees_lemmas.Views.{bridges_rise}
-use Rattle.mst_plan_text.specs.roles.Roles.{role_of}
-use Rattle.mst_plan_text.specs.roles.declared.kind.Role.{Role}
+use Rattle.mst_config.specs.Regions.{first_of_region}
+use Rattle.mst_vlan.specs.trees.Apart.{Apart}
+use Rattle.mst_vlan.specs.trees.Outcome.{Outcome}
+use Rattle.mst_vlan.proofs.trees_lemmas.Entries.{all_weaker, entries_found}
+use Rattle.mst_vlan.proofs.trees_lemmas.Lists.{apart_mapped}
+use Rattle.mst_vlan.proofs.trees_lemmas.Views.{bridges_rise}
+use Rattle.mst_vlan.specs.roles.Roles.{role_of}
+use Rattle.mst_vlan.specs.roles.declared.kind.Role.{Role}
 use Rattle.mst_plan_text.specs.PlanText.{all_vids}
 use Rattle.mst_plan_text.proofs.OnePlan.{is_vid_there}
 use Rattle.mst_changes.specs.declared.value.VectorOrRole.TheVariants.{HasRole}

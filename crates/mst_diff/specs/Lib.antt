@@ -1,8 +1,3 @@
-pub use Rattle.mst_net.specs as net
-pub use Rattle.mst_plan_text.specs.vector as vector
-pub use Rattle.mst_plan_text.specs.settle as settle
-pub use Rattle.mst_plan_text.specs.trees as trees
-pub use Rattle.mst_plan_text.specs.roles as roles
 pub use Rattle.mst_changes.specs as changes
 pub use Rattle.mst_plan_text.specs.text as text
 pub use Rattle.mst_plan_text.specs as plan_text

@@ -12,8 +12,8 @@ use Rattle.mst_lag.specs.Aggregation.{same_name}
 use Rattle.mst_lag.specs.Trees.{is_among}
 use Rattle.mst_rows.specs.Cells as cells
 use Rattle.mst_rows.specs.Rows.{Row, row_of}
-use Rattle.mst_plan_text.specs.trees.Outcome.{Outcome}
-use Rattle.mst_plan_text.specs.vlan.Reach.{AreIslandsOf}
+use Rattle.mst_vlan.specs.trees.Outcome.{Outcome}
+use Rattle.mst_vlan.specs.Reach.{AreIslandsOf}
 use Rattle.mst_plan_text.specs.PlanText.{all_vids}
 
 -- there is something in a list

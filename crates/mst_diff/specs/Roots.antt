@@ -8,9 +8,9 @@ use Rattle.mst_kinds.specs.declared.kind.Kind.TheVariants as kind
 use Rattle.mst_net.specs.Tables.{Net}
 use Rattle.mst_net.specs.ByTree.{by_tree}
 use Rattle.mst_lag.specs.Aggregation.{same_name}
-use Rattle.mst_plan_text.specs.trees.InUse.{id_in}
-use Rattle.mst_plan_text.specs.trees.Msti.{has_msti}
-use Rattle.mst_plan_text.specs.trees.Outcome.{Outcome}
+use Rattle.mst_vlan.specs.trees.InUse.{id_in}
+use Rattle.mst_vlan.specs.trees.Msti.{has_msti}
+use Rattle.mst_vlan.specs.trees.Outcome.{Outcome}
 use Rattle.mst_changes.specs.Subjects.{all_trees, bridge_names}
 use Rattle.mst_rows.specs.Cells.{number, word}
 use Rattle.mst_rows.specs.Rows.{Row, row_of}

@@ -5,18 +5,18 @@ use Rattle.std.specs.Map.{lookup}
 use Rattle.std.specs.Option.{option_map, unwrap_or}
 use Rattle.mst_net.specs.Seen.{bridge_row}
 use Rattle.mst_net.specs.Tables.{Net}
-use Rattle.mst_plan_text.specs.settle.Assignment.{vector_of}
+use Rattle.mst_vlan.specs.settle.Assignment.{vector_of}
 use Rattle.mst_lag.specs.Aggregation.{same_name}
 use Rattle.mst_lag.specs.Trees.{is_among}
 use Rattle.mst_lag.specs.Viewed.{Viewed}
 use Rattle.mst_lag.specs.declared.in_view.BridgeInView.{BridgeInView}
-use Rattle.mst_plan_text.specs.config.Regions.{first_of_region}
-use Rattle.mst_plan_text.specs.config.Shared.{same_in}
-use Rattle.mst_plan_text.specs.trees.Forest.{Forest, msti_vector}
-use Rattle.mst_plan_text.specs.trees.InUse.{id_in}
-use Rattle.mst_plan_text.specs.trees.Seen.{trees_at}
-use Rattle.mst_plan_text.specs.trees.Settled.{SettledNet, outcome_of}
-use Rattle.mst_plan_text.specs.vlan.declared.island.Island.{Island}
+use Rattle.mst_config.specs.Regions.{first_of_region}
+use Rattle.mst_config.specs.Shared.{same_in}
+use Rattle.mst_vlan.specs.trees.Forest.{Forest, msti_vector}
+use Rattle.mst_vlan.specs.trees.InUse.{id_in}
+use Rattle.mst_vlan.specs.trees.Seen.{trees_at}
+use Rattle.mst_vlan.specs.trees.Settled.{SettledNet, outcome_of}
+use Rattle.mst_vlan.specs.declared.island.Island.{Island}
 use Rattle.mst_plan_text.specs.text.VlanSeen.{seen_bridge}
 use Rattle.mst_changes.specs.PortChanges.{port_change_rows}
 use Rattle.mst_kinds.specs.declared.change_line.ChangeLine.TheVariants as change_line

@@ -2,7 +2,7 @@ ghost use Rattle.std.specs.Prelude.{◌≡◌};
 ghost use Rattle.mst_diff.specs.Seen.{with_trees};
 
 use mst_carried::Carriage;
-use mst_plan_text::Settled;
+use mst_vlan::Settled;
 
 /// Two settled networks, one before a change and one after it, each with the table of the ports that carry each VID.
 #[derive(Clone, Copy)]

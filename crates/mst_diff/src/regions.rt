@@ -1,7 +1,7 @@
 ghost use Rattle.std.specs.Prelude.{◌≡◌, ◌++◌, ◌∷◌, [], List, IfOk, OnOk, map};
 ghost use Rattle.std.specs.List.{AllByRecursion, Contains, flat_map};
 ghost use Rattle.mst_net.specs.Seen.{bridge_row};
-ghost use Rattle.mst_plan_text.specs.config.Regions.{first_of_region};
+ghost use Rattle.mst_config.specs.Regions.{first_of_region};
 ghost use Rattle.mst_rows.specs.Rows.{Row};
 ghost use Rattle.mst_diff.specs.Regions.{same_told, configuration as configuration_of, region_changes};
 ghost use Rattle.mst_diff.specs.Seen.{IsBoth, seen_found, region_of, row_of_region};
@@ -13,8 +13,8 @@ use mst_kinds::{ChangeLine, Kind as RowKind};
 use mst_lag::{BridgeInView, View};
 use mst_lang::Kind;
 use mst_net::Bridge;
-use mst_plan_text::{Forest, Settled};
 use mst_rows::{RegionSide, Rows, Value, put};
+use mst_vlan::{Forest, Settled};
 use std::alloc::{AllocError, Global};
 
 /// A bridge whose region is another one.

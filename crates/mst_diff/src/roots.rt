@@ -1,6 +1,6 @@
 ghost use Rattle.std.specs.Prelude.{◌≡◌, ◌++◌, ◌∷◌, [], List, IfOk, OnOk, filter_map, map};
 ghost use Rattle.std.specs.List.{AllByRecursion, Contains, flat_map, list_any};
-ghost use Rattle.mst_plan_text.specs.trees.Settled.{outcome_of};
+ghost use Rattle.mst_vlan.specs.trees.Settled.{outcome_of};
 ghost use Rattle.mst_rows.specs.Rows.{Row};
 ghost use Rattle.mst_diff.specs.Roots.{root_of as root_in, root_name as root_name_in, same_pair, with_new, each_once, root_unless};
 ghost use Rattle.mst_diff.specs.Seen.{IsBoth, seen_root, seen_named, name_by, pair_of, with_pair, roots_of, row_of_root};
@@ -11,8 +11,8 @@ use mst_changes::Planned;
 use mst_ids::{BridgeId, BridgeNo, Name, Tree};
 use mst_kinds::{ChangeLine, Kind};
 use mst_lag::{BridgeInView, View};
-use mst_plan_text::{Settled, bridge_id};
 use mst_rows::{Rows, Value, put};
+use mst_vlan::{Settled, bridge_id};
 use std::alloc::{AllocError, Global};
 
 /// A bridge's identifier in a tree, and its name.

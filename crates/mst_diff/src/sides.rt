@@ -1,7 +1,7 @@
 ghost use Rattle.std.specs.Prelude.{◌≡◌, ◌++◌, ℕ, List, IfOk, OnOk, map, false};
 ghost use Rattle.mst_graph.specs.Islands.{Island as NamedIsland};
-ghost use Rattle.mst_plan_text.specs.trees.Settled.{outcome_of};
-ghost use Rattle.mst_plan_text.specs.vlan.Reach.{AreIslandsOf};
+ghost use Rattle.mst_vlan.specs.trees.Settled.{outcome_of};
+ghost use Rattle.mst_vlan.specs.Reach.{AreIslandsOf};
 ghost use Rattle.mst_diff.specs.Met.{AreMet};
 ghost use Rattle.mst_diff.specs.Reach.{has_any, island_bridges, no_sides, sides_of as sides_between, without};
 ghost use Rattle.mst_diff.specs.Seen.{apart_group, one_group, seen_groups, seen_sides, with_trees, AreSidesOf};
@@ -11,7 +11,8 @@ use indexmap::IndexSet;
 use mst_carried::Carriage;
 use mst_ids::{Name, Vid};
 use mst_lag::View;
-use mst_plan_text::{Island, Settled, bridge_names};
+use mst_plan_text::bridge_names;
+use mst_vlan::{Island, Settled};
 use std::alloc::{AllocError, Global};
 
 /// The islands of a VID before that aren't there afterwards, and those afterwards that weren't there before, each by its

@@ -6,7 +6,7 @@ use crate::carriages::Carriages;
 use mst_carried::differing;
 use mst_ids::Name;
 use mst_lag::View;
-use mst_plan_text::vlan_laws::islands_of_vid;
+use mst_vlan::laws::islands_of_vid;
 use std::alloc::{AllocError, Global};
 
 /// The names of the bridges that are on.

@@ -7,9 +7,9 @@ use Rattle.mst_lang.specs.declared.line.Line.{Line}
 use Rattle.mst_lang.specs.declared.line.Line.TheVariants.{Blank}
 use Rattle.mst_lang.specs.declared.line.Version.{Version}
 use Rattle.mst_lang.specs.declared.line.Version.TheVariants.{V1, V2}
-use Rattle.mst_compare.specs.bpdu.Reading.{reading as captured, octets_of}
-use Rattle.mst_compare.specs.bpdu.declared.fault.BpduFault.TheVariants.{B01}
-use Rattle.mst_compare.specs.report.State.{State}
+use Rattle.mst_bpdu.specs.Reading.{reading as captured, octets_of}
+use Rattle.mst_bpdu.specs.declared.fault.BpduFault.TheVariants.{B01}
+use Rattle.mst_report.specs.State.{State}
 use Rattle.mst_engine.specs.Captures.{ServesCapture, ServesMessage, capture_of, is_skipped}
 use Rattle.mst_engine.specs.Engine.{RunsOn}
 use Rattle.mst_io.specs.Held.{hold, lines_held}

@@ -1,14 +1,14 @@
 -- Captured messages have one comparison with a plan by those that lack memory, and one without.
 use Rattle.std.proofs.Common.{◌≡◌, ℕ, ◌+◌, Bool, true, false, List, [], ◌∷◌, Option, Some, None, Result, Ok, Err, refl, sym, ap, subst, ◌∙◌}
 use Rattle.mst_ids.specs.declared.name.PortName.{PortName}
-use Rattle.mst_compare.specs.bpdu.declared.bpdu.Bpdu.{Bpdu}
-use Rattle.mst_compare.specs.bpdu.declared.difference.Difference.{Difference}
-use Rattle.mst_compare.specs.bpdu.declared.fault.BpduFault.{BpduFault}
-use Rattle.mst_compare.specs.bpdu.declared.fault.BpduFault.TheVariants.{B07}
+use Rattle.mst_bpdu.specs.declared.bpdu.Bpdu.{Bpdu}
+use Rattle.mst_bpdu.specs.declared.difference.Difference.{Difference}
+use Rattle.mst_bpdu.specs.declared.fault.BpduFault.{BpduFault}
+use Rattle.mst_bpdu.specs.declared.fault.BpduFault.TheVariants.{B07}
 use Rattle.mst_net.specs.Tables.{Net, IsNetwork}
 use Rattle.mst_compare.specs.Comparison.{AreDifferences}
 use Rattle.mst_compare.specs.Sender.{sender_of}
-use Rattle.mst_compare.specs.report.State.{State, IsState}
+use Rattle.mst_report.specs.State.{State, IsState}
 use Rattle.mst_engine.specs.Captures.{Compares, ServesCapture, ServesMessage, ServesSent, capture_of, compared, faulty}
 use Rattle.mst_engine.specs.Steps.{Step, RunsBy, silent, lacks_of, lacking_of}
 use Rattle.mst_print.specs.declared.form.Form.{Form}

@@ -15,9 +15,9 @@ use Rattle.mst_net.specs.declared.refusal.Refusal.{Refusal}
 use Rattle.mst_net.specs.Refusals as refusal
 use Rattle.mst_net.specs.Tables.{Net, IsNetwork, empty_net}
 use Rattle.mst_net.specs.After.{after}
-use Rattle.mst_compare.specs.changes.declared.subject.Entry.{Entry}
-use Rattle.mst_compare.specs.report.Answers.{Answers}
-use Rattle.mst_compare.specs.report.State.{State, IsState, IsMark, IsMarkNow, empty_state}
+use Rattle.mst_changes.specs.declared.subject.Entry.{Entry}
+use Rattle.mst_report.specs.Answers.{Answers}
+use Rattle.mst_report.specs.State.{State, IsState, IsMark, IsMarkNow, empty_state}
 use Rattle.mst_rows.specs.Rows.{Row}
 use Rattle.mst_engine.specs.Script.{ServesRead, loading, reading_at, refused, edited, marked, answered}
 use Rattle.mst_engine.specs.Steps.{Step, RunsBy, silent, left_by, lacks_of, lacking_of, differing_of}

@@ -2,8 +2,8 @@
 use Rattle.std.proofs.Common.{◌≡◌, ◌⊎◌, ℕ, ◌+◌, ◌<◌, ◌^◌, cond, List, [], ◌∷◌, ◌++◌, Option, None, refl, sym, ap, subst, ◌∙◌, arith, add-zero, append-nil, inl, inr}
 use Rattle.std.proofs.lemmas.List.Sums.{sum_by-cons}
 use Rattle.std.specs.Io.KnownBytes.{Appends}
-use Rattle.mst_compare.specs.report.Planned.{planned_state}
-use Rattle.mst_compare.specs.report.State.{State, IsState}
+use Rattle.mst_report.specs.Planned.{planned_state}
+use Rattle.mst_report.specs.State.{State, IsState}
 use Rattle.mst_lang.specs.Lines.{last_line, no_line}
 use Rattle.mst_io.specs.Held.{lines_held}
 use Rattle.mst_io.specs.Written.{AppendsFront, Reads}

@@ -4,7 +4,7 @@ use Rattle.std.proofs.lemmas.List.Sums.{sum_by-cons}
 use Rattle.mst_lang.specs.declared.line.Line.{Line}
 use Rattle.mst_lang.specs.declared.line.Fault.{Fault}
 use Rattle.mst_lang.specs.declared.line.Version.{Version}
-use Rattle.mst_compare.specs.report.State.{State, IsState}
+use Rattle.mst_report.specs.State.{State, IsState}
 use Rattle.mst_engine.specs.Captures.{ServesCapture, Compares}
 use Rattle.mst_engine.specs.Engine.{version_from, known_after, does, RunsOn}
 use Rattle.mst_engine.specs.Script.{Serves, ServesRead, Loads, reading_at, version_said}

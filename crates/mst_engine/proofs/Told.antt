@@ -2,8 +2,8 @@
 use Rattle.std.proofs.Common.{◌≡◌, ℕ, List, Some, Ok, ap}
 use Rattle.mst_lang.specs.declared.line.Line.TheVariants.{Query as query}
 use Rattle.mst_lang.specs.declared.line.Query.{Query}
-use Rattle.mst_compare.specs.report.Answers.{Answers}
-use Rattle.mst_compare.specs.report.State.{State}
+use Rattle.mst_report.specs.Answers.{Answers}
+use Rattle.mst_report.specs.State.{State}
 use Rattle.mst_rows.specs.Rows.{Row}
 use Rattle.mst_engine.specs.Script.{ServesRead, starved}
 use Rattle.mst_print.specs.Shape.{shown, query_row}

@@ -4,12 +4,12 @@ use Rattle.std.specs.List.{list_all}
 use Rattle.std.proofs.lemmas.Bool.{and_parts}
 use Rattle.std.proofs.lemmas.List.Sums.{sum_by-cons}
 use Rattle.mst_ids.specs.declared.name.PortName.{PortName}
-use Rattle.mst_compare.specs.bpdu.Reading.{reading}
-use Rattle.mst_compare.specs.bpdu.declared.bpdu.Bpdu.{Bpdu}
-use Rattle.mst_compare.specs.bpdu.declared.difference.Difference.{Difference}
-use Rattle.mst_compare.specs.bpdu.declared.fault.BpduFault.{BpduFault}
+use Rattle.mst_bpdu.specs.Reading.{reading}
+use Rattle.mst_bpdu.specs.declared.bpdu.Bpdu.{Bpdu}
+use Rattle.mst_bpdu.specs.declared.difference.Difference.{Difference}
+use Rattle.mst_bpdu.specs.declared.fault.BpduFault.{BpduFault}
 use Rattle.mst_compare.specs.Sender.{sender_of}
-use Rattle.mst_compare.specs.report.State.{State}
+use Rattle.mst_report.specs.State.{State}
 use Rattle.mst_engine.specs.Captures.{Compares, ServesMessage, ServesSent, capture_of, compared, is_skipped}
 use Rattle.mst_engine.specs.Steps.{Step, RunsBy, answers_of, differing_of, lacks_of, refusals_of, silent}
 use Rattle.mst_print.specs.declared.form.Form.{Form}

@@ -4,15 +4,15 @@ use Rattle.std.specs.Prelude.{◌≡◌, ℕ, Bool, true, false, not, ◌==◌, 
 use Rattle.std.specs.List.{find}
 use Rattle.std.specs.Option.{option_map_or}
 use Rattle.mst_ids.specs.declared.name.PortName.{PortName}
-use Rattle.mst_compare.specs.bpdu.Reading.{reading}
-use Rattle.mst_compare.specs.bpdu.CaptureText.{comparison_rows, fault_row}
-use Rattle.mst_compare.specs.bpdu.declared.bpdu.Bpdu.{Bpdu}
-use Rattle.mst_compare.specs.bpdu.declared.difference.Difference.{Difference}
-use Rattle.mst_compare.specs.bpdu.declared.fault.BpduFault.{BpduFault}
-use Rattle.mst_compare.specs.bpdu.declared.fault.BpduFault.TheVariants.{B07, B99}
+use Rattle.mst_bpdu.specs.Reading.{reading}
+use Rattle.mst_bpdu.specs.CaptureText.{comparison_rows, fault_row}
+use Rattle.mst_bpdu.specs.declared.bpdu.Bpdu.{Bpdu}
+use Rattle.mst_bpdu.specs.declared.difference.Difference.{Difference}
+use Rattle.mst_bpdu.specs.declared.fault.BpduFault.{BpduFault}
+use Rattle.mst_bpdu.specs.declared.fault.BpduFault.TheVariants.{B07, B99}
 use Rattle.mst_compare.specs.Comparison.{AreDifferences}
 use Rattle.mst_compare.specs.Sender.{sender_of}
-use Rattle.mst_compare.specs.report.State.{State}
+use Rattle.mst_report.specs.State.{State}
 use Rattle.mst_lang.specs.Words.{is_blank}
 use Rattle.mst_print.specs.Shape.{listed}
 use Rattle.mst_print.specs.declared.form.Form.{Form}

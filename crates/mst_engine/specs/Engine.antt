@@ -1,13 +1,13 @@
 -- What is kept from line to line.
 use Rattle.std.specs.Prelude.{◌≡◌, ℕ, ◌+◌, ◌≤◌, Bool, true, false, List, [], ◌∷◌, Option, Some, None, if◌then◌else◌}
-use Rattle.mst_compare.specs.report.State.{State}
-use Rattle.mst_compare.specs.report.Planned.{planned_state}
+use Rattle.mst_report.specs.State.{State}
+use Rattle.mst_report.specs.Planned.{planned_state}
 use Rattle.mst_lang.specs.Faults as fault
 use Rattle.mst_lang.specs.declared.line.Version.{Version}
 use Rattle.mst_net.specs.Refusals as refusal
 use Rattle.mst_net.specs.declared.refusal.Refusal.TheVariants.{E99}
-use Rattle.mst_compare.specs.bpdu.CaptureText.{fault_row}
-use Rattle.mst_compare.specs.bpdu.declared.fault.BpduFault.TheVariants.{B99}
+use Rattle.mst_bpdu.specs.CaptureText.{fault_row}
+use Rattle.mst_bpdu.specs.declared.fault.BpduFault.TheVariants.{B99}
 use Rattle.mst_engine.specs.Captures.{ServesCapture, Compares}
 use Rattle.mst_engine.specs.Script.{Serves, Loads, version_of}
 use Rattle.mst_print.specs.Shape.{of_script, coded, listed}

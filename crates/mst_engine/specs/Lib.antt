@@ -1,7 +1,6 @@
-pub use Rattle.mst_net.specs as net
-pub use Rattle.mst_compare.specs.diff as diff
-pub use Rattle.mst_compare.specs.sweep as sweep
-pub use Rattle.mst_compare.specs.report as report
+pub use Rattle.mst_report.specs.diff as diff
+pub use Rattle.mst_report.specs.sweep as sweep
+pub use Rattle.mst_report.specs as report
 pub mod Steps
 pub mod Script
 pub mod Captures

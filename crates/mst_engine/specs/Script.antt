@@ -15,9 +15,9 @@ use Rattle.mst_net.specs.declared.refusal.Refusal.TheVariants.{E99}
 use Rattle.mst_net.specs.Refusals as refusal
 use Rattle.mst_net.specs.Tables.{Net}
 use Rattle.mst_net.specs.After.{after}
-use Rattle.mst_compare.specs.changes.declared.subject.Entry.{Entry}
-use Rattle.mst_compare.specs.report.Answers.{Answers}
-use Rattle.mst_compare.specs.report.State.{State, IsMarkNow, empty_state}
+use Rattle.mst_changes.specs.declared.subject.Entry.{Entry}
+use Rattle.mst_report.specs.Answers.{Answers}
+use Rattle.mst_report.specs.State.{State, IsMarkNow, empty_state}
 use Rattle.mst_print.specs.Shape.{of_script, coded, shown, query_row}
 use Rattle.mst_rows.specs.Rows.{Row}
 use Rattle.mst_engine.specs.Steps.{Step, RunsBy, silent, printed}

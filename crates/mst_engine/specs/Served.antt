@@ -1,7 +1,7 @@
 -- What serving an input promises.
 use Rattle.std.specs.Prelude.{◌≡◌, ℕ, ◌+◌, ◌<◌, ◌^◌, List, Option, None}
 use Rattle.std.specs.Io.KnownBytes.{Consumes}
-use Rattle.mst_compare.specs.report.State.{State}
+use Rattle.mst_report.specs.State.{State}
 use Rattle.mst_lang.specs.Lines.{lines_of, ended_lines}
 use Rattle.mst_engine.specs.Steps.{Step, left_by, texts_of, refusals_of, lacks_of, differing_of, answers_of}
 use Rattle.mst_io.specs.Written.{Reads}

@@ -1,6 +1,6 @@
 -- The lines of an input that an engine serves, as a job.
 use Rattle.std.specs.Prelude.{◌≡◌, ℕ, ◌+◌, List, []}
-use Rattle.mst_compare.specs.report.Planned.{planned_state}
+use Rattle.mst_report.specs.Planned.{planned_state}
 use Rattle.mst_engine.specs.Engine.{IsCounted, IsReady, RunsOn, reply_text, shape_of, tally_of}
 use Rattle.mst_engine.specs.Steps.{Step, left_by, texts_of, refusals_of, lacks_of, differing_of, answers_of}
 use Rattle.mst_engine.specs.declared.serving.Replied.{Replied}

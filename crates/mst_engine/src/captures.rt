@@ -2,9 +2,9 @@ ghost use Rattle.std.specs.Prelude.{◌≡◌, not, true, false, Ok, Some, IfOk}
 ghost use Rattle.std.specs.List.{find, flat_map};
 ghost use Rattle.std.specs.Option.{option_copied};
 ghost use Rattle.mst_compare.specs.Sender.{sender_of};
-ghost use Rattle.mst_compare.specs.bpdu.CaptureText.{comparison_rows};
-ghost use Rattle.mst_compare.specs.report.Planned.{planned_state};
-ghost use Rattle.mst_compare.specs.report.State.{State};
+ghost use Rattle.mst_bpdu.specs.CaptureText.{comparison_rows};
+ghost use Rattle.mst_report.specs.Planned.{planned_state};
+ghost use Rattle.mst_report.specs.State.{State};
 ghost use Rattle.mst_engine.specs.Captures.{is_skipped as skipped, ServesCapture, ServesMessage, ServesSent, compared};
 ghost use Rattle.mst_engine.specs.Engine.{shape_of, replied};
 ghost use Rattle.mst_engine.specs.declared.engine.Input.TheVariants.{Captures};
@@ -14,13 +14,13 @@ ghost use Rattle.mst_rows.specs.Answers.{record_line};
 ghost use Rattle.mst_rows.specs.Lines.{row_line};
 
 use crate::engine::Reply;
+use mst_bpdu::{Bpdu, BpduFault, Difference, put_comparison, read_line};
 use mst_compare::laws::has_list;
-use mst_compare::{
-    Bpdu, BpduFault, Difference, Digests, Planner, compare_with, put_comparison, read_line, sender,
-};
+use mst_compare::{Digests, compare_with, sender};
 use mst_ids::PortName;
 use mst_io::is_blank;
 use mst_print::Form;
+use mst_report::Planner;
 use mst_rows::JsonLines;
 use std::alloc::{AllocError, Global};
 
@@ -74,7 +74,8 @@ fn compare_bpdu(
     requires { planner.now.is_settled ≡ true }
     ensures { ServesMessage form number (planned_state planner.now) (Some (Ok bpdu.now)) (replied (shape_of (Captures form)) number (planned_state planner.now) result) }
 {
-    match sender(planner, bpdu) {
+    let plan = planner.settled();
+    match sender(&plan, bpdu) {
         None => Reply::Faulty(BpduFault::B07),
         Some(port) => compare_sent(alloc, planner, digests, form, number, &port, bpdu),
     }
@@ -96,7 +97,8 @@ fn compare_sent(
 {
     planner.known();
     has_list();
-    match compare_with(alloc, planner, digests, bpdu) {
+    let plan = planner.settled();
+    match compare_with(alloc, &plan, digests, bpdu) {
         Err(_) => Reply::Uncompared,
         Ok(differences) => match told(alloc, form, number, port, differences.as_slice()) {
             Err(_) => Reply::Uncompared,

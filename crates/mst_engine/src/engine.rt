@@ -1,10 +1,10 @@
 ghost use Rattle.std.specs.Prelude.{◌≡◌, ◌^◌, ◌<◌, true, false, [], ◌∷◌, Ok, IfOk, OnOk, OnErr};
 ghost use Rattle.std.specs.Io.KnownBytes.{Appends};
 ghost use Rattle.mst_lang.specs.declared.line.Line.TheVariants.{Mark, Query as query};
-ghost use Rattle.mst_compare.specs.report.Answers.{asks_plan as is_of_plan};
-ghost use Rattle.mst_compare.specs.report.Planned.{planned_state};
-ghost use Rattle.mst_compare.specs.report.Refusing.{HasRows};
-ghost use Rattle.mst_compare.specs.report.State.{empty_state};
+ghost use Rattle.mst_report.specs.Answers.{asks_plan as is_of_plan};
+ghost use Rattle.mst_report.specs.Planned.{planned_state};
+ghost use Rattle.mst_report.specs.Refusing.{HasRows};
+ghost use Rattle.mst_report.specs.State.{empty_state};
 ghost use Rattle.mst_io.specs.Devices.{Works, IsStopped};
 ghost use Rattle.mst_io.specs.Written.{AppendsFront};
 ghost use Rattle.mst_engine.specs.Script.{PrintsAnswer, ServesRead, Serves, Loads, reading_at, version_said as said};
@@ -12,12 +12,14 @@ ghost use Rattle.mst_print.specs.Shape.{of_script};
 ghost use Rattle.mst_engine.specs.Engine.{IsReady, shape_of, version_from, does, begun, tally_of, tallied, outcome_of, reply_text, replied};
 
 use crate::captures::compare_line;
-use mst_compare::report_laws::entries_of_network;
-use mst_compare::{BpduFault, Digests, Planner, asks_plan};
+use mst_bpdu::BpduFault;
+use mst_compare::Digests;
 use mst_io::{Outcome, Sink, WriteFailed, put};
 use mst_lang::{Fault, Line, Query, Version, is_version_2, parse_line_as};
 use mst_net::Refusal;
 use mst_print::{Form, Printer, Shape, Side, put_coded, put_fault, put_refusal};
+use mst_report::laws::entries_of_network;
+use mst_report::{Planner, asks_plan};
 use std::alloc::{AllocError, Global};
 
 /// What lines come from, by which they are served.

@@ -6,7 +6,7 @@ ghost use Rattle.mst_lang.specs.declared.line.Query.{Query};
 ghost use Rattle.mst_lang.specs.declared.line.Version.{Version};
 ghost use Rattle.mst_net.specs.Tables.{Net, IsNetwork};
 ghost use Rattle.mst_net.specs.declared.refusal.Refusal.{Refusal};
-ghost use Rattle.mst_compare.specs.report.State.{State, IsState, empty_state};
+ghost use Rattle.mst_report.specs.State.{State, IsState, empty_state};
 ghost use Rattle.mst_lang.specs.Lines.{lines_of};
 ghost use Rattle.mst_save.specs.Saved.{saved_edits};
 ghost use Rattle.mst_save.specs.SaveText.{save_text, IsShort};
@@ -21,9 +21,9 @@ ghost use Rattle.mst_print.specs.declared.form.Form.{Form};
 ghost use Rattle.mst_print.specs.declared.form.Shape.{Shape};
 
 use mst_compare::laws::{has_list, one_list};
-use mst_compare::report_laws::{entries_of_network, has_answer, one_answer};
 use mst_lang::laws::edits_in_range;
 use mst_net::laws::networks;
+use mst_report::laws::{entries_of_network, has_answer, one_answer};
 use mst_save::laws::restored;
 
 /// Every script has a run in which no line meets want of memory, in each form, and so have any lines of each version, the

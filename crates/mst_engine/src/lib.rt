@@ -11,5 +11,5 @@ pub mod laws;
 mod serving;
 
 pub use engine::{Engine, Input, Reply, print, serve};
-pub use mst_compare::{Differing, Planner, SweepPart, Unexplained, report_laws, trees_laws};
+pub use mst_report::{Planner, Unexplained, laws as report_laws};
 pub use serving::{Replied, Serving, serve_input};

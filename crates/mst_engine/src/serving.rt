@@ -1,5 +1,5 @@
 ghost use Rattle.std.specs.Prelude.{◌≡◌, ◌≢◌, ◌≤◌, ◌^◌, ◌∷◌, [], false, Err, OnOk, OnErr};
-ghost use Rattle.mst_compare.specs.report.Planned.{planned_state};
+ghost use Rattle.mst_report.specs.Planned.{planned_state};
 ghost use Rattle.mst_drive.specs.Turned.{Turned, turning};
 ghost use Rattle.mst_drive.specs.Words.{Wrote, WroteFront};
 ghost use Rattle.mst_io.specs.Devices.{Hears, seen_by, stopped_by};

@@ -9,13 +9,13 @@ use Rattle.mst_topology.specs.Topology.{TreePort, Topology, IsTopology, HasBridg
 use Rattle.mst_topology.specs.Settled.{IsDesignatedVector, IsDesignated}
 use Rattle.mst_topology.proofs.Below.{one_speaker}
 use Rattle.mst_topology.proofs.Orders.{both}
-use Rattle.mst_roles.specs.net.Tables.{Net, IsNetwork}
+use Rattle.mst_net.specs.Tables.{Net, IsNetwork}
 use Rattle.mst_lag.specs.View.{LogicalPort, view_ports}
-use Rattle.mst_roles.specs.trees.Sight.{Sight, tree_port, tree_of}
-use Rattle.mst_roles.specs.trees.Outcome.{TreeOutcome, IsTreeOutcome}
-use Rattle.mst_roles.proofs.trees_lemmas.Lists.{no_some, all_contained}
-use Rattle.mst_roles.proofs.trees_lemmas.Views.{IsPort, ports_are}
-use Rattle.mst_roles.proofs.trees_lemmas.Sights.{IsSight, bridge_in, port_in, port_from, is_topology}
+use Rattle.mst_trees.specs.Sight.{Sight, tree_port, tree_of}
+use Rattle.mst_trees.specs.Outcome.{TreeOutcome, IsTreeOutcome}
+use Rattle.mst_trees.proofs.Lists.{no_some, all_contained}
+use Rattle.mst_trees.proofs.Views.{IsPort, ports_are}
+use Rattle.mst_trees.proofs.Sights.{IsSight, bridge_in, port_in, port_from, is_topology}
 use Rattle.mst_rows.specs.Rows.{Row}
 use Rattle.mst_explain.specs.declared.claims.Claim.{Claim}
 use Rattle.mst_explain.specs.Claims.{told_rows}

@@ -8,15 +8,15 @@ use Rattle.mst_ids.specs.declared.name.PortName.{PortName}
 use Rattle.mst_vector.specs.Rules.{Rules, IsMetric}
 use Rattle.mst_topology.specs.Topology.{Topology, IsTopology}
 use Rattle.mst_topology.specs.Settled.{Settled}
-use Rattle.mst_roles.specs.net.Tables.{Net, Numbers}
+use Rattle.mst_net.specs.Tables.{Net, Numbers}
 use Rattle.mst_lag.specs.View.{LogicalPort, view_ports}
 use Rattle.mst_lag.specs.Viewed.{Viewed, named_port}
 use Rattle.mst_lag.specs.declared.in_view.PortInView.{PortInView}
-use Rattle.mst_roles.specs.trees.Sight.{Sight, tree_of, named_bridge}
-use Rattle.mst_roles.specs.trees.Outcome.{TreeOutcome, IsTreeOutcome}
-use Rattle.mst_roles.specs.trees.Agrees.{AreOf}
-use Rattle.mst_roles.proofs.trees_lemmas.Sights.{IsSight}
-use Rattle.mst_roles.proofs.trees_lemmas.Seen.{port_seen, port_of_net}
+use Rattle.mst_trees.specs.Sight.{Sight, tree_of, named_bridge}
+use Rattle.mst_trees.specs.Outcome.{TreeOutcome, IsTreeOutcome}
+use Rattle.mst_trees.specs.Agrees.{AreOf}
+use Rattle.mst_trees.proofs.Sights.{IsSight}
+use Rattle.mst_trees.proofs.Seen.{port_seen, port_of_net}
 use Rattle.mst_rows.specs.Rows.{Row}
 use Rattle.mst_explain.specs.Explained.{TellsRoot, TellsContest}
 use Rattle.mst_explain.specs.Fields.{Field}

@@ -16,15 +16,15 @@ use Rattle.mst_topology.specs.Topology.{TreePort, Topology, IsTopology, HasBridg
 use Rattle.mst_topology.specs.Settled.{IsDesignatedVector, Designates, IsRootPathVector}
 use Rattle.mst_topology.proofs.Below.{one_message, one_speaker, one_designated}
 use Rattle.mst_topology.proofs.Orders.{both}
-use Rattle.mst_roles.specs.net.Tables.{Net, IsNetwork}
+use Rattle.mst_net.specs.Tables.{Net, IsNetwork}
 use Rattle.mst_lag.specs.View.{LogicalPort}
-use Rattle.mst_roles.specs.trees.Cist.{cist_sight, cist_of}
-use Rattle.mst_roles.specs.trees.Msti.{msti_sight, msti_of, is_internal}
-use Rattle.mst_roles.specs.trees.Outcome.{TreeOutcome, Outcome}
-use Rattle.mst_roles.proofs.trees_lemmas.Lists.{some_is}
-use Rattle.mst_roles.proofs.trees_lemmas.Sights.{has_port_ids}
-use Rattle.mst_roles.proofs.trees_lemmas.CistTopology.{cist_is_sight, cist_topology}
-use Rattle.mst_roles.proofs.trees_lemmas.MstiTopology.{msti_is_sight, msti_topology}
+use Rattle.mst_trees.specs.Cist.{cist_sight, cist_of}
+use Rattle.mst_trees.specs.Msti.{msti_sight, msti_of, is_internal}
+use Rattle.mst_trees.specs.Outcome.{TreeOutcome, Outcome}
+use Rattle.mst_trees.proofs.Lists.{some_is}
+use Rattle.mst_trees.proofs.Sights.{has_port_ids}
+use Rattle.mst_trees.proofs.CistTopology.{cist_is_sight, cist_topology}
+use Rattle.mst_trees.proofs.MstiTopology.{msti_is_sight, msti_topology}
 use Rattle.mst_roles.specs.Roles.{cist_role}
 use Rattle.mst_rows.specs.Rows.{Row}
 use Rattle.mst_explain.specs.declared.lines.Contest.{Contest}

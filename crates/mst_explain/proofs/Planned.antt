@@ -13,23 +13,23 @@ use Rattle.mst_vector.specs.declared.msti.MstiBridge.{MstiBridge}
 use Rattle.mst_vector.specs.declared.msti.MstiPort.{MstiPort}
 use Rattle.mst_vector.specs.declared.msti.MstiVector.{MstiVector}
 use Rattle.mst_settle.specs.Assignment.{vector_of, designated_of}
-use Rattle.mst_roles.specs.net.Tables.{BridgeRow}
-use Rattle.mst_roles.specs.net.ByTree.{by_tree}
-use Rattle.mst_roles.specs.net.Seen.{bridge_row}
+use Rattle.mst_net.specs.Tables.{BridgeRow}
+use Rattle.mst_net.specs.ByTree.{by_tree}
+use Rattle.mst_net.specs.Seen.{bridge_row}
 use Rattle.mst_lag.specs.Viewed.{named_port}
 use Rattle.mst_lag.specs.declared.in_view.BridgeInView.{BridgeInView}
 use Rattle.mst_lag.specs.declared.in_view.PortInView.{PortInView}
-use Rattle.mst_roles.specs.trees.Cist.{cist_bridge, cist_port, cist_sight, cist_of}
-use Rattle.mst_roles.specs.trees.Msti.{msti_bridge, msti_port, msti_sight, msti_of, has_msti, is_internal}
-use Rattle.mst_roles.specs.trees.Outcome.{Outcome}
-use Rattle.mst_roles.specs.trees.Agrees.{Agrees}
-use Rattle.mst_roles.specs.trees.Seen.{seen_internal}
-use Rattle.mst_roles.specs.trees.Forest.{msti_vector, msti_designated}
-use Rattle.mst_roles.specs.trees.Settled.{SettledNet, outcome_of, IsSettledNet}
-use Rattle.mst_roles.proofs.trees_lemmas.CistTopology.{cist_is_sight}
-use Rattle.mst_roles.proofs.trees_lemmas.MstiTopology.{msti_is_sight}
-use Rattle.mst_roles.proofs.trees_lemmas.Seen.{SeenBridge, SeenPort, bridge_seen, port_seen}
-use Rattle.mst_roles.proofs.trees_lemmas.Looking.{internal_same, has_tree_at}
+use Rattle.mst_trees.specs.Cist.{cist_bridge, cist_port, cist_sight, cist_of}
+use Rattle.mst_trees.specs.Msti.{msti_bridge, msti_port, msti_sight, msti_of, has_msti, is_internal}
+use Rattle.mst_trees.specs.Outcome.{Outcome}
+use Rattle.mst_trees.specs.Agrees.{Agrees}
+use Rattle.mst_trees.specs.Seen.{seen_internal}
+use Rattle.mst_trees.specs.Forest.{msti_vector, msti_designated}
+use Rattle.mst_trees.specs.Settled.{SettledNet, outcome_of, IsSettledNet}
+use Rattle.mst_trees.proofs.CistTopology.{cist_is_sight}
+use Rattle.mst_trees.proofs.MstiTopology.{msti_is_sight}
+use Rattle.mst_trees.proofs.Seen.{SeenBridge, SeenPort, bridge_seen, port_seen}
+use Rattle.mst_trees.proofs.Looking.{internal_same, has_tree_at}
 use Rattle.mst_explain.specs.Fields.{cist_fields, msti_fields}
 use Rattle.mst_explain.specs.Explained.{TellsContest}
 use Rattle.mst_explain.specs.Seen.{TreeSeen, CanStep, contest_rows}

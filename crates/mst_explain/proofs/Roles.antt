@@ -16,19 +16,19 @@ use Rattle.mst_topology.specs.Topology.{TreePort, Topology, IsTopology, HasBridg
 use Rattle.mst_topology.specs.Settled.{IsDesignatedVector, Designates, IsDesignated, IsVectorOf}
 use Rattle.mst_topology.proofs.Below.{one_speaker, one_designated}
 use Rattle.mst_topology.proofs.Orders.{both}
-use Rattle.mst_roles.specs.net.Tables.{Net, IsNetwork, port_eq}
-use Rattle.mst_roles.specs.net.ByTree.{by_tree}
+use Rattle.mst_net.specs.Tables.{Net, IsNetwork, port_eq}
+use Rattle.mst_net.specs.ByTree.{by_tree}
 use Rattle.mst_lag.specs.Aggregation.{same_name}
 use Rattle.mst_lag.specs.View.{LogicalPort, view_ports}
-use Rattle.mst_roles.specs.trees.Sight.{Sight, tree_port, tree_of}
-use Rattle.mst_roles.specs.trees.Cist.{cist_port, cist_sight, cist_of}
-use Rattle.mst_roles.specs.trees.Msti.{msti_port, msti_sight, msti_of, has_msti, is_internal}
-use Rattle.mst_roles.specs.trees.Outcome.{TreeOutcome, IsTreeOutcome, Outcome, IsOutcome}
-use Rattle.mst_roles.proofs.trees_lemmas.Lists.{some_is, no_some, all_contained}
-use Rattle.mst_roles.proofs.trees_lemmas.Views.{IsPort, ports_are}
-use Rattle.mst_roles.proofs.trees_lemmas.Sights.{IsSight, bridge_in, port_in, port_from, is_topology, has_port_ids}
-use Rattle.mst_roles.proofs.trees_lemmas.CistTopology.{cist_is_sight}
-use Rattle.mst_roles.proofs.trees_lemmas.MstiTopology.{msti_is_sight}
+use Rattle.mst_trees.specs.Sight.{Sight, tree_port, tree_of}
+use Rattle.mst_trees.specs.Cist.{cist_port, cist_sight, cist_of}
+use Rattle.mst_trees.specs.Msti.{msti_port, msti_sight, msti_of, has_msti, is_internal}
+use Rattle.mst_trees.specs.Outcome.{TreeOutcome, IsTreeOutcome, Outcome, IsOutcome}
+use Rattle.mst_trees.proofs.Lists.{some_is, no_some, all_contained}
+use Rattle.mst_trees.proofs.Views.{IsPort, ports_are}
+use Rattle.mst_trees.proofs.Sights.{IsSight, bridge_in, port_in, port_from, is_topology, has_port_ids}
+use Rattle.mst_trees.proofs.CistTopology.{cist_is_sight}
+use Rattle.mst_trees.proofs.MstiTopology.{msti_is_sight}
 use Rattle.mst_roles.specs.Roles.{beside, role_by, outside, cist_role, msti_role}
 use Rattle.mst_roles.specs.declared.kind.Role.{Role}
 use Rattle.mst_roles.specs.declared.kind.Role.TheVariants.{Root, Designated, Alternate, Backup, Master, Disabled}

@@ -9,20 +9,20 @@ use Rattle.mst_ids.specs.declared.name.PortName.{PortName}
 use Rattle.mst_vector.specs.Rules.{Rules, IsMetric}
 use Rattle.mst_topology.specs.Topology.{TreePort, Topology, IsTopology, HasBridge, HasPort}
 use Rattle.mst_topology.specs.Settled.{IsDesignatedVector}
-use Rattle.mst_roles.specs.net.Tables.{Net, Numbers, BridgeRow}
-use Rattle.mst_roles.specs.net.Seen.{bridge_row}
+use Rattle.mst_net.specs.Tables.{Net, Numbers, BridgeRow}
+use Rattle.mst_net.specs.Seen.{bridge_row}
 use Rattle.mst_lag.specs.View.{LogicalPort}
 use Rattle.mst_lag.specs.Viewed.{Viewed, named_port}
 use Rattle.mst_lag.specs.declared.in_view.BridgeInView.{BridgeInView}
 use Rattle.mst_lag.specs.declared.in_view.PortInView.{PortInView}
-use Rattle.mst_roles.specs.trees.Sight.{Sight, tree_port, tree_of}
-use Rattle.mst_roles.specs.trees.Outcome.{TreeOutcome, IsTreeOutcome}
-use Rattle.mst_roles.specs.trees.Agrees.{Agrees, AreOf}
-use Rattle.mst_roles.proofs.trees_lemmas.Lists.{some_is, no_some, apart_cases, kept_in, kept_from}
-use Rattle.mst_roles.proofs.trees_lemmas.Views.{port_names_differ}
-use Rattle.mst_roles.proofs.trees_lemmas.Sights.{IsSight, changed_from, bridge_from, bridge_in, port_from, port_in, is_topology}
-use Rattle.mst_roles.proofs.trees_lemmas.Seen.{PortsRise, bridge_seen, port_seen, ports_apart, bridge_there, port_there, port_of_net}
-use Rattle.mst_roles.proofs.trees_lemmas.Looking.{first_found}
+use Rattle.mst_trees.specs.Sight.{Sight, tree_port, tree_of}
+use Rattle.mst_trees.specs.Outcome.{TreeOutcome, IsTreeOutcome}
+use Rattle.mst_trees.specs.Agrees.{Agrees, AreOf}
+use Rattle.mst_trees.proofs.Lists.{some_is, no_some, apart_cases, kept_in, kept_from}
+use Rattle.mst_trees.proofs.Views.{port_names_differ}
+use Rattle.mst_trees.proofs.Sights.{IsSight, changed_from, bridge_from, bridge_in, port_from, port_in, is_topology}
+use Rattle.mst_trees.proofs.Seen.{PortsRise, bridge_seen, port_seen, ports_apart, bridge_there, port_there, port_of_net}
+use Rattle.mst_trees.proofs.Looking.{first_found}
 use Rattle.mst_roles.proofs.Named.{found_in}
 use Rattle.mst_explain.specs.declared.claims.Claim.{Claim}
 use Rattle.mst_explain.specs.Contest.{IsDesignatedVectorOn}

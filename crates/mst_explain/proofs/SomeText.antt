@@ -10,16 +10,16 @@ use Rattle.mst_vector.specs.CistLaws.{cist_lawful}
 use Rattle.mst_vector.specs.Msti.{msti_rules}
 use Rattle.mst_vector.specs.MstiLaws.{msti_lawful}
 use Rattle.mst_topology.specs.Topology.{Topology}
-use Rattle.mst_roles.specs.net.Tables.{Net, IsNetwork}
-use Rattle.mst_roles.specs.net.ByTree.{by_tree}
+use Rattle.mst_net.specs.Tables.{Net, IsNetwork}
+use Rattle.mst_net.specs.ByTree.{by_tree}
 use Rattle.mst_lag.specs.View.{LogicalPort, view_ports, is_on, is_up}
-use Rattle.mst_roles.specs.trees.Sight.{Sight, tree_of}
-use Rattle.mst_roles.specs.trees.Cist.{cist_port, cist_sight, cist_of}
-use Rattle.mst_roles.specs.trees.Msti.{msti_port, msti_sight, msti_of, has_msti, is_internal}
-use Rattle.mst_roles.specs.trees.Outcome.{TreeOutcome, IsTreeOutcome, Outcome, IsOutcome}
-use Rattle.mst_roles.proofs.trees_lemmas.Sights.{IsSight, is_topology, has_port_ids}
-use Rattle.mst_roles.proofs.trees_lemmas.CistTopology.{cist_is_sight}
-use Rattle.mst_roles.proofs.trees_lemmas.MstiTopology.{msti_is_sight}
+use Rattle.mst_trees.specs.Sight.{Sight, tree_of}
+use Rattle.mst_trees.specs.Cist.{cist_port, cist_sight, cist_of}
+use Rattle.mst_trees.specs.Msti.{msti_port, msti_sight, msti_of, has_msti, is_internal}
+use Rattle.mst_trees.specs.Outcome.{TreeOutcome, IsTreeOutcome, Outcome, IsOutcome}
+use Rattle.mst_trees.proofs.Sights.{IsSight, is_topology, has_port_ids}
+use Rattle.mst_trees.proofs.CistTopology.{cist_is_sight}
+use Rattle.mst_trees.proofs.MstiTopology.{msti_is_sight}
 use Rattle.mst_roles.specs.Roles.{cist_role, msti_role, role_in}
 use Rattle.mst_roles.specs.declared.kind.Role.{Role}
 use Rattle.mst_rows.specs.Rows.{Row}

@@ -9,8 +9,8 @@ use Rattle.mst_vector.specs.Cist.{cist_rules}
 use Rattle.mst_vector.specs.Msti.{msti_rules}
 use Rattle.mst_vector.specs.CistLaws.{cist_lawful}
 use Rattle.mst_settle.specs.Assignment.{designated_of}
-use Rattle.mst_roles.specs.net.Tables.{Net, BridgeRow, LanRow}
-use Rattle.mst_roles.specs.net.Seen.{bridge_row}
+use Rattle.mst_net.specs.Tables.{Net, BridgeRow, LanRow}
+use Rattle.mst_net.specs.Seen.{bridge_row}
 use Rattle.mst_lag.specs.Aggregation.{same_name}
 use Rattle.mst_lag.specs.Trees.{mstis_of, is_among}
 use Rattle.mst_lag.specs.View.{logical_lan, is_on, is_up}
@@ -19,15 +19,15 @@ use Rattle.mst_lag.specs.declared.in_view.BridgeInView.{BridgeInView}
 use Rattle.mst_lag.specs.declared.in_view.PortInView.{PortInView}
 use Rattle.mst_lag.specs.declared.in_view.MemberLan.{MemberLan}
 use Rattle.mst_lag.proofs.Placing.{pair_found}
-use Rattle.mst_roles.specs.trees.Cist.{cist_sight}
-use Rattle.mst_roles.specs.trees.Msti.{has_msti, is_internal}
-use Rattle.mst_roles.specs.trees.Outcome.{Outcome}
-use Rattle.mst_roles.specs.trees.Seen.{seen_internal, trees_at}
-use Rattle.mst_roles.specs.trees.Settled.{SettledNet, outcome_of, IsSettledNet}
-use Rattle.mst_roles.proofs.trees_lemmas.Entries.{all_weaker}
-use Rattle.mst_roles.proofs.trees_lemmas.Lists.{all_contained, all_there}
-use Rattle.mst_roles.proofs.trees_lemmas.CistTopology.{cist_is_sight}
-use Rattle.mst_roles.proofs.trees_lemmas.Seen.{SeenPort, port_seen}
+use Rattle.mst_trees.specs.Cist.{cist_sight}
+use Rattle.mst_trees.specs.Msti.{has_msti, is_internal}
+use Rattle.mst_trees.specs.Outcome.{Outcome}
+use Rattle.mst_trees.specs.Seen.{seen_internal, trees_at}
+use Rattle.mst_trees.specs.Settled.{SettledNet, outcome_of, IsSettledNet}
+use Rattle.mst_trees.proofs.Entries.{all_weaker}
+use Rattle.mst_trees.proofs.Lists.{all_contained, all_there}
+use Rattle.mst_trees.proofs.CistTopology.{cist_is_sight}
+use Rattle.mst_trees.proofs.Seen.{SeenPort, port_seen}
 use Rattle.mst_roles.specs.Roles.{cist_role, msti_role, role_in}
 use Rattle.mst_roles.specs.declared.kind.Role.{Role}
 use Rattle.mst_rows.specs.Rows.{Row}

@@ -7,12 +7,12 @@ use Rattle.mst_vector.specs.Rules.{Rules}
 use Rattle.mst_vector.specs.Cist.{cist_rules}
 use Rattle.mst_vector.specs.Msti.{msti_rules}
 use Rattle.mst_topology.specs.Topology.{Topology, HasBridge}
-use Rattle.mst_roles.specs.net.Tables.{Net}
+use Rattle.mst_net.specs.Tables.{Net}
 use Rattle.mst_lag.specs.Trees.{mstis_of}
 use Rattle.mst_lag.specs.View.{LogicalPort, is_on, is_up}
-use Rattle.mst_roles.specs.trees.Cist.{cist_of}
-use Rattle.mst_roles.specs.trees.Msti.{msti_of, is_internal}
-use Rattle.mst_roles.specs.trees.Outcome.{Outcome, TreeOutcome}
+use Rattle.mst_trees.specs.Cist.{cist_of}
+use Rattle.mst_trees.specs.Msti.{msti_of, is_internal}
+use Rattle.mst_trees.specs.Outcome.{Outcome, TreeOutcome}
 use Rattle.mst_roles.specs.Roles.{cist_role, role_in}
 use Rattle.mst_roles.specs.declared.kind.Role.{Role}
 use Rattle.mst_rows.specs.Rows.{Row}

@@ -5,13 +5,13 @@ use Rattle.std.specs.Option.{option_map_or, option_and_then}
 use Rattle.mst_vector.specs.Cist.{cist_rules}
 use Rattle.mst_vector.specs.Msti.{msti_rules}
 use Rattle.mst_settle.specs.Assignment.{designated_of}
-use Rattle.mst_roles.specs.net.Seen.{bridge_row}
+use Rattle.mst_net.specs.Seen.{bridge_row}
 use Rattle.mst_lag.specs.Aggregation.{same_name}
 use Rattle.mst_lag.specs.Viewed.{Viewed, named_port}
 use Rattle.mst_lag.specs.declared.in_view.PortInView.{PortInView}
-use Rattle.mst_roles.specs.trees.Seen.{seen_internal}
-use Rattle.mst_roles.specs.trees.Forest.{designated_in}
-use Rattle.mst_roles.specs.trees.Settled.{SettledNet, outcome_of}
+use Rattle.mst_trees.specs.Seen.{seen_internal}
+use Rattle.mst_trees.specs.Forest.{designated_in}
+use Rattle.mst_trees.specs.Settled.{SettledNet, outcome_of}
 use Rattle.mst_roles.specs.Roles.{role_in}
 use Rattle.mst_rows.specs.Rows.{Row}
 use Rattle.mst_explain.specs.Fields.{cist_fields, msti_fields}

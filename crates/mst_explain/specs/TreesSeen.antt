@@ -10,17 +10,17 @@ use Rattle.mst_vector.specs.declared.msti.MstiBridge.{MstiBridge}
 use Rattle.mst_vector.specs.declared.msti.MstiPort.{MstiPort}
 use Rattle.mst_vector.specs.declared.msti.MstiVector.{MstiVector}
 use Rattle.mst_settle.specs.Assignment.{vector_of, designated_of}
-use Rattle.mst_roles.specs.net.ByTree.{by_tree}
-use Rattle.mst_roles.specs.net.Seen.{bridge_row}
+use Rattle.mst_net.specs.ByTree.{by_tree}
+use Rattle.mst_net.specs.Seen.{bridge_row}
 use Rattle.mst_lag.specs.Trees.{is_among}
 use Rattle.mst_lag.specs.Viewed.{Viewed, named_port}
 use Rattle.mst_lag.specs.declared.in_view.BridgeInView.{BridgeInView}
 use Rattle.mst_lag.specs.declared.in_view.PortInView.{PortInView}
-use Rattle.mst_roles.specs.trees.Cist.{cist_bridge, cist_port}
-use Rattle.mst_roles.specs.trees.Msti.{msti_bridge, msti_port}
-use Rattle.mst_roles.specs.trees.Seen.{trees_at, seen_internal}
-use Rattle.mst_roles.specs.trees.Forest.{msti_vector, designated_in}
-use Rattle.mst_roles.specs.trees.Settled.{SettledNet}
+use Rattle.mst_trees.specs.Cist.{cist_bridge, cist_port}
+use Rattle.mst_trees.specs.Msti.{msti_bridge, msti_port}
+use Rattle.mst_trees.specs.Seen.{trees_at, seen_internal}
+use Rattle.mst_trees.specs.Forest.{msti_vector, designated_in}
+use Rattle.mst_trees.specs.Settled.{SettledNet}
 use Rattle.mst_explain.specs.Seen.{TreeSeen}
 
 abbrev pub bridge_found : Viewed → ℕ → Option BridgeInView

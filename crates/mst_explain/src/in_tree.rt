@@ -1,7 +1,7 @@
 ghost use Rattle.std.specs.Prelude.{◌≡◌, ℕ, List};
 ghost use Rattle.std.specs.Option.{option_and_then, option_copied};
-ghost use Rattle.mst_roles.specs.trees.Forest.{designated_in};
-ghost use Rattle.mst_roles.specs.trees.Settled.{SettledNet};
+ghost use Rattle.mst_trees.specs.Forest.{designated_in};
+ghost use Rattle.mst_trees.specs.Settled.{SettledNet};
 ghost use Rattle.mst_explain.specs.Fields.{Field, cist_fields, msti_fields, decided};
 ghost use Rattle.mst_explain.specs.Seen.{CanStep, TreeSeen, designated_on as seen_designated};
 ghost use Rattle.mst_explain.specs.SeenText.{port_found};
@@ -12,8 +12,8 @@ use crate::field::{Difference, cist_difference, msti_difference};
 use crate::settings::{cist_bridge, cist_port, msti_bridge, msti_port};
 use mst_ids::{BridgeNo, LanNo, Name, PortName, Tree};
 use mst_lag::PortInView;
-use mst_roles::Settled;
 use mst_settle::laws::costs_bounded;
+use mst_trees::Settled;
 use mst_vector::{CistMetric, Metric, MstiMetric};
 
 /// The designated port of a LAN in a tree.

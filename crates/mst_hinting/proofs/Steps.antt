@@ -5,8 +5,7 @@ use Rattle.std.proofs.lemmas.List.{append_cancel_left}
 use Rattle.std.specs.Option.{unwrap_or}
 use Rattle.std.specs.Io.KnownBytes.{Appends, Consumes, ReadConsumes, IsAtEnd}
 use Rattle.std.proofs.KnownBytes.{Appends-nil, Appends-trans, Consumes-nil, Consumes-trans}
-use Rattle.mst_lang.specs.Lines.{lines_of}
-use Rattle.mst_lang.specs.Lines.{last_line}
+use Rattle.mst_lang.specs.Lines.{lines_of, last_line}
 use Rattle.mst_hinting.specs.Lines.{nothing, hints_from, hints_of}
 use Rattle.mst_hinting.specs.Kept.{IsKept}
 use Rattle.mst_hints.specs.declared.whose.Script.{Script}

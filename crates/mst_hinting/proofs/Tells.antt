@@ -18,8 +18,7 @@ use Rattle.mst_hints.specs.Puts.{with_put}
 use Rattle.mst_hints.specs.declared.record.Record.{Record}
 use Rattle.mst_hints.specs.declared.whose.Script.{Script}
 use Rattle.mst_hints.specs.declared.whose.Script.TheVariants.{Policy, Change}
-use Rattle.mst_io.specs.Held.{lines_held, ending}
-use Rattle.mst_io.specs.Held.{hold}
+use Rattle.mst_io.specs.Held.{lines_held, ending, hold}
 use Rattle.mst_policy_hints.specs.Hints as policies
 use Rattle.mst_hinting.specs.Hinted.{Tells, IsTold}
 use Rattle.mst_hinting.specs.Lines.{Before, of_script, of_policy, of_change, nothing, past_after, change_hint, hint_after, hints_from, hints_of, number_at}

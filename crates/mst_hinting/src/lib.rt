@@ -10,5 +10,4 @@ mod policy;
 mod telling;
 
 pub use listening::Hinting;
-pub use mst_hints::Script;
 pub use telling::Telling;

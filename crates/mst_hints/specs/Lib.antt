@@ -1,4 +1,3 @@
-pub use Rattle.mst_lang.specs as lang
 pub mod Near
 pub mod Tools
 pub mod Meant

@@ -46,7 +46,7 @@ zip_at R (y ∷ ys) [] n x d h below is = absurd h
 zip_at R (y ∷ ys) (z ∷ zs) zero x d h below is = subst (λ w. R w z) is h.0
 zip_at R (y ∷ ys) (z ∷ zs) (suc n) x d h below is = zip_at R ys zs n x d h.1 (omega (arith, below)) is
 
-all_at : {A : Type 0} (P : A → Type 0) (xs : List A) (n : ℕ) (x : A) → AllByRecursion P xs → n < length xs → get_or xs n x ≡ x → P x
+pub all_at : {A : Type 0} (P : A → Type 0) (xs : List A) (n : ℕ) (x : A) → AllByRecursion P xs → n < length xs → get_or xs n x ≡ x → P x
 all_at P [] n x h below is = absurd (omega (arith, below))
 all_at P (y ∷ ys) zero x h below is = subst P is h.0
 all_at P (y ∷ ys) (suc n) x h below is = all_at P ys n x h.1 (omega (arith, below)) is

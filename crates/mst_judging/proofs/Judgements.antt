@@ -2,7 +2,7 @@
 use Rattle.std.proofs.Common.{◌≡◌, ℕ, ◌+◌, ◌<◌, Bool, true, false, true≢false, ◌&&◌, cond, not, List, [], ◌∷◌, ◌++◌, length, map, take, get_or, Option, Some, None, is_some, Bor, Result, Ok, Err, refl, sym, ap, subst, ◌∙◌}
 use Rattle.std.specs.Prelude.{MatchOption}
 use Rattle.std.specs.List.{AllByRecursion, AllZip, Contains, list_all, list_any}
-use Rattle.std.specs.Option.{option_and_then, option_map, option_map_or}
+use Rattle.std.specs.Option.{option_and_then, option_map}
 use Rattle.std.specs.FinMap as fin
 use Rattle.std.specs.Ordering.{eq_by_cmp}
 use Rattle.std.proofs.lemmas.List.{get_or-map, length-map, take_more}
@@ -10,9 +10,9 @@ use Rattle.mst_lang.specs.declared.line.Edit.{Edit}
 use Rattle.mst_lang.specs.declared.line.Fault.{Fault}
 use Rattle.mst_lang.specs.declared.line.LanChange.TheVariants.{State}
 use Rattle.mst_lang.specs.declared.line.LanState.TheVariants.{Down}
-use Rattle.mst_net.specs.After.{after, effect, lan_with, refusal_of}
+use Rattle.mst_net.specs.After.{after, lan_with}
 use Rattle.mst_net.specs.ByTree.{ByTree, table_in, vlans_in}
-use Rattle.mst_net.specs.Contents.{Contents, PerKind, SameContents, Tables, numbers_after}
+use Rattle.mst_net.specs.Contents.{Contents, Tables, ahead_of}
 use Rattle.mst_net.specs.Tables.{Net, Numbers, BridgeRow}
 use Rattle.mst_net.proofs.Changed.{get_changed}
 use Rattle.mst_net.proofs.Keys.{names}
@@ -31,10 +31,13 @@ use Rattle.mst_policy.specs.declared.item.NameItem.TheVariants.{Is}
 use Rattle.mst_policy.specs.declared.policy.PolicyLine.{PolicyLine}
 use Rattle.mst_changes.specs.Subjects.{bridge_names, port_names}
 use Rattle.mst_classes.specs.Classes.{AreClasses}
+use Rattle.mst_trees.specs.Forest.{Forest}
 use Rattle.mst_trees.specs.Outcome.{Outcome, IsOutcome}
+use Rattle.mst_trees.specs.Settled.{SettledNet, settled_net}
 use Rattle.mst_trees.proofs.Lists.{mapped_twice}
 use Rattle.mst_sweep.specs.Failures.{edit_of}
 use Rattle.mst_sweep.specs.Left.{AreLeft}
+use Rattle.mst_sweep.specs.Pairs.{failed}
 use Rattle.mst_sweep.specs.declared.failure.Failure.{Failure}
 use Rattle.mst_sweep.specs.declared.failure.Failure.TheVariants.{Lan, Bridge}
 use Rattle.mst_sweep.proofs.Failed.{are_left}
@@ -166,11 +169,11 @@ some_kept true f None = refl
 some_kept true f (Some x) = refl
 some_kept false f o = refl
 
-lan_kept : (failure : Failure) (net : Net) (lan : List ℕ) → is_lan (effect (edit_of failure) net) lan ≡ is_lan net lan
+lan_kept : (failure : Failure) (net : Net) (lan : List ℕ) → is_lan (failed (failure ∷ []) net) lan ≡ is_lan net lan
 lan_kept (Lan own) net lan = ap is_some (get_changed names net.lans own (lan_with (State Down)) lan) ∙ some_kept (same_name own lan) (lan_with (State Down)) (fin.get net.lans lan)
 lan_kept (Bridge bridge) net lan = refl
 
-its_lan_kept : (failure : Failure) (net : Net) (e : Expectation) → HasItsLan net e → HasItsLan (effect (edit_of failure) net) e
+its_lan_kept : (failure : Failure) (net : Net) (e : Expectation) → HasItsLan net e → HasItsLan (failed (failure ∷ []) net) e
 its_lan_kept failure net (expect.Root tree b next) h = tt
 its_lan_kept failure net (expect.Region bridges) h = tt
 its_lan_kept failure net (expect.Role tree ports roles) h = tt
@@ -183,8 +186,8 @@ its_lan_kept failure net (expect.Carries lan vids) h = lan_kept failure net lan 
 its_lan_kept failure net (expect.Avoids lan vids) h = lan_kept failure net lan ∙ h
 its_lan_kept failure net expect.Fits h = tt
 
-have_lans_ahead : (j : Judging) (net : Net) (failure : Failure) (place : Option Failure) → HaveLans j net (effect (edit_of failure) net) place
-have_lans_ahead j net failure place line e h = its_lan_kept failure net e (have_lans j net place line e h)
+pub have_lans_failed : (j : Judging) (net : Net) (failure : Failure) (place : Option Failure) → HaveLans j net (failed (failure ∷ []) net) place
+have_lans_failed j net failure place line e h = its_lan_kept failure net e (have_lans j net place line e h)
 
 -- ---- classes of VIDs
 all_names : {A B : Type 0} (P : B → Type 0) (name : A → B) (xs : List A) → AllByRecursion (λ x. P (name x)) xs → AllByRecursion P (map name xs)
@@ -225,24 +228,21 @@ classes_left a b n k v w of_v of_w left c are =
 pub classes_stay : (failure : Failure) (a b : Net) (n k : Numbers) (v w : Viewed) → after (edit_of failure) a ≡ Ok b → IsView a n v → IsView b k w → (c : Numbering) → AreClasses v c → AreClasses w c
 classes_stay failure a b n k v w e of_v of_w c are = classes_left a b n k v w of_v of_w (are_left failure a b e) c are
 
--- and the numbers of records are
-pub numbers_stay : (failure : Failure) (edit : Edit) (next : PerKind) (numbers : Numbers) → edit ≡ edit_of failure → numbers_after edit next numbers ≡ numbers
-numbers_stay failure edit next numbers is = ap (λ (e : Edit). numbers_after e next numbers) is ∙ by failure
-  where
-    by : (failure : Failure) → numbers_after (edit_of failure) next numbers ≡ numbers
-    by (Lan lan) = refl
-    by (Bridge bridge) = refl
+-- ---- a network with a failure
+-- it is what its edit makes of the network
+abbrev pub tables_failed : Failure → Contents → Tables
+tables_failed failure c = record { net = failed (failure ∷ []) c.net; numbers = c.numbers }
 
--- ---- reasons after a failure
-pub made_by : (failure : Failure) (net : Net) → refusal_of (edit_of failure) net ≡ None → after (edit_of failure) net ≡ Ok (effect (edit_of failure) net)
-made_by failure net accepted = ap (λ r. option_map_or Err r (Ok (effect (edit_of failure) net))) accepted
+tables_ahead : (failure : Failure) (c : Contents) → ahead_of c (edit_of failure) ≡ tables_failed failure c
+tables_ahead (Lan lan) c = refl
+tables_ahead (Bridge bridge) c = refl
 
-module _ (failure : Failure) (net : Net) (edit : Edit) (is : edit ≡ edit_of failure) where
-  pub made_ahead : refusal_of edit net ≡ None → after (edit_of failure) net ≡ Ok (effect edit net)
-  made_ahead accepted = subst (λ (e : Edit). after (edit_of failure) net ≡ Ok (effect e net)) (sym is) (made_by failure net (subst (λ (e : Edit). refusal_of e net ≡ None) is accepted))
+pub failed_ahead : (failure : Failure) (edit : Edit) (c : Contents) → edit ≡ edit_of failure → ahead_of c edit ≡ tables_failed failure c
+failed_ahead failure edit c is = ap (ahead_of c) is ∙ tables_ahead failure c
 
-  pub have_lans_there : (j : Judging) (place : Option Failure) → HaveLans j net (effect edit net) place
-  have_lans_there j place = subst (λ (e : Edit). HaveLans j net (effect e net) place) (sym is) (have_lans_ahead j net failure place)
+-- and so it is settled
+pub failed_plan : (failure : Failure) (edit : Edit) (c : Contents) → edit ≡ edit_of failure → (v : Viewed) (forest : Forest) (s : SettledNet) → s ≡ settled_net (ahead_of c edit) v forest → s ≡ settled_net (tables_failed failure c) v forest
+failed_plan failure edit c is v forest s e = e ∙ ap (λ t. settled_net t v forest) (failed_ahead failure edit c is)
 
 -- ---- the network before
 prior_there : (kept : Option (Bor ViewWithTrees)) (prior : Prior) → IsPrior (option_map (λ c. c.now) kept) prior → is_some kept ≡ is_some prior
@@ -300,29 +300,22 @@ module _ (j : Judging) (net : Net) (numbers : Numbers) (prior : Prior) (is : IsP
   lines_now lines all h = zip_weaker (λ line those. AreReasonsIf net s.outcome net None prior (expected_in j net line None) those) (λ line those. AreReasonsOf s line None those) line_now lines all h
 
   -- and those in the network that a failure makes are those of the line in its place
-  module _ (failed : Net) (p : Outcome) (failure : Failure) (e : after (edit_of failure) net ≡ Ok failed) (settled : IsOutcome failed p) where
+  module _ (there : Net) (p : Outcome) (failure : Failure) (e : after (edit_of failure) net ≡ Ok there) (settled : IsOutcome there p) where
     abbrev Then : PolicyLine → List Reason → Type 0
-    Then line those = AreReasonsIf failed p net (gone_of failure) (Some (net, s.outcome)) (expected_in j net line (Some failure)) those
+    Then line those = AreReasonsIf there p net (gone_of failure) (Some (net, s.outcome)) (expected_in j net line (Some failure)) those
 
     line_after : (line : PolicyLine) (those : List Reason) → Then line those → AreReasonsOf s line (Some failure) those
     line_after line those h =
         by (expected_of s line (Some failure))
-        (subst (λ (expected : Option Expectation). AreReasonsIf failed p net (gone_of failure) (Some (net, s.outcome)) expected those) (same_expected line (Some failure)) h)
+        (subst (λ (expected : Option Expectation). AreReasonsIf there p net (gone_of failure) (Some (net, s.outcome)) expected those) (same_expected line (Some failure)) h)
       where
-        by : (expected : Option Expectation) → AreReasonsIf failed p net (gone_of failure) (Some (net, s.outcome)) expected those
+        by : (expected : Option Expectation) → AreReasonsIf there p net (gone_of failure) (Some (net, s.outcome)) expected those
             → MatchOption expected (those ≡ []) (λ expectation. AreReasonsAfter net s.outcome failure expectation those)
         by None h = h
-        by (Some expectation) h = record { failed = failed; made = e; outcome = p; is_outcome = settled; are = h }
+        by (Some expectation) h = record { failed = there; made = e; outcome = p; is_outcome = settled; are = h }
 
     pub lines_after : (lines : List PolicyLine) (all : List (List Reason)) → AllZip Then lines all → AreReasonsEach s lines (Some failure) all
     lines_after lines all h = zip_weaker Then (λ line those. AreReasonsOf s line (Some failure) those) line_after lines all h
 
 pub as_many : (net : Net) (is_last : Bool) (lines : List PolicyLine) (missing : List (Option Missing)) → AreLacking net is_last lines missing → length missing ≡ length lines
 as_many net is_last lines missing are = ap length are ∙ length-map lines (lacks_in net is_last)
-
--- ---- contents that are as they were
-pub to_now : (old now : Contents) → SameContents old now → (P : Net → Numbers → Type 0) → P old.net old.numbers → P now.net now.numbers
-to_now old now same P h = subst (λ (t : Tables). P t.net t.numbers) (λ i. record { net = sym same.net i; numbers = sym same.numbers i }) h
-
-pub to_old : (old now : Contents) → SameContents old now → (P : Net → Numbers → Type 0) → P now.net now.numbers → P old.net old.numbers
-to_old old now same P h = subst (λ (t : Tables). P t.net t.numbers) (λ i. record { net = same.net i; numbers = same.numbers i }) h

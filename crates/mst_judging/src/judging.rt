@@ -1,17 +1,16 @@
 ghost use Rattle.std.specs.Prelude.{◌≡◌, ◌++◌, ◌∷◌, [], ℕ, None, Some, IfOk, MatchOption, OnOk, filter, length, map, option_map, ⊤};
 ghost use Rattle.std.specs.List.{AllByRecursion, AllZip, list_any};
-ghost use Rattle.mst_config.specs.Shared.{AreRegions};
 ghost use Rattle.mst_lag.specs.Viewed.{IsView};
-ghost use Rattle.mst_net.specs.Contents.{CanCommit, SameContents, ahead_of};
+ghost use Rattle.mst_net.specs.After.{after};
 ghost use Rattle.mst_net.specs.Tables.{Net};
 ghost use Rattle.mst_diff.specs.Reach.{has_any};
 ghost use Rattle.mst_trees.specs.Outcome.{IsOutcome};
 ghost use Rattle.mst_trees.specs.Settled.{outcome_of};
 ghost use Rattle.mst_policy.specs.declared.expectation.Expectation.{Expectation as ExpectationOf};
 ghost use Rattle.mst_plan.specs.Plan.{IsPlan};
-ghost use Rattle.mst_sweeping.specs.Sweeping.{IsViewBut};
 ghost use Rattle.mst_judging.specs.Verifying.{AreLacking, AreReasonsEach, AreReasonsIf, AreReasonsThere, FindsAt, FoundIn, HaveLans, IsCarriage, IsJudging, IsOpened, IsPrior, Judges, OfSittings, expected_by, expected_in, found_of, is_asked_by, lacks_in, plan_outcome};
 ghost use Rattle.mst_sweep.specs.Failures.{edit_of, failures as failures_of};
+ghost use Rattle.mst_sweep.specs.Pairs.{failed};
 ghost use Rattle.mst_verdict.specs.Judged.{AreLinesJudged, line_found, reasons_in, told_in};
 ghost use Rattle.mst_verdict.specs.Told.{has_reason, is_due as is_due_of};
 ghost use Rattle.mst_verify.specs.Islands.{AreKept, HasIslandsOf, IsBeside, IsKeptOf};
@@ -21,14 +20,13 @@ ghost use Rattle.mst_verify.specs.Over.{HasItsLan};
 ghost use Rattle.mst_verify.specs.Seen.{IsBefore};
 
 use mst_carried::Carriage;
-use mst_config::laws::regions_stay;
 use mst_ids::{Name, Vid, VidSet};
 use mst_lag::{View, view};
-use mst_net::{Network, Ready};
+use mst_net::Network;
 use mst_plan::Plan;
 use mst_policy::{Expectation, PolicyLine, Promise};
 use mst_sweep::{Failure, failures};
-use mst_sweeping::{renew, trees_ahead};
+use mst_sweeping::{trees_failed, without_failure};
 use mst_trees::Settled;
 use mst_verdict::laws::line_where_unkept;
 use mst_verdict::{Finding, Judgement, is_looked_at};
@@ -336,12 +334,11 @@ fn gone(failure: &Failure) -> Option<Name>
     }
 }
 
-/// Why each line isn't kept in the network ahead of a failure, by one repair of the trees that stand. The network itself is the one
-/// before. The view is that network's then.
-fn reasons_ahead(
+/// Why each line isn't kept in the network with a failure, by one repair of the trees that stand. The network itself is the one before.
+/// The view, which is that network's, is the other's then.
+fn reasons_failed(
     alloc: Global,
     network: &Network,
-    ready: &Ready,
     judging: &Judging,
     failure: &Failure,
     vids: &VidSet,
@@ -349,22 +346,14 @@ fn reasons_ahead(
 ) -> Result<Vec<Vec<Reason>>, AllocError>
     requires of { IsPlan network.now.net network.now.numbers judging.now.plan.now }
     requires judging { IsJudging network.now.net network.now.numbers judging.now }
-    requires ready { CanCommit ready.now network.now }
-    requires edit { ready.now ≡ edit_of failure.now }
-    requires seen { IsViewBut failure.now (ahead_of network.now ready.now).net (ahead_of network.now ready.now).numbers seen.old }
-    requires regions { AreRegions (ahead_of network.now ready.now).net (ahead_of network.now ready.now).numbers judging.now.plan.now.regions }
+    requires accepted { after (edit_of failure.now) network.now.net ≡ Ok (failed (failure.now ∷ []) network.now.net) }
+    requires seen { IsView network.now.net network.now.numbers seen.old }
     ensures reasons { IfOk result (λ all. OfSittings network.now.net network.now.numbers judging.now (λ s. AreReasonsEach s judging.now.lines.now (Some failure.now) (reasons_in all))) }
-    ensures seen { OnOk result (IsView (ahead_of network.now ready.now).net (ahead_of network.now ready.now).numbers seen.new) }
+    ensures seen { OnOk result (IsView (failed (failure.now ∷ []) network.now.net) network.now.numbers seen.new) }
 {
-    let trees = trees_ahead(
-        alloc,
-        &network.ahead(ready),
-        &judging.plan.forest,
-        &judging.plan.regions,
-        failure,
-        seen,
-    )?;
-    let plan = Settled::ahead(network, ready, seen, &trees);
+    let trees = trees_failed(alloc, network, judging.plan, failure, seen)?;
+    let edit = failure.edit();
+    let plan = Settled::ahead(network, &edit, seen, &trees);
     plan.known();
     let homes = Homes::beside(alloc, judging.carriage, &plan, judging.before, vids)?;
     let prior = Prior::failed(judging.carriage, &plan, judging.before, &homes);
@@ -378,96 +367,46 @@ fn reasons_ahead(
     judge_place(alloc, judging, &judged, &Some(*failure))
 }
 
-/// The same, and the edit is given up then, and leaves the network as it is.
-fn reasons_then(
-    alloc: Global,
-    network: &mut Network,
-    ready: Ready,
-    judging: &Judging,
-    failure: &Failure,
-    vids: &VidSet,
-    seen: &mut View,
-) -> Result<Vec<Vec<Reason>>, AllocError>
-    requires of { IsPlan network.old.net network.old.numbers judging.now.plan.now }
-    requires judging { IsJudging network.old.net network.old.numbers judging.now }
-    requires ready { CanCommit ready network.old }
-    requires edit { ready ≡ edit_of failure.now }
-    requires seen { IsViewBut failure.now (ahead_of network.old ready).net (ahead_of network.old ready).numbers seen.old }
-    requires regions { AreRegions (ahead_of network.old ready).net (ahead_of network.old ready).numbers judging.now.plan.now.regions }
-    ensures reasons { IfOk result (λ all. OfSittings network.old.net network.old.numbers judging.now (λ s. AreReasonsEach s judging.now.lines.now (Some failure.now) (reasons_in all))) }
-    ensures same { SameContents network.old network.new }
-    ensures seen { OnOk result (IsView (ahead_of network.old ready).net (ahead_of network.old ready).numbers seen.new) }
-{
-    let reasons = reasons_ahead(alloc, network, &ready, judging, failure, vids, seen);
-    network.abandon(ready);
-    reasons
-}
-
-/// Why each line isn't kept in the network that a failure makes. The view, which is the network's, is that network's then.
-fn reasons_after(
-    alloc: Global,
-    network: &mut Network,
-    judging: &Judging,
-    failure: &Failure,
-    vids: &VidSet,
-    seen: &mut View,
-) -> Result<Vec<Vec<Reason>>, AllocError>
-    requires of { IsPlan network.old.net network.old.numbers judging.now.plan.now }
-    requires judging { IsJudging network.old.net network.old.numbers judging.now }
-    requires seen { IsView network.old.net network.old.numbers seen.old }
-    ensures reasons { IfOk result (λ all. OfSittings network.old.net network.old.numbers judging.now (λ s. AreReasonsEach s judging.now.lines.now (Some failure.now) (reasons_in all))) }
-    ensures same { SameContents network.old network.new }
-    ensures back { OnOk result (IsViewBut failure.now network.new.net network.new.numbers seen.new) }
-{
-    regions_stay();
-    let edit = failure.edit();
-    match network.prepare(&edit) {
-        Ok(ready) => reasons_then(alloc, network, ready, judging, failure, vids, seen),
-        Err(_) => Err(AllocError),
-    }
-}
-
-/// Keeps why lines aren't kept in the network that a failure makes, if that is looked at for some line. The view is the network's, and
-/// stays so: it is renewed for the failure, and then back.
+/// Keeps why lines aren't kept in the network with a failure, if that is looked at for some line. The view is that of the network
+/// itself, and stays so: it is renewed for the failure, and then back.
 fn find_after(
     alloc: Global,
-    network: &mut Network,
+    network: &Network,
     judging: &Judging,
     failure: &Failure,
     seen: &mut View,
     found: &mut Vec<Finding>,
 ) -> Result<(), AllocError>
-    requires of { IsPlan network.old.net network.old.numbers judging.now.plan.now }
-    requires judging { IsJudging network.old.net network.old.numbers judging.now }
-    requires seen { IsView network.old.net network.old.numbers seen.old }
-    ensures found { OnOk result (OfSittings network.old.net network.old.numbers judging.now (λ s. FindsAt s judging.now.lines.now (Some failure.now) found.old.items found.new.items)) }
-    ensures same { SameContents network.old network.new }
-    ensures seen { OnOk result (IsView network.new.net network.new.numbers seen.new) }
+    requires of { IsPlan network.now.net network.now.numbers judging.now.plan.now }
+    requires judging { IsJudging network.now.net network.now.numbers judging.now }
+    requires accepted { after (edit_of failure.now) network.now.net ≡ Ok (failed (failure.now ∷ []) network.now.net) }
+    requires seen { IsView network.now.net network.now.numbers seen.old }
+    ensures found { OnOk result (OfSittings network.now.net network.now.numbers judging.now (λ s. FindsAt s judging.now.lines.now (Some failure.now) found.old.items found.new.items)) }
+    ensures seen { OnOk result (IsView network.now.net network.now.numbers seen.new) }
 {
     let place = Some(*failure);
     match asked_vids(judging, &place) {
         None => Ok(()),
         Some(vids) => {
-            let reasons = reasons_after(alloc, network, judging, failure, &vids, seen)?;
-            renew(alloc, network, failure, seen)?;
+            let reasons = reasons_failed(alloc, network, judging, failure, &vids, seen)?;
+            without_failure(alloc, network, failure, seen)?;
             add_finding(place, reasons, found)
         }
     }
 }
 
-/// Why lines aren't kept, place by place: in the network itself, and then in that of each failure, in their order. A failure that no
-/// line asks for isn't looked at, and each other one is prepared once for all lines. The network is as it was in either case.
+/// Why lines aren't kept, place by place: in the network itself, and then in that with each failure, in their order. A failure that no
+/// line asks for isn't looked at, and each other one is once, for all lines.
 fn find_all(
     alloc: Global,
-    network: &mut Network,
+    network: &Network,
     judging: &Judging,
     failures: &[Failure],
 ) -> Result<Vec<Finding>, AllocError>
-    requires of { IsPlan network.old.net network.old.numbers judging.now.plan.now }
-    requires judging { IsJudging network.old.net network.old.numbers judging.now }
-    requires failures { failures.now ≡ failures_of network.old.net }
-    ensures found { IfOk result (λ found. OfSittings network.old.net network.old.numbers judging.now (λ s. FoundIn s judging.now.lines.now (places network.old.net) found.items)) }
-    ensures same { SameContents network.old network.new }
+    requires of { IsPlan network.now.net network.now.numbers judging.now.plan.now }
+    requires judging { IsJudging network.now.net network.now.numbers judging.now }
+    requires failures { failures.now ≡ failures_of network.now.net }
+    ensures { IfOk result (λ found. OfSittings network.now.net network.now.numbers judging.now (λ s. FoundIn s judging.now.lines.now (places network.now.net) found.items)) }
 {
     let mut found = Vec::new(alloc);
     find_now(alloc, network, judging, &mut found)?;
@@ -517,20 +456,19 @@ pub(crate) struct Asking<'a> {
     pub(crate) once: bool,
 }
 
-/// Why lines of a policy aren't kept in a network, by its plan and its failures. The network is as it was in either case.
+/// Why lines of a policy aren't kept in a network, by its plan and its failures.
 pub(crate) fn judge_lines(
     alloc: Global,
-    network: &mut Network,
+    network: &Network,
     plan: &Plan,
     lines: &[PolicyLine],
     failures: &[Failure],
     asking: &Asking,
 ) -> Result<Judgement, AllocError>
-    requires of { IsPlan network.old.net network.old.numbers plan.now }
-    requires failures { failures.now ≡ failures_of network.old.net }
-    ensures judged { IfOk result (λ judgement. (prior : PriorOf) → IsPrior (option_map (λ c. c.now) asking.now.prior) prior
-        → AreLinesJudged asking.now.once network.old.net (plan_outcome network.old.net network.old.numbers plan.now) prior asking.now.is_last lines.now judgement) }
-    ensures same { SameContents network.old network.new }
+    requires of { IsPlan network.now.net network.now.numbers plan.now }
+    requires failures { failures.now ≡ failures_of network.now.net }
+    ensures { IfOk result (λ judgement. (prior : PriorOf) → IsPrior (option_map (λ c. c.now) asking.now.prior) prior
+        → AreLinesJudged asking.now.once network.now.net (plan_outcome network.now.net network.now.numbers plan.now) prior asking.now.is_last lines.now judgement) }
 {
     let carriage = Carriage::new(alloc, &plan.view, &plan.forest)?;
     let opened = opening(alloc, network, plan, &carriage, lines, asking.is_last)?;
@@ -553,18 +491,17 @@ pub(crate) fn judge_lines(
 
 /// Judges the lines of a policy in one of several networks, by its plan, and by what carries VIDs in the network before, if there is
 /// one: of each line what it lacks there, or why it isn't kept in the network itself, and in that of each failure for which it asks.
-/// `AllocError`: memory was wanted and refused. The network is as it was in either case.
+/// `AllocError`: memory was wanted and refused.
 pub fn judge(
     alloc: Global,
-    network: &mut Network,
+    network: &Network,
     plan: &Plan,
     lines: &[PolicyLine],
     is_last: bool,
     prior: Option<&Carriage>,
 ) -> Result<Judgement, AllocError>
-    requires { IsPlan network.old.net network.old.numbers plan.now }
-    ensures told { IfOk result (λ judgement. (before : PriorOf) → IsPrior (option_map (λ c. c.now) prior.entry) before → Judges network.old.net before is_last lines.now (told_in lines.now judgement)) }
-    ensures same { SameContents network.old network.new }
+    requires { IsPlan network.now.net network.now.numbers plan.now }
+    ensures { IfOk result (λ judgement. (before : PriorOf) → IsPrior (option_map (λ c. c.now) prior.entry) before → Judges network.now.net before is_last lines.now (told_in lines.now judgement)) }
 {
     line_where_unkept();
     if lines.is_empty() {

@@ -6,5 +6,4 @@ pub mod laws;
 mod verifying;
 
 pub use judging::judge;
-pub use mst_verdict::Verdict;
 pub use verifying::verify_network;

@@ -1,5 +1,4 @@
 ghost use Rattle.std.specs.Prelude.{◌+◌, ◌≤◌, List, IfOk, length};
-ghost use Rattle.mst_net.specs.Contents.{SameContents};
 ghost use Rattle.mst_plan.specs.Plan.{IsPlan};
 ghost use Rattle.mst_rows.specs.Rows.{Row};
 ghost use Rattle.mst_judging.specs.Verifying.{Verifies};
@@ -16,18 +15,17 @@ use mst_verdict::{Verdict, put_verdict};
 use std::alloc::{AllocError, Global};
 
 /// Puts whether a network does what the lines of a policy promise, by its plan. `AllocError`: memory was wanted and refused; some of the
-/// rows may have been put. The network is as it was in either case.
+/// rows may have been put.
 pub fn verify_network<R: Rows>(
     alloc: Global,
-    network: &mut Network,
+    network: &Network,
     plan: &Plan,
     lines: &[PolicyLine],
     out: &mut R,
 ) -> Result<Verdict, AllocError>
-    requires { IsPlan network.old.net network.old.numbers plan.now }
-    ensures told { IfOk result (λ verdict. (rows : List Row) × Verifies network.old.net lines.now (counts_of verdict) rows × Puts R.grew out.old out.new rows) }
+    requires { IsPlan network.now.net network.now.numbers plan.now }
+    ensures told { IfOk result (λ verdict. (rows : List Row) × Verifies network.now.net lines.now (counts_of verdict) rows × Puts R.grew out.old out.new rows) }
     ensures few { IfOk result (λ verdict. verdict.refused ≤ length lines.now + 1) }
-    ensures same { SameContents network.old network.new }
 {
     told_where_unkept();
     let failures = failures(alloc, &plan.view)?;

@@ -9,11 +9,10 @@ use Rattle.mst_graph.specs.Walks.{Walk, Node, bridge_at, lan_at}
 use Rattle.mst_nested.specs.Ports.{port_ends}
 use Rattle.mst_nested.specs.Trees.{Trees, IsEnabled, IsInternal, IsSettled, IsFree, HasTree, SameRegion, SamePart}
 use Rattle.mst_graph.proofs.Walks.{weaker, replaced, stays_in}
-use Rattle.mst_nested.proofs.Parts.{at_port, IsOf, keeps_region}
+use Rattle.mst_nested.proofs.Parts.{at_port, IsOf, keeps_region, vector_at}
 use Rattle.mst_nested.proofs.Seats.{part_at, internal_part, seat_at, same_regional, one_part}
 use Rattle.mst_nested.proofs.Facts.{one_region}
 use Rattle.mst_nested.proofs.Roots.{root_of}
-use Rattle.mst_nested.proofs.Parts.{vector_at}
 use Rattle.mst_graph.specs.Joined.{HasNoLoop}
 use Rattle.mst_nested.specs.Roles.{Forwards, ForwardsInRegion, ForwardsInside}
 use Rattle.mst_nested.specs.Active.{IsTreeOfVid, IsActive}

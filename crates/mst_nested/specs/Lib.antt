@@ -1,4 +1,3 @@
-pub use Rattle.mst_graph.specs as graph
 pub mod Ports
 pub mod Trees
 pub mod Costs

@@ -3,7 +3,7 @@ use Rattle.std.proofs.Common.{◌≡◌, refl, sym, ap, subst, ◌∙◌, ℕ, z
 use Rattle.std.specs.Option.{option_map}
 use Rattle.std.proofs.lemmas.List.{length-map}
 use Rattle.mst_topology.specs.Topology.{KeyTests}
-use Rattle.mst_roles.specs.nested.Trees.{Trees, IsSettled}
+use Rattle.mst_nested.specs.Trees.{Trees, IsSettled}
 use Rattle.mst_note_text.specs.Chains.{InternalChain, top, up}
 use Rattle.mst_note_text.specs.Children.{HasSteps}
 use Rattle.mst_note_text.specs.Depths.{ParentIn}

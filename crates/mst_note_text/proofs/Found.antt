@@ -2,13 +2,12 @@
 use Rattle.std.proofs.Common.{◌≡◌, ℕ, ◌<◌, List, length, Option, subst, arith}
 use Rattle.std.specs.Prelude.{Result, Ok, Err}
 use Rattle.std.specs.Result.{IfOk}
-use Rattle.mst_roles.specs.net.Tables.{Net, Numbers}
+use Rattle.mst_net.specs.Tables.{Net, Numbers}
 use Rattle.mst_lag.specs.Viewed.{Viewed}
-use Rattle.mst_roles.specs.trees.Agrees.{AreOf}
-use Rattle.mst_roles.specs.trees.Forest.{IsForest}
-use Rattle.mst_roles.specs.trees.Forest.{Forest}
-use Rattle.mst_roles.specs.trees.Outcome.{trees_of}
-use Rattle.mst_roles.specs.nested.Trees.{IsSettled}
+use Rattle.mst_trees.specs.Agrees.{AreOf}
+use Rattle.mst_trees.specs.Forest.{IsForest, Forest}
+use Rattle.mst_trees.specs.Outcome.{trees_of}
+use Rattle.mst_nested.specs.Trees.{IsSettled}
 use Rattle.mst_note_text.specs.Depths.{InternalDepth, ExternalDepth}
 use Rattle.mst_note_text.specs.Places.{HasDepths, depths_at}
 use Rattle.mst_note_text.specs.Places as by_place

@@ -14,27 +14,26 @@ use Rattle.mst_vector.specs.MstiLaws.{msti_lawful}
 use Rattle.mst_vector.specs.declared.cist.CistVector.{CistVector}
 use Rattle.mst_vector.specs.declared.msti.MstiVector.{MstiVector}
 use Rattle.mst_topology.specs.Topology.{HasBridge}
-use Rattle.mst_roles.specs.settle.Assignment.{vector_of, designated_of}
-use Rattle.mst_roles.specs.net.Tables.{Net, Numbers, BridgeRow}
-use Rattle.mst_roles.specs.net.ByTree.{ByTree, by_tree, port_priority_in}
+use Rattle.mst_settle.specs.Assignment.{vector_of, designated_of}
+use Rattle.mst_net.specs.Tables.{Net, Numbers, BridgeRow}
+use Rattle.mst_net.specs.ByTree.{ByTree, by_tree, port_priority_in}
 use Rattle.mst_lag.specs.Trees.{is_among}
 use Rattle.mst_lag.specs.Viewed.{Viewed, named_port}
 use Rattle.mst_lag.specs.declared.in_view.BridgeInView.{BridgeInView}
 use Rattle.mst_lag.specs.declared.in_view.PortInView.{PortInView}
-use Rattle.mst_roles.specs.trees.Sight.{Sight, tree_of}
-use Rattle.mst_roles.specs.trees.Cist.{cist_port, cist_sight}
-use Rattle.mst_roles.specs.trees.Msti.{msti_bridge, msti_port, msti_sight, has_msti, is_internal}
-use Rattle.mst_roles.specs.trees.Seen.{seen_internal, trees_at}
-use Rattle.mst_roles.specs.trees.Outcome.{TreeOutcome, IsTreeOutcome, Outcome, trees_of}
-use Rattle.mst_roles.specs.trees.Agrees.{Agrees, AreOf}
-use Rattle.mst_roles.specs.trees.Forest.{IsForest, msti_vector, msti_designated, designated_in}
-use Rattle.mst_roles.specs.trees.Forest.{Forest}
-use Rattle.mst_roles.proofs.trees_lemmas.Seen.{bridge_seen, port_seen, bridge_there}
-use Rattle.mst_roles.proofs.trees_lemmas.Sights.{IsSight, bridge_from}
-use Rattle.mst_roles.proofs.trees_lemmas.Looking.{internal_same, has_tree_at}
-use Rattle.mst_roles.proofs.trees_lemmas.CistTopology.{given, cist_is_sight}
-use Rattle.mst_roles.proofs.trees_lemmas.MstiTopology.{msti_is_sight, msti_port_is}
-use Rattle.mst_roles.specs.nested.Trees.{IsSettled}
+use Rattle.mst_trees.specs.Sight.{Sight, tree_of}
+use Rattle.mst_trees.specs.Cist.{cist_port, cist_sight}
+use Rattle.mst_trees.specs.Msti.{msti_bridge, msti_port, msti_sight, has_msti, is_internal}
+use Rattle.mst_trees.specs.Seen.{seen_internal, trees_at}
+use Rattle.mst_trees.specs.Outcome.{TreeOutcome, IsTreeOutcome, Outcome, trees_of}
+use Rattle.mst_trees.specs.Agrees.{Agrees, AreOf}
+use Rattle.mst_trees.specs.Forest.{IsForest, msti_vector, msti_designated, designated_in, Forest}
+use Rattle.mst_trees.proofs.Seen.{bridge_seen, port_seen, bridge_there}
+use Rattle.mst_trees.proofs.Sights.{IsSight, bridge_from}
+use Rattle.mst_trees.proofs.Looking.{internal_same, has_tree_at}
+use Rattle.mst_trees.proofs.CistTopology.{given, cist_is_sight}
+use Rattle.mst_trees.proofs.MstiTopology.{msti_is_sight, msti_port_is}
+use Rattle.mst_nested.specs.Trees.{IsSettled}
 use Rattle.mst_note_text.specs.Depths.{HasParent}
 use Rattle.mst_note_text.specs.declared.member.Member.{Member}
 use Rattle.mst_note_text.specs.SeenTree.{cist_member, msti_member, seen_member, is_root_port}

@@ -8,28 +8,27 @@ use Rattle.std.specs.FinMap as fin
 use Rattle.std.proofs.lemmas.Bool.{eqb-true}
 use Rattle.std.proofs.lemmas.Option.{get_or_from_slice_get}
 use Rattle.mst_ids.specs.Names.{name_cmp}
-use Rattle.mst_roles.specs.net.Tables.{Net, Numbers}
-use Rattle.mst_roles.specs.net.ByTree.{by_tree}
+use Rattle.mst_net.specs.Tables.{Net, Numbers}
+use Rattle.mst_net.specs.ByTree.{by_tree}
 use Rattle.mst_lag.specs.Viewed.{Viewed}
 use Rattle.mst_lag.specs.declared.in_view.BridgeInView.{BridgeInView}
 use Rattle.mst_lag.specs.declared.in_view.PortInView.{PortInView}
-use Rattle.mst_roles.specs.config.Shared.{same_in}
-use Rattle.mst_roles.specs.config.Regions.{region_of}
-use Rattle.mst_roles.proofs.config_lemmas.SameRegion.{told}
+use Rattle.mst_config.specs.Shared.{same_in}
+use Rattle.mst_config.specs.Regions.{region_of}
+use Rattle.mst_config.proofs.SameRegion.{told}
 use Rattle.mst_vector.specs.Cist.{cist_rules}
 use Rattle.mst_vector.specs.declared.cist.CistBridge.{CistBridge}
 use Rattle.mst_topology.specs.Topology.{HasBridge}
-use Rattle.mst_roles.specs.nested.Trees.{HasTree, SameRegion}
-use Rattle.mst_roles.specs.trees.Apart.{Apart}
-use Rattle.mst_roles.specs.trees.Cist.{cist_sight, cist_of, cist_bridge}
-use Rattle.mst_roles.specs.trees.Agrees.{AreOf}
-use Rattle.mst_roles.specs.trees.Forest.{designated_in}
-use Rattle.mst_roles.specs.trees.Forest.{Forest}
-use Rattle.mst_roles.specs.trees.Outcome.{Outcome, trees_of}
-use Rattle.mst_roles.proofs.trees_lemmas.Lists.{some_is, all_contained, apart_kept, kept_from, kept_in}
-use Rattle.mst_roles.proofs.trees_lemmas.Seen.{BridgesRise, bridge_seen, port_seen, bridges_apart}
-use Rattle.mst_roles.proofs.trees_lemmas.Sights.{bridge_from}
-use Rattle.mst_roles.proofs.trees_lemmas.CistTopology.{given, cist_is_sight}
+use Rattle.mst_nested.specs.Trees.{HasTree, SameRegion}
+use Rattle.mst_trees.specs.Apart.{Apart}
+use Rattle.mst_trees.specs.Cist.{cist_sight, cist_of, cist_bridge}
+use Rattle.mst_trees.specs.Agrees.{AreOf}
+use Rattle.mst_trees.specs.Forest.{designated_in, Forest}
+use Rattle.mst_trees.specs.Outcome.{Outcome, trees_of}
+use Rattle.mst_trees.proofs.Lists.{some_is, all_contained, apart_kept, kept_from, kept_in}
+use Rattle.mst_trees.proofs.Seen.{BridgesRise, bridge_seen, port_seen, bridges_apart}
+use Rattle.mst_trees.proofs.Sights.{bridge_from}
+use Rattle.mst_trees.proofs.CistTopology.{given, cist_is_sight}
 use Rattle.mst_note_text.specs.Depths.{ParentIn}
 use Rattle.mst_note_text.specs.Places.{IsParent}
 use Rattle.mst_note_text.specs.Listed.{IsListed}

@@ -14,28 +14,27 @@ use Rattle.mst_vector.specs.declared.cist.CistVector.{CistVector}
 use Rattle.mst_vector.specs.declared.cist.CistBridge.{CistBridge}
 use Rattle.mst_vector.specs.declared.msti.MstiVector.{MstiVector}
 use Rattle.mst_vector.specs.declared.msti.MstiBridge.{MstiBridge}
-use Rattle.mst_roles.specs.settle.Assignment.{vector_of}
-use Rattle.mst_roles.specs.net.Tables.{Net, Numbers, BridgeRow}
-use Rattle.mst_roles.specs.net.ByTree.{by_tree}
-use Rattle.mst_roles.specs.net.Contents.{priority_of}
-use Rattle.mst_roles.specs.net.Seen.{bridge_row}
+use Rattle.mst_settle.specs.Assignment.{vector_of}
+use Rattle.mst_net.specs.Tables.{Net, Numbers, BridgeRow}
+use Rattle.mst_net.specs.ByTree.{by_tree}
+use Rattle.mst_net.specs.Contents.{priority_of}
+use Rattle.mst_net.specs.Seen.{bridge_row}
 use Rattle.mst_lag.specs.Viewed.{Viewed, named_bridge}
 use Rattle.mst_lag.specs.declared.in_view.BridgeInView.{BridgeInView}
 use Rattle.mst_lag.proofs.Lists.{mapped_twice}
-use Rattle.mst_roles.specs.config.Regions.{region_of}
-use Rattle.mst_roles.specs.trees.Cist.{cist_bridge, cist_sight}
-use Rattle.mst_roles.specs.trees.Msti.{msti_bridge, msti_sight, has_msti}
-use Rattle.mst_roles.specs.trees.Agrees.{AreOf}
-use Rattle.mst_roles.specs.trees.Forest.{IsForest, msti_vector}
-use Rattle.mst_roles.specs.trees.Forest.{Forest}
-use Rattle.mst_roles.specs.trees.Outcome.{Outcome, trees_of}
-use Rattle.mst_roles.proofs.trees_lemmas.Lists.{some_is, all_contained, all_there, kept_from}
-use Rattle.mst_roles.proofs.trees_lemmas.Entries.{all_weaker}
-use Rattle.mst_roles.proofs.trees_lemmas.Seen.{bridge_seen, bridge_there}
-use Rattle.mst_roles.proofs.trees_lemmas.Sights.{bridge_from}
-use Rattle.mst_roles.proofs.trees_lemmas.CistTopology.{given, cist_is_sight}
-use Rattle.mst_roles.proofs.trees_lemmas.MstiTopology.{msti_is_sight}
-use Rattle.mst_roles.specs.nested.Trees.{Trees, IsSettled, HasTree}
+use Rattle.mst_config.specs.Regions.{region_of}
+use Rattle.mst_trees.specs.Cist.{cist_bridge, cist_sight}
+use Rattle.mst_trees.specs.Msti.{msti_bridge, msti_sight, has_msti}
+use Rattle.mst_trees.specs.Agrees.{AreOf}
+use Rattle.mst_trees.specs.Forest.{IsForest, msti_vector, Forest}
+use Rattle.mst_trees.specs.Outcome.{Outcome, trees_of}
+use Rattle.mst_trees.proofs.Lists.{some_is, all_contained, all_there, kept_from}
+use Rattle.mst_trees.proofs.Entries.{all_weaker}
+use Rattle.mst_trees.proofs.Seen.{bridge_seen, bridge_there}
+use Rattle.mst_trees.proofs.Sights.{bridge_from}
+use Rattle.mst_trees.proofs.CistTopology.{given, cist_is_sight}
+use Rattle.mst_trees.proofs.MstiTopology.{msti_is_sight}
+use Rattle.mst_nested.specs.Trees.{Trees, IsSettled, HasTree}
 use Rattle.mst_rows.specs.Rows.{Row}
 use Rattle.mst_note_text.specs.Depths.{InternalDepth, ExternalDepth}
 use Rattle.mst_note_text.specs.Places.{depths_at}

@@ -3,9 +3,9 @@ use Rattle.std.proofs.Common.{◌≡◌, inl, inr, refl, sym, ◌∙◌, ap, ℕ
 use Rattle.mst_vector.specs.Rules.{Rules}
 use Rattle.mst_topology.specs.Topology.{TreePort, Topology}
 use Rattle.mst_topology.proofs.Below.{one_designated}
-use Rattle.mst_roles.proofs.nested_lemmas.Settled.{SettledTree}
-use Rattle.mst_roles.proofs.nested_lemmas.Ports.{Placed, Heard, some_is}
-use Rattle.mst_roles.proofs.nested_lemmas.Origins.{Took, took, names_port, on_same_lan}
+use Rattle.mst_nested.proofs.Settled.{SettledTree}
+use Rattle.mst_nested.proofs.Ports.{Placed, Heard, some_is}
+use Rattle.mst_nested.proofs.Origins.{Took, took, names_port, on_same_lan}
 use Rattle.mst_note_text.specs.Depths.{HasParent}
 
 -- the vector that names the root port is the bridge's

@@ -5,14 +5,14 @@ use Rattle.std.specs.List.{find}
 use Rattle.std.specs.Option.{option_map, option_map_or}
 use Rattle.mst_vector.specs.declared.cist.CistVector.{CistVector}
 use Rattle.mst_vector.specs.declared.msti.MstiVector.{MstiVector}
-use Rattle.mst_roles.specs.settle.Assignment.{vector_of, designated_of}
+use Rattle.mst_settle.specs.Assignment.{vector_of, designated_of}
 use Rattle.mst_lag.specs.Trees.{is_among}
 use Rattle.mst_lag.specs.Viewed.{Viewed, named_port}
 use Rattle.mst_lag.specs.declared.in_view.PortInView.{PortInView}
-use Rattle.mst_roles.specs.trees.Cist.{cist_port}
-use Rattle.mst_roles.specs.trees.Msti.{msti_port}
-use Rattle.mst_roles.specs.trees.Seen.{trees_at, seen_internal}
-use Rattle.mst_roles.specs.trees.Forest.{Forest, msti_vector, designated_in}
+use Rattle.mst_trees.specs.Cist.{cist_port}
+use Rattle.mst_trees.specs.Msti.{msti_port}
+use Rattle.mst_trees.specs.Seen.{trees_at, seen_internal}
+use Rattle.mst_trees.specs.Forest.{Forest, msti_vector, designated_in}
 use Rattle.mst_roles.specs.Roles.{outside}
 use Rattle.mst_roles.specs.Seen.{seen_beside, seen_role_by, seen_cist_role, seen_msti_role, seen_role}
 use Rattle.mst_roles.specs.declared.kind.Role.{Role}

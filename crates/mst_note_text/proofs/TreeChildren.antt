@@ -4,15 +4,15 @@ use Rattle.std.specs.List.{AllByRecursion, Contains, cons_option, filter_map, ra
 use Rattle.std.specs.Option.{option_map_or}
 use Rattle.std.specs.FinMap as fin
 use Rattle.std.proofs.lemmas.List.FromFn.{fill_by_all}
-use Rattle.mst_roles.specs.graph.Groups.{IsThinned, nothing, kept, left_out}
-use Rattle.mst_roles.specs.net.Tables.{Net, Numbers, BridgeRow}
+use Rattle.mst_graph.specs.Groups.{IsThinned, nothing, kept, left_out}
+use Rattle.mst_net.specs.Tables.{Net, Numbers, BridgeRow}
 use Rattle.mst_lag.specs.Viewed.{Viewed, named_bridge}
 use Rattle.mst_lag.specs.declared.in_view.BridgeInView.{BridgeInView}
-use Rattle.mst_roles.specs.nested.Trees.{IsSettled}
-use Rattle.mst_roles.specs.trees.Agrees.{AreOf}
-use Rattle.mst_roles.specs.trees.Forest.{Forest, IsForest}
-use Rattle.mst_roles.specs.trees.Outcome.{trees_of}
-use Rattle.mst_roles.proofs.trees_lemmas.Lists.{contains_mapped, kept_in, mapped_twice}
+use Rattle.mst_nested.specs.Trees.{IsSettled}
+use Rattle.mst_trees.specs.Agrees.{AreOf}
+use Rattle.mst_trees.specs.Forest.{Forest, IsForest}
+use Rattle.mst_trees.specs.Outcome.{trees_of}
+use Rattle.mst_trees.proofs.Lists.{contains_mapped, kept_in, mapped_twice}
 use Rattle.mst_note_text.specs.Children.{AreChildren, IsChild}
 use Rattle.mst_note_text.specs.Depths.{ParentIn}
 use Rattle.mst_note_text.specs.Listed.{IsListed}

@@ -4,20 +4,19 @@ use Rattle.std.specs.Prelude.{if◌then◌else◌}
 use Rattle.std.specs.List.{Contains, list_any, flat_map, range_with_len}
 use Rattle.std.specs.Option.{option_map_or}
 use Rattle.std.specs.FinMap as fin
-use Rattle.mst_roles.specs.net.Tables.{Net, Numbers}
+use Rattle.mst_net.specs.Tables.{Net, Numbers}
 use Rattle.mst_vector.specs.declared.msti.MstiVector.{MstiVector}
 use Rattle.mst_lag.specs.Trees.{is_among}
 use Rattle.mst_lag.specs.Viewed.{Viewed}
 use Rattle.mst_lag.specs.declared.in_view.BridgeInView.{BridgeInView}
-use Rattle.mst_roles.specs.trees.Agrees.{AreOf}
-use Rattle.mst_roles.specs.trees.Forest.{IsForest}
-use Rattle.mst_roles.specs.trees.InUse.{is_in_use}
-use Rattle.mst_roles.specs.trees.Seen.{trees_at}
-use Rattle.mst_roles.specs.trees.Forest.{Forest}
-use Rattle.mst_roles.specs.trees.Outcome.{Outcome, trees_of}
-use Rattle.mst_roles.proofs.trees_lemmas.Seen.{bridge_seen}
-use Rattle.mst_roles.proofs.trees_lemmas.Looking.{has_tree_at}
-use Rattle.mst_roles.specs.nested.Trees.{IsSettled}
+use Rattle.mst_trees.specs.Agrees.{AreOf}
+use Rattle.mst_trees.specs.Forest.{IsForest, Forest}
+use Rattle.mst_trees.specs.InUse.{is_in_use}
+use Rattle.mst_trees.specs.Seen.{trees_at}
+use Rattle.mst_trees.specs.Outcome.{Outcome, trees_of}
+use Rattle.mst_trees.proofs.Seen.{bridge_seen}
+use Rattle.mst_trees.proofs.Looking.{has_tree_at}
+use Rattle.mst_nested.specs.Trees.{IsSettled}
 use Rattle.mst_rows.specs.Rows.{Row}
 use Rattle.mst_note_text.specs.AreDepths.{TreeDepths}
 use Rattle.mst_note_text.specs.NotesText.{cist_notes, msti_notes, bridge_notes, tree_notes, trees_notes}

@@ -9,11 +9,11 @@ use Rattle.mst_kinds.specs.declared.kind.Kind.TheVariants as kind
 use Rattle.mst_kinds.specs.declared.note_line.NoteLine.TheVariants as note_line
 use Rattle.mst_vector.specs.declared.cist.CistVector.{CistVector}
 use Rattle.mst_vector.specs.declared.msti.MstiVector.{MstiVector}
-use Rattle.mst_roles.specs.net.Tables.{Net}
+use Rattle.mst_net.specs.Tables.{Net}
 use Rattle.mst_rows.specs.Cells.{word, number}
 use Rattle.mst_rows.specs.Rows.{Row, row_of}
 use Rattle.mst_lag.specs.View.{LogicalPort, view_ports}
-use Rattle.mst_roles.specs.trees.Outcome.{Outcome, trees_of}
+use Rattle.mst_trees.specs.Outcome.{Outcome, trees_of}
 use Rattle.mst_note_text.specs.AreDepths.{TreeDepths, AreDepths}
 
 -- hops bind where a bridge is at least as deep as the Max Hops of its regional root

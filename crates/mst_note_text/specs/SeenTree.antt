@@ -6,13 +6,12 @@ use Rattle.std.specs.Option.{option_map, option_map_or, option_and_then}
 use Rattle.std.specs.Map.{lookup}
 use Rattle.mst_vector.specs.declared.cist.CistVector.{CistVector}
 use Rattle.mst_vector.specs.declared.msti.MstiVector.{MstiVector}
-use Rattle.mst_roles.specs.settle.Assignment.{vector_of}
+use Rattle.mst_settle.specs.Assignment.{vector_of}
 use Rattle.mst_lag.specs.Viewed.{Viewed}
 use Rattle.mst_lag.specs.declared.in_view.BridgeInView.{BridgeInView}
 use Rattle.mst_lag.specs.declared.in_view.PortInView.{PortInView}
-use Rattle.mst_roles.specs.config.Shared.{same_in}
-use Rattle.mst_roles.specs.trees.Forest.{msti_vector, designated_in}
-use Rattle.mst_roles.specs.trees.Forest.{Forest}
+use Rattle.mst_config.specs.Shared.{same_in}
+use Rattle.mst_trees.specs.Forest.{msti_vector, designated_in, Forest}
 use Rattle.mst_roles.specs.Seen.{seen_role}
 use Rattle.mst_roles.specs.declared.kind.Role.{Role}
 use Rattle.mst_roles.specs.declared.kind.Role.TheVariants.{Root}

@@ -6,7 +6,7 @@ ghost use Rattle.mst_vector.specs.declared.cist.CistBridge.{CistBridge};
 ghost use Rattle.mst_vector.specs.declared.msti.MstiVector.{MstiVector};
 ghost use Rattle.mst_vector.specs.declared.msti.MstiBridge.{MstiBridge};
 ghost use Rattle.mst_topology.specs.Topology.{HasBridge, KeyTests};
-ghost use Rattle.mst_roles.specs.nested.Trees.{Trees, IsSettled, HasTree, SameRegion};
+ghost use Rattle.mst_nested.specs.Trees.{Trees, IsSettled, HasTree, SameRegion};
 ghost use Rattle.mst_note_text.specs.declared.parent.Parent.{Parent};
 ghost use Rattle.mst_note_text.specs.declared.parent.Depths.{Depths};
 ghost use Rattle.mst_note_text.specs.Places.{IsForest, HasDepths};

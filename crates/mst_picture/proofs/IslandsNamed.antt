@@ -7,20 +7,20 @@ use Rattle.std.specs.FinMap as fin
 use Rattle.std.proofs.lemmas.Bool.{eqb-true}
 use Rattle.mst_lag.specs.declared.in_view.BridgeInView.{BridgeInView}
 use Rattle.mst_lag.specs.declared.in_view.PortInView.{PortInView}
-use Rattle.mst_summary.specs.net.After.{table_of}
-use Rattle.mst_summary.specs.net.ByTree.{table_in}
-use Rattle.mst_summary.specs.net.Seen.{bridge_row}
-use Rattle.mst_summary.specs.net.Table.{tree_in}
-use Rattle.mst_summary.specs.net.Tables.{BridgeRow}
-use Rattle.mst_summary.specs.diff.Reach.{has_any}
-use Rattle.mst_summary.specs.roles.Roles.{tree_of_vid}
-use Rattle.mst_summary.specs.roles.Seen.{seen_tree}
-use Rattle.mst_summary.specs.trees.Outcome.{Outcome}
-use Rattle.mst_summary.specs.trees.Settled.{SettledNet, outcome_of, IsSettledNet}
-use Rattle.mst_summary.proofs.trees_lemmas.Lists.{some_is}
-use Rattle.mst_summary.proofs.trees_lemmas.Looking.{first_found}
-use Rattle.mst_summary.proofs.trees_lemmas.Seen.{bridge_there, bridge_seen, port_seen}
-use Rattle.mst_vlan.specs.graph.Islands.{Island}
+use Rattle.mst_net.specs.After.{table_of}
+use Rattle.mst_net.specs.ByTree.{table_in}
+use Rattle.mst_net.specs.Seen.{bridge_row}
+use Rattle.mst_net.specs.Table.{tree_in}
+use Rattle.mst_net.specs.Tables.{BridgeRow}
+use Rattle.mst_diff.specs.Reach.{has_any}
+use Rattle.mst_roles.specs.Roles.{tree_of_vid}
+use Rattle.mst_roles.specs.Seen.{seen_tree}
+use Rattle.mst_trees.specs.Outcome.{Outcome}
+use Rattle.mst_trees.specs.Settled.{SettledNet, outcome_of, IsSettledNet}
+use Rattle.mst_trees.proofs.Lists.{some_is}
+use Rattle.mst_trees.proofs.Looking.{first_found}
+use Rattle.mst_trees.proofs.Seen.{bridge_there, bridge_seen, port_seen}
+use Rattle.mst_graph.specs.Islands.{Island}
 use Rattle.mst_vlan.specs.declared.island.Island.{Island as IslandNos}
 use Rattle.mst_picture.specs.Bridges.{is_root}
 use Rattle.mst_picture.specs.InView.{cluster_of, clusters_of, node_at, node_of}

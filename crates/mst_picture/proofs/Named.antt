@@ -7,11 +7,11 @@ use Rattle.mst_lag.specs.Aggregation.{same_name}
 use Rattle.mst_lag.specs.View.{LogicalLan, LogicalPort}
 use Rattle.mst_lag.specs.Viewed.{Viewed, named_bridge, named_lan, named_port}
 use Rattle.mst_lag.specs.declared.in_view.PortInView.{PortInView}
-use Rattle.mst_summary.specs.trees.Outcome.{Outcome}
-use Rattle.mst_summary.specs.trees.Settled.{SettledNet, outcome_of, IsSettledNet}
-use Rattle.mst_summary.proofs.trees_lemmas.Lists.{all_contained, all_passing, all_there, filter_mapped, mapped_twice}
+use Rattle.mst_trees.specs.Outcome.{Outcome}
+use Rattle.mst_trees.specs.Settled.{SettledNet, outcome_of, IsSettledNet}
+use Rattle.mst_trees.proofs.Lists.{all_contained, all_passing, all_there, filter_mapped, mapped_twice}
 use Rattle.mst_summary.specs.Seen.{seen_on}
-use Rattle.mst_vlan.specs.graph.Islands.{Island}
+use Rattle.mst_graph.specs.Islands.{Island}
 use Rattle.mst_picture.specs.Bridges.{bridge_text, off_text}
 use Rattle.mst_picture.specs.InView.{AreAmong, bridge_of, end_at, lan_of, off_of}
 use Rattle.mst_picture.specs.Lans.{end_of, ends_on, lan_text, lans_text}

@@ -1,12 +1,12 @@
 -- Bridges in a picture.
 use Rattle.std.specs.Prelude.{ℕ, ◌==◌, Bool, false, not, List, [], ◌∷◌, codes, if◌then◌else◌}
 use Rattle.std.specs.Option.{option_map_or}
-use Rattle.mst_summary.specs.net.Tables.{Net, BridgeRow}
-use Rattle.mst_summary.specs.net.ByTree.{by_tree}
-use Rattle.mst_summary.specs.trees.InUse.{id_in}
-use Rattle.mst_summary.specs.trees.Outcome.{Outcome}
-use Rattle.mst_summary.specs.text.TreeText.{has_tree}
-use Rattle.mst_summary.specs.diff.Roots.{root_of}
+use Rattle.mst_net.specs.Tables.{Net, BridgeRow}
+use Rattle.mst_net.specs.ByTree.{by_tree}
+use Rattle.mst_trees.specs.InUse.{id_in}
+use Rattle.mst_trees.specs.Outcome.{Outcome}
+use Rattle.mst_text.specs.TreeText.{has_tree}
+use Rattle.mst_diff.specs.Roots.{root_of}
 use Rattle.mst_picture.specs.Pieces.{joined}
 
 -- a bridge is a root of the tree: it names itself, in an MSTI as its regional root

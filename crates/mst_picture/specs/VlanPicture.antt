@@ -3,11 +3,11 @@ use Rattle.std.specs.Prelude.{◌≡◌, ℕ, suc, Bool, List, [], ◌∷◌, �
 use Rattle.std.specs.List.{flat_map}
 use Rattle.std.specs.Option.{option_map_or}
 use Rattle.std.specs.FinMap as fin
-use Rattle.mst_summary.specs.net.Tables.{Net}
-use Rattle.mst_summary.specs.diff.Reach.{has_any}
-use Rattle.mst_summary.specs.roles.Roles.{tree_of_vid}
-use Rattle.mst_summary.specs.trees.Outcome.{Outcome}
-use Rattle.mst_vlan.specs.graph.Islands.{Island}
+use Rattle.mst_net.specs.Tables.{Net}
+use Rattle.mst_diff.specs.Reach.{has_any}
+use Rattle.mst_roles.specs.Roles.{tree_of_vid}
+use Rattle.mst_trees.specs.Outcome.{Outcome}
+use Rattle.mst_graph.specs.Islands.{Island}
 use Rattle.mst_vlan.specs.Reach.{AreIslandsOf}
 use Rattle.mst_picture.specs.Bridges.{is_root, off_text}
 use Rattle.mst_picture.specs.Lans.{lans_text}

@@ -1,7 +1,7 @@
 ghost use Rattle.std.specs.Prelude.{◌≡◌, ℕ, ◌++◌, List, OnOk};
 ghost use Rattle.std.specs.List.{Contains, flat_map};
-ghost use Rattle.mst_summary.specs.trees.Settled.{outcome_of};
-ghost use Rattle.mst_vlan.specs.graph.Islands.{Island as NamedIsland};
+ghost use Rattle.mst_trees.specs.Settled.{outcome_of};
+ghost use Rattle.mst_graph.specs.Islands.{Island as NamedIsland};
 ghost use Rattle.mst_vlan.specs.Reach.{AreIslandsOf};
 ghost use Rattle.mst_picture.specs.VlanPicture.{node_line, node_end as node_end_by, cluster_opening, clusters};
 ghost use Rattle.mst_picture.specs.InView.{node_of, node_at, cluster_of, clusters_of};
@@ -9,10 +9,11 @@ ghost use Rattle.mst_picture.specs.InView.{node_of, node_at, cluster_of, cluster
 use crate::bridges::is_root;
 use crate::pieces::push_pieces;
 use itoa::Buffer;
+use mst_diff::has_bridge;
 use mst_ids::{BridgeNo, Name, Tree, Vid, push_bytes};
 use mst_lag::BridgeInView;
 use mst_roles::vid_tree;
-use mst_summary::{Settled, has_bridge};
+use mst_trees::Settled;
 use mst_vlan::{Island, active_ports, reach_from};
 use std::alloc::{AllocError, Global};
 

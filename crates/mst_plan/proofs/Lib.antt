@@ -1,3 +1,3 @@
 pub mod ByName
 pub mod EditNumbers
-pub mod TreesGiven
+pub mod Keeping

@@ -1,3 +1,4 @@
 pub mod Standing
 pub mod Plan
+pub mod Kept
 pub mod ByName

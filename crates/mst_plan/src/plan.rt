@@ -1,7 +1,6 @@
-ghost use Rattle.std.specs.Prelude.{◌≡◌, true, is_some, IfOk, OnOk, OnErr};
-ghost use Rattle.std.specs.Option.{option_map, ForSome};
+ghost use Rattle.std.specs.Prelude.{◌≡◌, true, IfOk};
 ghost use Rattle.mst_config.specs.Shared.{AreRegions};
-ghost use Rattle.mst_plan.specs.Plan.{IsPlan, AreTrees, HasPlan, HasRegions, HasView, WasViewed, standing_in};
+ghost use Rattle.mst_plan.specs.Plan.{IsPlan, AreTrees, WasViewed};
 ghost use Rattle.mst_lag.specs.Viewed.{IsView};
 ghost use Rattle.mst_plan.specs.Standing.{standing_of, msti_settlings, KeepsBounds};
 ghost use Rattle.mst_trees.specs.Forest.{SettlesNoUnused};
@@ -35,27 +34,6 @@ impl Drop for Plan {
     }
 }
 
-/// The plan of a network, or of one as it will be once an edit is made: its trees are repaired from those of the plan
-/// that stands, if one does, and its regions are that plan's where they stand. `AllocError`: memory was wanted and
-/// refused.
-pub fn next_plan<C: Contents>(
-    alloc: Global,
-    contents: &C,
-    standing: &Option<Plan>,
-    regions_stand: bool,
-) -> Result<Plan, AllocError>
-    requires { HasRegions (C.tables contents.now).net (C.tables contents.now).numbers regions_stand standing.now }
-    ensures plan { IfOk result (IsPlan (C.tables contents.now).net (C.tables contents.now).numbers) }
-    ensures bounds { IfOk result (λ plan. KeepsBounds (standing_in standing.now) (standing_of plan.forest)) }
-    ensures unused { IfOk result (λ plan. SettlesNoUnused (C.tables contents.now).net (msti_settlings (standing_of plan.forest))) }
-{
-    let regions = next_regions(alloc, contents, standing, regions_stand)?;
-    match standing {
-        None => plan_from(alloc, contents, regions, &Forest::empty(alloc)),
-        Some(plan) => plan_from(alloc, contents, regions, &plan.forest),
-    }
-}
-
 /// The plan of a network beside another that stands: its trees are repaired from those, and its regions are copied where they stand.
 /// `AllocError`: memory was wanted and refused.
 pub fn plan_beside<C: Contents>(
@@ -72,7 +50,7 @@ pub fn plan_beside<C: Contents>(
 }
 
 /// The regions and the trees of a network, by a plan whose view is the network's.
-fn next_trees<C: Contents>(
+pub(crate) fn next_trees<C: Contents>(
     alloc: Global,
     contents: &C,
     standing: &Plan,
@@ -91,7 +69,7 @@ fn next_trees<C: Contents>(
 }
 
 /// The regions of a network: a copy of those of this plan, where they stand, and else made anew.
-fn regions_now<C: Contents>(
+pub(crate) fn regions_now<C: Contents>(
     alloc: Global,
     contents: &C,
     standing: &Plan,
@@ -109,7 +87,7 @@ fn regions_now<C: Contents>(
 
 impl Plan {
     /// The plan with these regions and trees in the place of its own.
-    fn with(self, regions: Regions, forest: Forest) -> Plan
+    pub(crate) fn with(self, regions: Regions, forest: Forest) -> Plan
         ensures { result ≡ record { view = self.view; regions = regions; forest = forest } }
     {
         let Plan {
@@ -125,7 +103,7 @@ impl Plan {
     }
 
     /// The plan once an edit was made, and whether its view is the network's: it was before, and is renewed.
-    fn after(self, alloc: Global, network: &Network, edit: &Edit) -> (Plan, bool)
+    pub(crate) fn after(self, alloc: Global, network: &Network, edit: &Edit) -> (Plan, bool)
         requires { WasViewed edit.now network.now self.view }
         ensures stands { result.1 ≡ true → IsView network.now.net network.now.numbers result.0.view }
         ensures forest { result.0.forest ≡ self.forest }
@@ -143,19 +121,6 @@ impl Plan {
             forest,
         };
         (plan, stands)
-    }
-}
-
-/// A plan with these regions and trees in the place of its own, if there is one.
-fn with_trees(plan: Option<Plan>, trees: (Regions, Forest)) -> Option<Plan>
-    ensures { result ≡ option_map (λ p. record { view = p.view; regions = trees.0; forest = trees.1 }) plan }
-{
-    match plan {
-        None => None,
-        Some(plan) => {
-            let (regions, forest) = trees;
-            Some(plan.with(regions, forest))
-        }
     }
 }
 
@@ -195,114 +160,8 @@ fn renews_view(alloc: Global, network: &Network, view: &mut View, edit: &Edit) -
     }
 }
 
-/// Renews the view of a plan for an edit that was made, if the plan was settled and its view that of the network before, and
-/// the edit is of a kind for which that can be done. Answers whether the view is the network's now. A plan that wasn't settled
-/// is left as it is: a script of many edits would renew a view for each, which no query asks for.
-pub fn renew_plan(
-    alloc: Global,
-    network: &Network,
-    plan: &mut Option<Plan>,
-    was_settled: bool,
-    view_stood: bool,
-    edit: &Edit,
-) -> bool
-    requires { view_stood ≡ true → ForSome plan.old (λ p. WasViewed edit.now network.now p.view) }
-    ensures stands { HasView network.now.net network.now.numbers result plan.new }
-    ensures standing { standing_in plan.new ≡ standing_in plan.old }
-    ensures regions { option_map (λ p. p.regions) plan.new ≡ option_map (λ p. p.regions) plan.old }
-{
-    if was_settled && view_stood {
-        let (renewed, stands) = plan_after(alloc, network, plan.take(), edit);
-        *plan = renewed;
-        return stands;
-    }
-    false
-}
-
-/// A plan once an edit was made, and whether its view is the network's: it was before, and is renewed.
-fn plan_after(
-    alloc: Global,
-    network: &Network,
-    plan: Option<Plan>,
-    edit: &Edit,
-) -> (Option<Plan>, bool)
-    requires { ForSome plan (λ p. WasViewed edit.now network.now p.view) }
-    ensures stands { HasView network.now.net network.now.numbers result.1 result.0 }
-    ensures standing { standing_in result.0 ≡ standing_in plan }
-    ensures regions { option_map (λ p. p.regions) result.0 ≡ option_map (λ p. p.regions) plan }
-{
-    match plan {
-        None => (None, false),
-        Some(plan) => {
-            let (plan, stands) = plan.after(alloc, network, edit);
-            (Some(plan), stands)
-        }
-    }
-}
-
-/// Brings a plan up to the network: by its view, where that is the network's, and else by one made anew. `AllocError`: memory
-/// was wanted and refused, and the plan is as it was.
-pub fn settle_plan(
-    alloc: Global,
-    network: &Network,
-    plan: &mut Option<Plan>,
-    regions_stand: bool,
-    view_stands: bool,
-) -> Result<(), AllocError>
-    requires regions { HasRegions network.now.net network.now.numbers regions_stand plan.old }
-    requires view { HasView network.now.net network.now.numbers view_stands plan.old }
-    ensures plan { OnOk result (HasPlan network.now.net network.now.numbers true plan.new) }
-    ensures bounds { OnOk result (KeepsBounds (standing_in plan.old) (standing_in plan.new)) }
-    ensures unused { OnOk result (SettlesNoUnused network.now.net (msti_settlings (standing_in plan.new))) }
-    ensures as_it_was { OnErr result (plan.new ≡ plan.old) }
-{
-    if view_stands && plan.is_some() {
-        return settle_trees(alloc, network, plan, regions_stand);
-    }
-    let next = next_plan(alloc, network, plan, regions_stand)?;
-    *plan = Some(next);
-    Ok(())
-}
-
-/// Brings a plan up to the network whose view it has: its regions and trees alone.
-fn settle_trees(
-    alloc: Global,
-    network: &Network,
-    plan: &mut Option<Plan>,
-    regions_stand: bool,
-) -> Result<(), AllocError>
-    requires there { is_some plan.old ≡ true }
-    requires regions { HasRegions network.now.net network.now.numbers regions_stand plan.old }
-    requires view { HasView network.now.net network.now.numbers true plan.old }
-    ensures plan { OnOk result (HasPlan network.now.net network.now.numbers true plan.new) }
-    ensures bounds { OnOk result (KeepsBounds (standing_in plan.old) (standing_in plan.new)) }
-    ensures unused { OnOk result (SettlesNoUnused network.now.net (msti_settlings (standing_in plan.new))) }
-    ensures as_it_was { OnErr result (plan.new ≡ plan.old) }
-{
-    let standing = plan.as_ref().unwrap();
-    let trees = next_trees(alloc, network, standing, regions_stand)?;
-    *plan = with_trees(plan.take(), trees);
-    Ok(())
-}
-
-/// The regions of a network: a copy of those of the plan that stands, where they stand, and else made anew.
-fn next_regions<C: Contents>(
-    alloc: Global,
-    contents: &C,
-    standing: &Option<Plan>,
-    regions_stand: bool,
-) -> Result<Regions, AllocError>
-    requires { HasRegions (C.tables contents.now).net (C.tables contents.now).numbers regions_stand standing.now }
-    ensures { IfOk result (AreRegions (C.tables contents.now).net (C.tables contents.now).numbers) }
-{
-    match standing {
-        Some(plan) if regions_stand => plan.regions.copy(),
-        _ => regions_of(alloc, contents),
-    }
-}
-
 /// The plan of a network with these regions, its trees repaired from these.
-fn plan_from<C: Contents>(
+pub(crate) fn plan_from<C: Contents>(
     alloc: Global,
     contents: &C,
     regions: Regions,

@@ -1,6 +1,3 @@
-pub use Rattle.mst_text.proofs.trees_lemmas as trees_lemmas
-pub use Rattle.mst_text.proofs.roles_lemmas as roles_lemmas
-pub use Rattle.mst_text.proofs.vlan_lemmas as vlan_lemmas
 pub use Rattle.mst_text.proofs as text_lemmas
 pub mod Sets
 pub mod SeenTrees

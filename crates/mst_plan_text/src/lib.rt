@@ -9,9 +9,5 @@ mod plan;
 mod trees;
 
 pub use groups::{set_of, vids};
-pub use mst_text::{
-    Forest, Island, Role, Settled, bridge_id, bridge_names, forwards, has_tree, is_had, is_member,
-    laws as text_laws, mstis_in_use, port_forwards, port_role, put_configuration, put_lags,
-    put_regions, put_tree, put_vlan, reach, role, trees_in_use, trees_laws, vlan_laws,
-};
+pub use mst_text::bridge_names;
 pub use plan::put_plan;

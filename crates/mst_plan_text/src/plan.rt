@@ -8,8 +8,8 @@ ghost use Rattle.mst_plan_text.specs.PlanText.{all_vids, ArePlanRows, AreVidsRow
 use crate::active::actives;
 use crate::groups::{put_groups, vids};
 use crate::trees::put_trees;
-use mst_classes::{numbers_of_vids, tables, vlan_sets};
-use mst_graph::{groups_by_body, number_keys};
+use mst_classes::classes_of_vids;
+use mst_graph::groups_by_body;
 use mst_ids::Vid;
 use mst_rows::Rows;
 use mst_text::Settled;
@@ -46,11 +46,7 @@ fn groups_of_vids(alloc: Global, plan: &Settled) -> Result<Vec<Vec<Vid>>, AllocE
     ensures { IfOk result (λ groups. AreGroups (λ x y. ports_of_vid plan.now.net (outcome_of plan.now) x ≡ ports_of_vid plan.now.net (outcome_of plan.now) y) all_vids (map (λ group. group.items) groups.items)) }
 {
     plan.known();
-    let view = plan.view();
-    let tables = tables(alloc, view)?;
-    let sets = vlan_sets(alloc, view)?;
-    let numbers = numbers_of_vids(alloc, tables.as_slice(), sets.as_slice())?;
-    let classes = number_keys(alloc, numbers)?;
+    let classes = classes_of_vids(alloc, plan.view())?;
     let actives = actives(alloc, plan, classes.firsts.as_slice())?;
     let vids = vids(alloc)?;
     groups_by_body(alloc, vids.as_slice(), classes.numbers.as_slice(), actives)

@@ -1,3 +1,2 @@
-pub use Rattle.mst_hints.specs as hints
 pub mod Near
 pub mod Hints

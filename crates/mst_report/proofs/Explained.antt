@@ -13,17 +13,17 @@ use Rattle.mst_lag.specs.Trees.{mstis_of, is_among}
 use Rattle.mst_lag.specs.View.{LogicalPort, view_ports}
 use Rattle.mst_lag.specs.Viewed.{Viewed, named_port}
 use Rattle.mst_lag.specs.declared.in_view.PortInView.{PortInView}
-use Rattle.mst_picture.specs.trees.Agrees.{AreOf}
-use Rattle.mst_picture.specs.trees.InUse.{seen_has}
-use Rattle.mst_picture.specs.trees.Msti.{has_msti}
-use Rattle.mst_picture.specs.trees.Outcome.{Outcome, IsOutcome}
-use Rattle.mst_picture.specs.trees.Settled.{SettledNet, outcome_of, IsSettledNet}
-use Rattle.mst_picture.proofs.trees_lemmas.Entries.{all_weaker}
-use Rattle.mst_picture.specs.trees.Seen.{trees_at}
-use Rattle.mst_picture.proofs.trees_lemmas.Lists.{some_is, no_some, passed, all_there, there_first, there_later}
-use Rattle.mst_picture.proofs.trees_lemmas.Seen.{port_seen}
-use Rattle.mst_picture.proofs.trees_lemmas.Looking.{has_tree_at}
-use Rattle.mst_picture.proofs.roles_lemmas.Named.{port_is, port_found, found_in}
+use Rattle.mst_trees.specs.Agrees.{AreOf}
+use Rattle.mst_trees.specs.InUse.{seen_has}
+use Rattle.mst_trees.specs.Msti.{has_msti}
+use Rattle.mst_trees.specs.Outcome.{Outcome, IsOutcome}
+use Rattle.mst_trees.specs.Settled.{SettledNet, outcome_of, IsSettledNet}
+use Rattle.mst_trees.proofs.Entries.{all_weaker}
+use Rattle.mst_trees.specs.Seen.{trees_at}
+use Rattle.mst_trees.proofs.Lists.{some_is, no_some, passed, all_there, there_first, there_later}
+use Rattle.mst_trees.proofs.Seen.{port_seen}
+use Rattle.mst_trees.proofs.Looking.{has_tree_at}
+use Rattle.mst_roles.proofs.Named.{port_is, port_found, found_in}
 use Rattle.mst_explain.specs.Explained.{IsExplained, AreExplained, trees_of_bridge}
 use Rattle.mst_explain.proofs.Texts.{tree_there as among_trees}
 use Rattle.mst_report.specs.Unadvised.{unrooted_of}

@@ -2,9 +2,9 @@
 use Rattle.std.specs.Prelude.{List}
 use Rattle.mst_net.specs.Tables.{Net}
 use Rattle.mst_rows.specs.Rows.{Row}
-use Rattle.mst_picture.specs.trees.Outcome.{Outcome, IsOutcome}
-use Rattle.mst_picture.specs.diff.DiffText.{AreDiffRowsOf}
-use Rattle.mst_picture.specs.diff.declared.diff.Differing.{Differing}
+use Rattle.mst_trees.specs.Outcome.{Outcome, IsOutcome}
+use Rattle.mst_diff.specs.DiffText.{AreDiffRowsOf}
+use Rattle.mst_diff.specs.declared.diff.Differing.{Differing}
 
 -- these rows tell what differs from one network to another, and these are its numbers, by a settled outcome of each
 pub record Differs (a b : Net) (counts : Differing) (rows : List Row) : Type 0 where

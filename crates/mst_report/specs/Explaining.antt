@@ -7,8 +7,8 @@ use Rattle.mst_net.specs.After.{has_bridge}
 use Rattle.mst_net.specs.Tables.{Net, port_eq}
 use Rattle.mst_rows.specs.Rows.{Row}
 use Rattle.mst_lag.specs.View.{LogicalPort, view_ports}
-use Rattle.mst_picture.specs.trees.Msti.{has_msti}
-use Rattle.mst_picture.specs.trees.Outcome.{Outcome, IsOutcome}
+use Rattle.mst_trees.specs.Msti.{has_msti}
+use Rattle.mst_trees.specs.Outcome.{Outcome, IsOutcome}
 use Rattle.mst_explain.specs.Explained.{AreExplained, trees_of_bridge}
 use Rattle.mst_report.specs.declared.explaining.Unexplained.{Unexplained}
 use Rattle.mst_report.specs.declared.explaining.Unexplained.TheVariants.{NoBridge, NoPort, NoTree}

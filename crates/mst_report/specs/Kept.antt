@@ -1,9 +1,9 @@
 -- What a planner keeps of a marked network.
 use Rattle.std.specs.Prelude.{List, Option, MatchOption}
 use Rattle.std.specs.Option.{option_map}
-use Rattle.mst_picture.specs.changes.declared.subject.Entry.{Entry}
-use Rattle.mst_picture.specs.changes.Stored.{kept_entries}
-use Rattle.mst_picture.specs.changes.declared.entries.Entries.{Entries}
+use Rattle.mst_changes.specs.declared.subject.Entry.{Entry}
+use Rattle.mst_changes.specs.Stored.{kept_entries}
+use Rattle.mst_changes.specs.declared.entries.Entries.{Entries}
 use Rattle.mst_report.specs.State.{IsMark}
 
 -- the entries that are kept of the mark, if there is one, are those of a network

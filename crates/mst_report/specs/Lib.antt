@@ -1,8 +1,4 @@
-pub use Rattle.mst_picture.specs.settle as settle
-pub use Rattle.mst_picture.specs.trees as trees
-pub use Rattle.mst_picture.specs.roles as roles
-pub use Rattle.mst_picture.specs.changes as changes
-pub use Rattle.mst_picture.specs.diff as diff
+pub use Rattle.mst_diff.specs as diff
 pub use Rattle.mst_sweep.specs as sweep
 pub mod State
 pub mod Answers

@@ -1,9 +1,9 @@
 -- The state of a plan, which queries are asked of.
 use Rattle.std.specs.Prelude.{◌≡◌, List, Option, None, Some, MatchOption}
 use Rattle.mst_net.specs.Tables.{Net, IsNetwork, empty_net}
-use Rattle.mst_picture.specs.trees.Outcome.{Outcome, IsOutcome}
-use Rattle.mst_picture.specs.changes.Kept.{entries_of}
-use Rattle.mst_picture.specs.changes.declared.subject.Entry.{Entry}
+use Rattle.mst_trees.specs.Outcome.{Outcome, IsOutcome}
+use Rattle.mst_changes.specs.Kept.{entries_of}
+use Rattle.mst_changes.specs.declared.subject.Entry.{Entry}
 
 -- the network now, and the entries of the network that was marked, if one was
 pub record State : Type 0 where

@@ -3,7 +3,7 @@ ghost use Rattle.mst_rows.specs.Rows.{Row};
 ghost use Rattle.mst_report.specs.Differing.{Differs};
 
 use crate::planner::Planner;
-use mst_picture::{Differing, put_diff};
+use mst_diff::{Differing, put_diff};
 use mst_rows::Rows;
 use std::alloc::AllocError;
 

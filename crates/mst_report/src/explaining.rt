@@ -11,8 +11,8 @@ use mst_explain::{put_explanation, put_explanations};
 use mst_ids::{PortName, Tree};
 use mst_lag::PortInView;
 use mst_net::Contents;
-use mst_picture::Settled;
 use mst_rows::Rows;
+use mst_trees::Settled;
 use std::alloc::{AllocError, Global};
 use thiserror::Error;
 
@@ -115,7 +115,7 @@ fn has_tree(plan: &Settled, port: &PortInView, tree: Tree) -> bool
     ensures { result ≡ has_tree_in plan.now.net port.now.name.bridge tree }
 {
     plan.known();
-    mst_picture::has_tree(plan.view(), port.bridge, tree)
+    mst_trees::has_tree(plan.view(), port.bridge, tree)
 }
 
 /// Puts the rows of a port that is explained.

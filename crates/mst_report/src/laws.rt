@@ -4,9 +4,9 @@ ghost use Rattle.mst_ids.specs.declared.name.PortName.{PortName};
 ghost use Rattle.mst_lang.specs.declared.line.Query.{Query};
 ghost use Rattle.mst_net.specs.Tables.{Net, IsNetwork};
 ghost use Rattle.mst_net.specs.declared.refusal.Refusal.{Refusal};
-ghost use Rattle.mst_picture.specs.diff.AlikeNets.{AreAlike};
-ghost use Rattle.mst_picture.specs.diff.DiffText.{diff_row};
-ghost use Rattle.mst_picture.specs.diff.declared.diff.Differing.{Differing as Counts};
+ghost use Rattle.mst_diff.specs.AlikeNets.{AreAlike};
+ghost use Rattle.mst_diff.specs.DiffText.{diff_row};
+ghost use Rattle.mst_diff.specs.declared.diff.Differing.{Differing as Counts};
 ghost use Rattle.mst_rows.specs.Rows.{Row};
 ghost use Rattle.mst_report.specs.Answers.{Answers};
 ghost use Rattle.mst_report.specs.Differing.{Differs};
@@ -14,14 +14,14 @@ ghost use Rattle.mst_report.specs.Explaining.{Explains, unexplained_of};
 ghost use Rattle.mst_report.specs.Picturing.{Depicts, DepictsVlan};
 ghost use Rattle.mst_report.specs.Summarizing.{Summarizes};
 ghost use Rattle.mst_report.specs.State.{State, IsState, IsMark, IsMarkNow};
-ghost use Rattle.mst_picture.specs.changes.declared.subject.Entry.{Entry};
+ghost use Rattle.mst_changes.specs.declared.subject.Entry.{Entry};
 
+use mst_changes::laws::entries_tell;
 use mst_explain::laws::{one_explained, some_explained};
 use mst_note_text::laws::notes;
-use mst_picture::changes_laws::entries_tell;
-use mst_picture::plan_text_laws::{has_plan, one_plan};
-use mst_picture::text_laws::{has_rows, one_rows};
-use mst_picture::trees_laws::{has_outcome, one_outcome};
+use mst_plan_text::laws::{has_plan, one_plan};
+use mst_text::laws::{has_rows, one_rows};
+use mst_trees::laws::{has_outcome, one_outcome};
 
 /// Each query has an answer in each state, rows or a refusal.
 pub fn has_answer()
@@ -73,7 +73,7 @@ pub fn one_difference()
     ensures some { (a b : Net) → IsNetwork a → IsNetwork b → (c : Counts) × (rows : List Row) × Differs a b c rows }
 {
     has_outcome();
-    mst_picture::diff_laws::one_diff();
+    mst_diff::laws::one_diff();
 }
 
 /// A network differs from itself in nothing: the last row stands alone.
@@ -82,7 +82,7 @@ pub fn no_difference()
         → (rows ≡ diff_row c ∷ []) × (c ≡ record { regions = 0; roots = 0; ports = 0; vlans = 0 }) }
 {
     one_outcome();
-    mst_picture::diff_laws::no_difference();
+    mst_diff::laws::no_difference();
 }
 
 /// The last row stands alone exactly where nothing is counted, and that is exactly where the networks are alike.
@@ -91,7 +91,7 @@ pub fn last_line()
         → (c ≡ record { regions = 0; roots = 0; ports = 0; vlans = 0 }) ↔ (rows ≡ diff_row c ∷ []) }
     ensures same { (a b : Net) (c : Counts) (rows : List Row) → (x : Differs a b c rows) → (rows ≡ diff_row c ∷ []) ↔ AreAlike a x.old b x.new }
 {
-    mst_picture::diff_laws::last_line();
+    mst_diff::laws::last_line();
 }
 
 /// The change back: as much differs. That the rows are the same with their sides changed over, [`mst_diff::laws::turned`]
@@ -100,7 +100,7 @@ pub fn turned()
     ensures { (a b : Net) (c d : Counts) (rows other : List Row) → IsNetwork a → IsNetwork b → Differs a b c rows → Differs b a d other → c ≡ d }
 {
     one_outcome();
-    mst_picture::diff_laws::turned();
+    mst_diff::laws::turned();
 }
 
 /// A network has one summary, which the network alone settles.

@@ -14,6 +14,4 @@ mod unadvised;
 
 pub use answers::asks_plan;
 pub use explaining::Unexplained;
-pub use mst_picture::{Differing, Forest, Role, Settled, forwards, port_role, trees_laws};
-pub use mst_sweep::SweepPart;
 pub use planner::Planner;

@@ -3,10 +3,10 @@ ghost use Rattle.mst_change.specs.Steps.{all_lines};
 ghost use Rattle.mst_net.specs.After.{after};
 ghost use Rattle.mst_net.specs.Contents.{SameContents, CanCommit, Commits, room_for};
 ghost use Rattle.std.specs.Option.{option_map};
-ghost use Rattle.mst_picture.specs.trees.Agrees.{AreOf};
-ghost use Rattle.mst_picture.specs.trees.Forest.{IsForest, SettlesNoUnused};
+ghost use Rattle.mst_trees.specs.Agrees.{AreOf};
+ghost use Rattle.mst_trees.specs.Forest.{IsForest, SettlesNoUnused};
 ghost use Rattle.mst_lag.specs.Viewed.{IsView};
-ghost use Rattle.mst_picture.specs.changes.Stored.{kept_entries};
+ghost use Rattle.mst_changes.specs.Stored.{kept_entries};
 ghost use Rattle.mst_advising.specs.Advising.{Advises};
 ghost use Rattle.mst_report.specs.Unadvised.{unadvised_of};
 ghost use Rattle.mst_sweeping.specs.Pairing.{SweepsPairs};
@@ -21,20 +21,20 @@ use crate::laws::entries_of_network;
 use mst_advise::Goal;
 use mst_advising::{Advised, advise_network};
 use mst_change::Change;
-use mst_config::laws::regions_stay;
-use mst_config::touches_regions;
+use mst_changes::Entries;
 use mst_ids::Tree;
-use mst_judging::{Verdict, verify_network};
+use mst_judging::verify_network;
 use mst_lag::View;
 use mst_lang::Edit;
 use mst_net::{Contents, Network, Refusal};
-use mst_picture::{Entries, Forest, Settled};
-use mst_plan::{Plan, next_plan, renew_plan, settle_plan};
+use mst_plan::{KeptPlan, Plan};
 use mst_policy::Policy;
 use mst_rows::Rows;
 use mst_stepping::{Course, step_network};
 use mst_sweep::SweepPart;
 use mst_sweeping::{sweep_network, sweep_pairs};
+use mst_trees::{Forest, Settled};
+use mst_verdict::Verdict;
 use std::alloc::{AllocError, Global};
 use std::marker::Model;
 
@@ -45,14 +45,8 @@ use std::marker::Model;
 pub struct Planner {
     alloc: Global,
     network: Network,
-    // None until it is settled for the first time.
-    plan: Option<Plan>,
-    // The plan is that of the network as it is now.
-    is_settled: bool,
-    // The plan's regions are, if there is a plan: no edit since has touched one.
-    regions_stand: bool,
-    // And the plan's view is: each edit since was one for which it was renewed.
-    view_stands: bool,
+    // What is kept of what follows from it.
+    kept: KeptPlan,
     // What is kept of the marked network, if one was marked.
     mark: Option<Entries>,
 }
@@ -63,10 +57,7 @@ impl Drop for Planner {
         let Planner {
             alloc: _,
             network: _,
-            plan: _,
-            is_settled: _,
-            regions_stand: _,
-            view_stands: _,
+            kept: _,
             mark: _,
         } = self;
     }
@@ -83,11 +74,11 @@ impl Model for Planner {
     ghost coded = { Prim.hlevel (codes, contents_code) };
 
     ghost use Rattle.mst_report.specs.Kept.{HasMark, mark_entries};
-    ghost use Rattle.mst_plan.specs.Plan.{HasPlan, HasRegions, HasView, standing_in};
+    ghost use Rattle.mst_plan.specs.Kept.{IsKept, is_settled_of, standing_in};
 
-    ghost view = { λ p. record { contents = p.network; is_settled = p.is_settled; standing = standing_in p.plan; mark = mark_entries p.mark } };
+    ghost view = { λ p. record { contents = p.network; is_settled = is_settled_of p.kept; standing = standing_in p.kept; mark = mark_entries p.mark } };
 
-    ghost invariant = { λ p. HasPlan p.network.net p.network.numbers p.is_settled p.plan × HasMark p.mark × HasRegions p.network.net p.network.numbers p.regions_stand p.plan × HasView p.network.net p.network.numbers p.view_stands p.plan };
+    ghost invariant = { λ p. IsKept p.network.net p.network.numbers p.kept × HasMark p.mark };
 }
 
 impl Planner {
@@ -104,10 +95,7 @@ impl Planner {
         Planner {
             alloc,
             network: Network::new(alloc),
-            plan: None,
-            is_settled: false,
-            regions_stand: false,
-            view_stands: false,
+            kept: KeptPlan::Nothing,
             mark: None,
         }
     }
@@ -130,7 +118,7 @@ impl Planner {
     pub fn is_settled(&self) -> bool
         ensures { result ≡ self.now.is_settled }
     {
-        self.is_settled
+        self.kept.is_settled()
     }
 
     /// The network's view.
@@ -165,10 +153,7 @@ impl Planner {
     pub fn settlings(&self, tree: Tree) -> u64
         ensures { result ≡ settlings_of self.now.standing tree }
     {
-        match &self.plan {
-            None => 0,
-            Some(plan) => plan.forest.settlings(tree),
-        }
+        self.kept.settlings(tree)
     }
 
     /// Makes an edit in the network and leaves the plan for later. Each record that stays keeps its number. An edit is
@@ -184,27 +169,11 @@ impl Planner {
         ensures memory { result ≡ Err Refusal.E99 → IsOk (after edit.now self.old.contents.net) }
         ensures no_room { result ≡ Err Refusal.E99 → room_for edit.now self.old.contents.room ≡ 0 }
     {
-        regions_stay();
-        let stand = self.regions_stand && !touches_regions(edit);
-        match self.network.prepare(edit) {
-            Ok(ready) => {
-                self.network.known();
-                self.network.commit(ready);
-                let view_stands = renew_plan(
-                    self.alloc,
-                    &self.network,
-                    &mut self.plan,
-                    self.is_settled,
-                    self.view_stands,
-                    edit,
-                );
-                self.is_settled = false;
-                self.regions_stand = stand;
-                self.view_stands = view_stands;
-                Ok(())
-            }
-            Err(refusal) => Err(refusal),
-        }
+        let ready = self.network.prepare(edit)?;
+        self.network.known();
+        self.network.commit(ready);
+        self.kept.edited(self.alloc, &self.network, edit);
+        Ok(())
     }
 
     /// Whether an edit would be made: nothing is made of it. It is refused with the least number that applies, which takes no memory,
@@ -234,20 +203,7 @@ impl Planner {
         ensures unused { OnOk result (self.old.is_settled ≡ false → SettlesNoUnused self.old.contents.net (msti_settlings self.new.standing)) }
         ensures as_it_was { OnErr result (self.new ≡ self.old) }
     {
-        if self.is_settled {
-            return Ok(());
-        }
-        settle_plan(
-            self.alloc,
-            &self.network,
-            &mut self.plan,
-            self.regions_stand,
-            self.view_stands,
-        )?;
-        self.is_settled = true;
-        self.regions_stand = true;
-        self.view_stands = true;
-        Ok(())
+        self.kept.settle(self.alloc, &self.network)
     }
 
     /// Makes an edit and settles the network that it makes: each record that stays keeps its number, and each tree is
@@ -267,16 +223,11 @@ impl Planner {
         ensures memory { result ≡ Err Refusal.E99 → IsOk (after edit.now self.old.contents.net) }
         ensures no_room { result ≡ Err Refusal.E99 → room_for edit.now self.old.contents.room ≢ 0 → CanCommit edit.now self.new.contents }
     {
-        regions_stay();
-        let stand = self.regions_stand && !touches_regions(edit);
         let ready = self.network.prepare(edit)?;
-        match next_plan(self.alloc, &self.network.ahead(&ready), &self.plan, stand) {
+        match self.kept.ahead(self.alloc, &self.network, &ready, edit) {
             Ok(plan) => {
                 self.network.commit(ready);
-                self.plan = Some(plan);
-                self.is_settled = true;
-                self.regions_stand = true;
-                self.view_stands = true;
+                self.kept = KeptPlan::Settled(plan);
                 Ok(())
             }
             Err(_) => {
@@ -289,19 +240,13 @@ impl Planner {
     /// Puts what each single failure of a part does to the network: each LAN that is up goes down, and each bridge that is on goes
     /// off, one at a time. Each is told of by one repair of the plan that stands, as soon as it is known, and isn't made. A last
     /// row counts them, and the answer is how many of them cut some VID. So a sweep can be made in parts, each by a planner of its
-    /// own. `AllocError`: memory was wanted and refused; some of the rows may have been put. The planner is as it was in either
-    /// case, but for room for edits.
-    pub fn put_sweep<R: Rows>(&mut self, part: SweepPart, out: &mut R) -> Result<u64, AllocError>
-        requires { self.old.is_settled ≡ true }
-        ensures told { (first : R) (before : List Row) → R.grew first out.old before
-            → IfOk result (λ cuts. (rows : List Row) × SweepsPart part self.old.contents.net cuts rows × R.grew first out.new (before ++ rows)) }
-        ensures same { SameContents self.old.contents self.new.contents }
-        ensures settled { self.new.is_settled ≡ true }
-        ensures standing { self.new.standing ≡ self.old.standing }
-        ensures mark { self.new.mark ≡ self.old.mark }
+    /// own. `AllocError`: memory was wanted and refused; some of the rows may have been put.
+    pub fn put_sweep<R: Rows>(&self, part: SweepPart, out: &mut R) -> Result<u64, AllocError>
+        requires { self.now.is_settled ≡ true }
+        ensures { (first : R) (before : List Row) → R.grew first out.old before
+            → IfOk result (λ cuts. (rows : List Row) × SweepsPart part self.now.contents.net cuts rows × R.grew first out.new (before ++ rows)) }
     {
-        let plan = self.plan.as_ref().unwrap();
-        sweep_network(self.alloc, &mut self.network, plan, part, out)
+        sweep_network(self.alloc, self.network(), self.plan(), part, out)
     }
 
     /// Puts what each pair of a part of those of the network's failures does: in the order of the failures of a sweep, each with each
@@ -315,31 +260,31 @@ impl Planner {
         ensures { (first : R) (before : List Row) → R.grew first out.old before
             → IfOk result (λ cuts. (rows : List Row) × SweepsPairs part self.now.contents.net cuts rows × R.grew first out.new (before ++ rows)) }
     {
-        let plan = self.plan.as_ref().unwrap();
-        sweep_pairs(self.alloc, &self.network, plan, part, out)
+        sweep_pairs(self.alloc, self.network(), self.plan(), part, out)
     }
 
     /// Puts whether the network does what a policy promises: the policy's refused lines, then for each line that is judged why it isn't
     /// kept, in the network itself and then in that of each failure for which it asks, and a last row that counts them. What is so without
     /// a failure is told once, with after how many failures it is so, too. A line that is judged has no rows just where its promise is
     /// kept. A policy of which no line is judged and none refused is refused as a whole, and so counts as a refused line. Each failure that some line asks for is looked at once, by one repair of the plan that stands, and isn't made. `AllocError`: memory was wanted and
-    /// refused; some of the rows may have been put. The planner is as it was in either case, but for room for edits.
+    /// refused; some of the rows may have been put.
     pub fn put_verification<R: Rows>(
-        &mut self,
+        &self,
         policy: &Policy,
         out: &mut R,
     ) -> Result<Verdict, AllocError>
-        requires { self.old.is_settled ≡ true }
+        requires { self.now.is_settled ≡ true }
         ensures told { (first : R) (before : List Row) → R.grew first out.old before
-            → IfOk result (λ verdict. (rows : List Row) × Verifies self.old.contents.net policy.now (counts_of verdict) rows × R.grew first out.new (before ++ rows)) }
+            → IfOk result (λ verdict. (rows : List Row) × Verifies self.now.contents.net policy.now (counts_of verdict) rows × R.grew first out.new (before ++ rows)) }
         ensures few { IfOk result (λ verdict. verdict.refused ≤ length policy.now + 1) }
-        ensures same { SameContents self.old.contents self.new.contents }
-        ensures settled { self.new.is_settled ≡ true }
-        ensures standing { self.new.standing ≡ self.old.standing }
-        ensures mark { self.new.mark ≡ self.old.mark }
     {
-        let plan = self.plan.as_ref().unwrap();
-        verify_network(self.alloc, &mut self.network, plan, policy.as_slice(), out)
+        verify_network(
+            self.alloc,
+            self.network(),
+            self.plan(),
+            policy.as_slice(),
+            out,
+        )
     }
 
     /// Takes the steps of a change one after another, each settled before the next, and puts what each does: which of its lines are refused,
@@ -366,10 +311,7 @@ impl Planner {
         ensures settled { OnOk result (self.new.is_settled ≡ true) }
         ensures mark { self.new.mark ≡ self.old.mark }
     {
-        self.is_settled = false;
-        self.regions_stand = false;
-        self.view_stands = false;
-        let mut plan = self.plan.take().unwrap();
+        let mut plan = self.kept.take();
         let course = step_network(
             self.alloc,
             &mut self.network,
@@ -378,10 +320,7 @@ impl Planner {
             policy,
             out,
         )?;
-        self.plan = Some(plan);
-        self.is_settled = true;
-        self.regions_stand = true;
-        self.view_stands = true;
+        self.kept = KeptPlan::Settled(plan);
         Ok(course)
     }
 
@@ -395,10 +334,7 @@ impl Planner {
             → IfOk result (λ advice. (rows : List Row) × Advises self.old.contents.net goal.now advice rows × R.grew first out.new (before ++ rows)) }
         ensures mark { self.new.mark ≡ self.old.mark }
     {
-        self.is_settled = false;
-        self.regions_stand = false;
-        self.view_stands = false;
-        let plan = self.plan.take().unwrap();
+        let plan = self.kept.take();
         advise_network(self.alloc, goal, &mut self.network, &plan, out)
     }
 
@@ -464,6 +400,6 @@ impl Planner {
         ensures of { IsPlan self.now.contents.net self.now.contents.numbers result.now }
         ensures standing { standing_of result.now.forest ≡ self.now.standing }
     {
-        self.plan.as_ref().unwrap()
+        self.kept.plan()
     }
 }

@@ -1,21 +1,21 @@
 ghost use Rattle.std.specs.Prelude.{◌≡◌, ◌++◌, true, List, Ok, Some, OnOk};
 ghost use Rattle.mst_lang.specs.declared.line.Query.TheVariants.{ShowPlan, ShowTree, ShowVlan, ShowNotes, ShowLag, ShowRegions, ShowConfiguration, Changes, Save, Digest};
-ghost use Rattle.mst_picture.specs.changes.Stored.{kept_entries};
+ghost use Rattle.mst_changes.specs.Stored.{kept_entries};
 ghost use Rattle.mst_rows.specs.Rows.{Row};
 ghost use Rattle.mst_report.specs.Answers.{Answers, asks_plan as is_of_plan};
 ghost use Rattle.mst_report.specs.Planned.{planned_state};
 ghost use Rattle.mst_report.specs.Refusing.{HasRows};
 
 use crate::planner::Planner;
+use mst_changes::{Entries, put_changes};
 use mst_ids::{Name, Tree, Vid};
 use mst_lang::Query;
 use mst_note_text::laws::notes;
 use mst_note_text::put_notes;
-use mst_picture::{
-    Entries, put_changes, put_configuration, put_lags, put_plan, put_regions, put_tree, put_vlan,
-};
+use mst_plan_text::put_plan;
 use mst_rows::Rows;
 use mst_save::{put_digest, put_saved};
+use mst_text::{put_configuration, put_lags, put_regions, put_tree, put_vlan};
 use std::alloc::AllocError;
 
 impl Planner {

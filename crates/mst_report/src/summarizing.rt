@@ -3,8 +3,9 @@ ghost use Rattle.mst_rows.specs.Rows.{Row};
 ghost use Rattle.mst_report.specs.Summarizing.{Summarizes};
 
 use crate::planner::Planner;
-use mst_picture::{Settled, put_summary};
+use mst_picture::put_summary;
 use mst_rows::Rows;
+use mst_trees::Settled;
 use std::alloc::AllocError;
 
 impl Planner {

@@ -28,7 +28,7 @@ impl Planner {
         let view = &self.plan().view;
         match self.network().bridge(name) {
             None => Some(Unexplained::NoBridge),
-            Some(bridge) if !mst_picture::has_tree(view, bridge.number, tree) => {
+            Some(bridge) if !mst_trees::has_tree(view, bridge.number, tree) => {
                 Some(Unexplained::NoTree)
             }
             Some(_) => None,

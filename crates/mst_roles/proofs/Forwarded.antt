@@ -6,18 +6,17 @@ use Rattle.std.specs.Option.{option_map, option_map_or}
 use Rattle.std.specs.FinMap as fin
 use Rattle.std.proofs.lemmas.Bool.{eqb-true}
 use Rattle.mst_ids.specs.declared.name.PortName.{PortName}
-use Rattle.mst_trees.specs.net.Tables.{Net, Numbers, BridgeRow, port_eq}
-use Rattle.mst_trees.specs.net.ByTree.{table_in}
-use Rattle.mst_trees.specs.net.Seen.{bridge_row}
-use Rattle.mst_trees.specs.net.Table.{tree_in}
-use Rattle.mst_trees.specs.net.After.{table_of}
+use Rattle.mst_net.specs.Tables.{Net, Numbers, BridgeRow, port_eq}
+use Rattle.mst_net.specs.ByTree.{table_in}
+use Rattle.mst_net.specs.Seen.{bridge_row}
+use Rattle.mst_net.specs.Table.{tree_in}
+use Rattle.mst_net.specs.After.{table_of}
 use Rattle.mst_lag.specs.View.{view_ports}
 use Rattle.mst_lag.specs.Viewed.{Viewed, named_port}
 use Rattle.mst_lag.specs.declared.in_view.BridgeInView.{BridgeInView}
 use Rattle.mst_lag.specs.declared.in_view.PortInView.{PortInView}
 use Rattle.mst_trees.specs.Agrees.{AreOf}
-use Rattle.mst_trees.specs.Forest.{IsForest}
-use Rattle.mst_trees.specs.Forest.{Forest}
+use Rattle.mst_trees.specs.Forest.{IsForest, Forest}
 use Rattle.mst_trees.proofs.Lists.{some_is}
 use Rattle.mst_trees.proofs.Looking.{first_found}
 use Rattle.mst_trees.proofs.Seen.{SeenPort, bridge_there, bridge_seen, port_seen}

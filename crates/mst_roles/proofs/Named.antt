@@ -12,8 +12,8 @@ use Rattle.mst_vector.specs.Rules.{Rules}
 use Rattle.mst_vector.specs.Cist.{cist_rules}
 use Rattle.mst_vector.specs.Msti.{msti_rules}
 use Rattle.mst_settle.specs.Assignment.{vector_of, designated_of}
-use Rattle.mst_trees.specs.net.Tables.{Net, Numbers, port_eq}
-use Rattle.mst_trees.specs.net.ByTree.{by_tree}
+use Rattle.mst_net.specs.Tables.{Net, Numbers, port_eq}
+use Rattle.mst_net.specs.ByTree.{by_tree}
 use Rattle.mst_lag.specs.Aggregation.{same_name}
 use Rattle.mst_lag.specs.Trees.{is_among}
 use Rattle.mst_lag.specs.View.{LogicalPort, view_ports}
@@ -25,8 +25,7 @@ use Rattle.mst_trees.specs.Msti.{msti_port, msti_sight, has_msti, is_internal}
 use Rattle.mst_trees.specs.Outcome.{TreeOutcome, IsTreeOutcome, Outcome}
 use Rattle.mst_trees.specs.Seen.{seen_internal, trees_at}
 use Rattle.mst_trees.specs.Agrees.{Agrees, IsNameOf, AreOf}
-use Rattle.mst_trees.specs.Forest.{IsForest, msti_vector, msti_designated, designated_in}
-use Rattle.mst_trees.specs.Forest.{Forest}
+use Rattle.mst_trees.specs.Forest.{IsForest, msti_vector, msti_designated, designated_in, Forest}
 use Rattle.mst_trees.proofs.Lists.{some_is, no_some, all_there, apart_cases}
 use Rattle.mst_trees.proofs.Entries.{all_weaker}
 use Rattle.mst_trees.proofs.CistTopology.{cist_is_sight}

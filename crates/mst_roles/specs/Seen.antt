@@ -3,17 +3,16 @@ use Rattle.std.specs.Prelude.{ℕ, ◌==◌, Bool, false, Option, Some, None, if
 use Rattle.std.specs.List.{find}
 use Rattle.std.specs.Option.{option_map, option_map_or}
 use Rattle.mst_settle.specs.Assignment.{vector_of, designated_of}
-use Rattle.mst_trees.specs.net.ByTree.{table_in}
-use Rattle.mst_trees.specs.net.Seen.{bridge_row}
-use Rattle.mst_trees.specs.net.Table.{tree_in}
+use Rattle.mst_net.specs.ByTree.{table_in}
+use Rattle.mst_net.specs.Seen.{bridge_row}
+use Rattle.mst_net.specs.Table.{tree_in}
 use Rattle.mst_lag.specs.Trees.{is_among}
 use Rattle.mst_lag.specs.Viewed.{Viewed, named_port}
 use Rattle.mst_lag.specs.declared.in_view.PortInView.{PortInView}
 use Rattle.mst_trees.specs.Cist.{cist_port}
 use Rattle.mst_trees.specs.Msti.{msti_port}
 use Rattle.mst_trees.specs.Seen.{trees_at, seen_internal}
-use Rattle.mst_trees.specs.Forest.{msti_vector, designated_in}
-use Rattle.mst_trees.specs.Forest.{Forest}
+use Rattle.mst_trees.specs.Forest.{msti_vector, designated_in, Forest}
 use Rattle.mst_roles.specs.Roles.{outside, forwards}
 use Rattle.mst_roles.specs.declared.kind.Role.{Role}
 use Rattle.mst_roles.specs.declared.kind.Role.TheVariants.{Root, Designated, Alternate, Backup, Disabled}

@@ -1,8 +1,8 @@
 //! Laws of roles. Their functions do nothing: a caller has their clauses.
 ghost use Rattle.std.specs.Prelude.{◌≡◌, ◌≢◌, ◌↔◌, ℕ, true, Some};
 ghost use Rattle.std.specs.List.{Contains};
-ghost use Rattle.mst_trees.specs.net.Tables.{Net, IsNetwork};
-ghost use Rattle.mst_trees.specs.net.ByTree.{by_tree};
+ghost use Rattle.mst_net.specs.Tables.{Net, IsNetwork};
+ghost use Rattle.mst_net.specs.ByTree.{by_tree};
 ghost use Rattle.mst_lag.specs.View.{LogicalPort, view_ports};
 ghost use Rattle.mst_nested.specs.Roles.{Forwards};
 ghost use Rattle.mst_trees.specs.Sight.{tree_port};

@@ -10,8 +10,8 @@ mod settled;
 pub use for_vid::{forwards, forwards_in, port_forwards, vid_tree};
 pub use kind::Role;
 pub use mst_trees::{
-    Forest, Settled, bridge_id, cist_bridge, cist_port, has_tree, is_had, laws as trees_laws,
-    msti_bridge, msti_port, mstis_in_use, trees_in_use,
+    Forest, Settled, bridge_id, cist_port, is_had, laws as trees_laws, msti_port, mstis_in_use,
+    trees_in_use,
 };
 pub use roles::{port_role, role};
 pub use settled::role_of;

@@ -1,4 +1,3 @@
-pub use Rattle.mst_kinds.specs as kinds
 pub mod Cells
 pub mod Fields
 pub mod Objects

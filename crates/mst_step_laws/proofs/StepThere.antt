@@ -8,9 +8,9 @@ use Rattle.mst_graph.specs.Islands.{Island}
 use Rattle.mst_net.specs.Tables.{Net}
 use Rattle.mst_rows.specs.Rows.{Row}
 use Rattle.mst_vlan.specs.Reach.{AreIslandsOf}
-use Rattle.mst_diff.specs.trees.Outcome.{Outcome}
-use Rattle.mst_diff.specs.changes.Subjects.{bridge_names}
-use Rattle.mst_diff.specs.plan_text.PlanText.{all_vids}
+use Rattle.mst_trees.specs.Outcome.{Outcome}
+use Rattle.mst_changes.specs.Subjects.{bridge_names}
+use Rattle.mst_plan_text.specs.PlanText.{all_vids}
 use Rattle.mst_diff.specs.Reach.{has_any}
 use Rattle.mst_sweep.specs.Cuts.{runs_of}
 use Rattle.mst_sweep.specs.Moved.{moved_ports, moved_roots}

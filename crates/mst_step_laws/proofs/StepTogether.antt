@@ -9,12 +9,12 @@ use Rattle.mst_lag.specs.Trees.{is_among}
 use Rattle.mst_net.specs.Tables.{Net}
 use Rattle.mst_policy.specs.declared.item.NameItem.TheVariants.{Any}
 use Rattle.mst_rows.specs.Rows.{Row}
-use Rattle.mst_diff.specs.trees.Outcome.{Outcome}
-use Rattle.mst_diff.specs.changes.Subjects.{bridge_names}
-use Rattle.mst_diff.specs.plan_text.PlanText.{all_vids}
+use Rattle.mst_trees.specs.Outcome.{Outcome}
+use Rattle.mst_changes.specs.Subjects.{bridge_names}
+use Rattle.mst_plan_text.specs.PlanText.{all_vids}
 use Rattle.mst_diff.specs.Reach.{has_any}
-use Rattle.mst_diff.proofs.changes_lemmas.Lists.{flat_map-flat_map}
-use Rattle.mst_diff.proofs.plan_text_lemmas.OnePlan.{is_vid_there}
+use Rattle.mst_changes.proofs.Lists.{flat_map-flat_map}
+use Rattle.mst_plan_text.proofs.OnePlan.{is_vid_there}
 use Rattle.mst_sweep.specs.Cuts.{AreCutsBy, cut_row, group_rows, runs_of}
 use Rattle.mst_sweep.specs.Parts.{AreParts, ArePartsOf}
 use Rattle.mst_sweep.specs.declared.cuts.CutBy.TheVariants.{Step}

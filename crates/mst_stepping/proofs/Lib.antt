@@ -1,4 +1,3 @@
 pub mod Made
 pub mod Walked
 pub mod Watched
-mod Planned

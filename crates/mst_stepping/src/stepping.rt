@@ -1,7 +1,6 @@
 ghost use Rattle.std.specs.Prelude.{◌≡◌, ◌+◌, ◌-◌, ◌<◌, ◌≤◌, ◌^◌, ◌++◌, ◌∷◌, [], List, IfOk, OnOk, length, unwrap_or};
 ghost use Rattle.std.specs.Option.{option_map};
 ghost use Rattle.mst_change.specs.Steps.{all_lines};
-ghost use Rattle.mst_net.specs.Contents.{SameContents};
 ghost use Rattle.mst_plan.specs.Plan.{IsPlan};
 ghost use Rattle.mst_policy.specs.declared.policy.PolicyLine.{PolicyLine as LineOf};
 ghost use Rattle.mst_stepping.specs.Setting.{after_lines, after_steps};
@@ -141,14 +140,13 @@ fn step_of_lines(number: u64, lines: &[StepLine]) -> Step
 /// What a policy's lines have to tell of a network, by the network's number and its plan.
 fn judge_at(
     alloc: Global,
-    network: &mut Network,
+    network: &Network,
     plan: &Plan,
     number: u64,
     watching: &Watching,
 ) -> Result<Judgement, AllocError>
-    requires { IsPlan network.old.net network.old.numbers plan.now }
-    ensures told { IfOk result (λ judgement. (w : Watch) → IsWatching watching.now w → AreRowsIn w number network.old.net (told_in w.lines judgement)) }
-    ensures same { SameContents network.old network.new }
+    requires { IsPlan network.now.net network.now.numbers plan.now }
+    ensures { IfOk result (λ judgement. (w : Watch) → IsWatching watching.now w → AreRowsIn w number network.now.net (told_in w.lines judgement)) }
 {
     let is_last = number == watching.last;
     if number == 0 {

@@ -13,15 +13,15 @@ use Rattle.mst_lag.specs.View.{LogicalPort, view_ports}
 use Rattle.mst_lag.specs.Viewed.{Viewed, named_port}
 use Rattle.mst_lag.specs.declared.in_view.BridgeInView.{BridgeInView}
 use Rattle.mst_lag.specs.declared.in_view.PortInView.{PortInView}
-use Rattle.mst_diff.specs.trees.Agrees.{AreOf}
-use Rattle.mst_diff.specs.trees.Forest.{Forest}
+use Rattle.mst_trees.specs.Agrees.{AreOf}
+use Rattle.mst_trees.specs.Forest.{Forest}
 use Rattle.mst_diff.specs.changes.Subjects.{bridge_names}
 use Rattle.mst_diff.specs.declared.both.Both.{Both}
 use Rattle.mst_diff.specs.Regions.{same_told}
 use Rattle.mst_diff.specs.Seen.{seen_in_both, seen_both}
-use Rattle.mst_diff.proofs.trees_lemmas.Entries.{all_weaker}
-use Rattle.mst_diff.proofs.trees_lemmas.Lists.{all_there, filter_mapped, mapped_twice}
-use Rattle.mst_diff.proofs.trees_lemmas.Seen.{bridge_seen}
+use Rattle.mst_trees.proofs.Entries.{all_weaker}
+use Rattle.mst_trees.proofs.Lists.{all_there, filter_mapped, mapped_twice}
+use Rattle.mst_trees.proofs.Seen.{bridge_seen}
 use Rattle.mst_diff.proofs.Lists.{find-map, list_any-map}
 use Rattle.mst_diff.proofs.Named.{found_named, names_are}
 use Rattle.mst_steps.specs.declared.ports.BothPorts.{BothPorts}

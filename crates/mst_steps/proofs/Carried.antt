@@ -15,12 +15,12 @@ use Rattle.mst_vlan.specs.Reach.{is_member, vid_links, link_of as ends_of}
 use Rattle.mst_vlan.specs.Seen.{seen_active}
 use Rattle.mst_vlan.proofs.Listed.{active_listed}
 use Rattle.mst_diff.specs.text.VlanText.{active_port, ports_of_vid}
-use Rattle.mst_diff.specs.trees.Agrees.{AreOf}
-use Rattle.mst_diff.specs.trees.Forest.{Forest, IsForest}
-use Rattle.mst_diff.specs.trees.Outcome.{Outcome}
+use Rattle.mst_trees.specs.Agrees.{AreOf}
+use Rattle.mst_trees.specs.Forest.{Forest, IsForest}
+use Rattle.mst_trees.specs.Outcome.{Outcome}
 use Rattle.mst_classes.specs.Alike.{AreAlike}
-use Rattle.mst_diff.proofs.trees_lemmas.Entries.{all_weaker}
-use Rattle.mst_diff.proofs.trees_lemmas.Lists.{all_contained, filter_mapped}
+use Rattle.mst_trees.proofs.Entries.{all_weaker}
+use Rattle.mst_trees.proofs.Lists.{all_contained, filter_mapped}
 use Rattle.mst_diff.proofs.plan_text_lemmas.VidsAlike.{links_alike, ports_alike}
 use Rattle.mst_steps.specs.declared.links.Link.{Link}
 use Rattle.mst_steps.specs.Links.{link_of, carried}

@@ -5,7 +5,7 @@ use Rattle.mst_ids.specs.Vids.{is_vid}
 use Rattle.mst_graph.proofs.Members.{from_filter, here, in_filter, in_none}
 use Rattle.mst_net.specs.Tables.{Net}
 use Rattle.mst_rows.specs.Rows.{Row}
-use Rattle.mst_diff.specs.trees.Outcome.{Outcome}
+use Rattle.mst_trees.specs.Outcome.{Outcome}
 use Rattle.mst_diff.specs.plan_text.PlanText.{all_vids}
 use Rattle.mst_diff.specs.Reach.{has_any}
 use Rattle.mst_diff.proofs.plan_text_lemmas.OnePlan.{is_vid_there}

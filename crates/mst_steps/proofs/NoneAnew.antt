@@ -11,16 +11,16 @@ use Rattle.mst_lang.specs.declared.line.BridgeChange.TheVariants.{Power}
 use Rattle.mst_lang.specs.declared.line.Power.TheVariants.{Off}
 use Rattle.mst_net.specs.After.{after, effect, bridge_with, table_of}
 use Rattle.mst_net.specs.Tables.{Net, BridgeRow, port_eq}
-use Rattle.mst_diff.proofs.net_lemmas.Changed.{get_changed}
-use Rattle.mst_diff.proofs.net_lemmas.Keys.{names}
+use Rattle.mst_net.proofs.Changed.{get_changed}
+use Rattle.mst_net.proofs.Keys.{names}
 use Rattle.mst_lag.specs.Aggregation.{same_name}
 use Rattle.mst_lag.specs.View.{LogicalPort, view_ports}
 use Rattle.mst_diff.specs.changes.Subjects.{bridge_names, port_names}
-use Rattle.mst_diff.proofs.trees_lemmas.Entries.{all_weaker}
-use Rattle.mst_diff.proofs.trees_lemmas.Lists.{all_there, apart_cases, some_is}
-use Rattle.mst_diff.proofs.trees_lemmas.Looking.{first_found}
-use Rattle.mst_diff.proofs.trees_lemmas.Views.{port_names_differ, ports_rise}
-use Rattle.mst_diff.proofs.roles_lemmas.Named.{port_is, port_same}
+use Rattle.mst_trees.proofs.Entries.{all_weaker}
+use Rattle.mst_trees.proofs.Lists.{all_there, apart_cases, some_is}
+use Rattle.mst_trees.proofs.Looking.{first_found}
+use Rattle.mst_trees.proofs.Views.{port_names_differ, ports_rise}
+use Rattle.mst_vlan.proofs.roles_lemmas.Named.{port_is, port_same}
 use Rattle.mst_sweep.specs.Failures.{edit_of}
 use Rattle.mst_sweep.specs.Left.{AreLeft, lan_names}
 use Rattle.mst_sweep.specs.declared.failure.Failure.{Failure}

@@ -6,9 +6,9 @@ use Rattle.mst_net.specs.Tables.{Net, Numbers, BridgeRow}
 use Rattle.mst_lag.specs.Aggregation.{same_name}
 use Rattle.mst_lag.specs.Viewed.{Viewed, named_bridge}
 use Rattle.mst_lag.specs.declared.in_view.BridgeInView.{BridgeInView}
-use Rattle.mst_diff.specs.trees.Agrees.{AreOf}
-use Rattle.mst_diff.specs.trees.Forest.{Forest}
-use Rattle.mst_diff.proofs.trees_lemmas.Lists.{filter_mapped, mapped_twice}
+use Rattle.mst_trees.specs.Agrees.{AreOf}
+use Rattle.mst_trees.specs.Forest.{Forest}
+use Rattle.mst_trees.proofs.Lists.{filter_mapped, mapped_twice}
 use Rattle.mst_diff.proofs.Lists.{list_any-map}
 use Rattle.mst_vlan.specs.Reach.{bridges_on}
 use Rattle.mst_steps.specs.Links.{is_on, stays}

@@ -4,12 +4,12 @@ use Rattle.std.specs.List.{Contains, flat_map}
 use Rattle.std.proofs.lemmas.List.{append-nil}
 use Rattle.mst_net.specs.Tables.{Net}
 use Rattle.mst_rows.specs.Rows.{Row}
-use Rattle.mst_diff.specs.trees.Outcome.{Outcome}
+use Rattle.mst_trees.specs.Outcome.{Outcome}
 use Rattle.mst_diff.specs.plan_text.PlanText.{all_vids}
 use Rattle.mst_diff.specs.Reach.{has_any}
-use Rattle.mst_diff.proofs.trees_lemmas.Entries.{all_weaker}
-use Rattle.mst_diff.proofs.trees_lemmas.Lists.{all_there}
-use Rattle.mst_diff.proofs.trees_lemmas.Looking.{filter_alike}
+use Rattle.mst_trees.proofs.Entries.{all_weaker}
+use Rattle.mst_trees.proofs.Lists.{all_there}
+use Rattle.mst_trees.proofs.Looking.{filter_alike}
 use Rattle.mst_diff.proofs.plan_text_lemmas.OnePlan.{is_vid_there, OneGrouping}
 use Rattle.mst_diff.proofs.OneDiff.{OneList}
 use Rattle.mst_sweep.specs.declared.cuts.CutBy.TheVariants as by

@@ -8,15 +8,15 @@ use Rattle.mst_net.specs.Tables.{Net, Numbers, port_eq}
 use Rattle.mst_lag.specs.View.{LogicalPort}
 use Rattle.mst_lag.specs.Viewed.{Viewed, named_port}
 use Rattle.mst_lag.specs.declared.in_view.PortInView.{PortInView}
-use Rattle.mst_diff.specs.trees.Agrees.{AreOf}
-use Rattle.mst_diff.specs.trees.Forest.{Forest, IsForest}
-use Rattle.mst_diff.specs.roles.Roles.{role_of, role_in}
-use Rattle.mst_diff.specs.roles.Seen.{seen_role}
-use Rattle.mst_diff.specs.roles.declared.kind.Role.{Role}
+use Rattle.mst_trees.specs.Agrees.{AreOf}
+use Rattle.mst_trees.specs.Forest.{Forest, IsForest}
+use Rattle.mst_vlan.specs.roles.Roles.{role_of, role_in}
+use Rattle.mst_vlan.specs.roles.Seen.{seen_role}
+use Rattle.mst_vlan.specs.roles.declared.kind.Role.{Role}
 use Rattle.mst_diff.specs.changes.Subjects.{port_names}
-use Rattle.mst_diff.proofs.trees_lemmas.Entries.{all_weaker}
-use Rattle.mst_diff.proofs.trees_lemmas.Lists.{all_there, mapped_twice}
-use Rattle.mst_diff.proofs.roles_lemmas.Named.{own_role, port_is}
+use Rattle.mst_trees.proofs.Entries.{all_weaker}
+use Rattle.mst_trees.proofs.Lists.{all_there, mapped_twice}
+use Rattle.mst_vlan.proofs.roles_lemmas.Named.{own_role, port_is}
 use Rattle.mst_diff.proofs.Lists.{find-found, find-map}
 use Rattle.mst_sweep.specs.Moved.{is_other_role, port_moved}
 use Rattle.mst_sweep.proofs.Moved.{few_ports}

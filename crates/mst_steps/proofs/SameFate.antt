@@ -10,11 +10,11 @@ use Rattle.mst_net.specs.Tables.{Net, Numbers, port_eq}
 use Rattle.mst_lag.specs.Aggregation.{same_name}
 use Rattle.mst_lag.specs.Viewed.{Viewed}
 use Rattle.mst_vlan.specs.Reach.{bridges_on, lans_up, vid_links, AreIslandsOf}
-use Rattle.mst_diff.specs.trees.Agrees.{AreOf}
-use Rattle.mst_diff.specs.trees.Forest.{Forest, IsForest}
-use Rattle.mst_diff.specs.trees.Outcome.{Outcome}
+use Rattle.mst_trees.specs.Agrees.{AreOf}
+use Rattle.mst_trees.specs.Forest.{Forest, IsForest}
+use Rattle.mst_trees.specs.Outcome.{Outcome}
 use Rattle.mst_classes.specs.Alike.{AreAlike}
-use Rattle.mst_diff.proofs.roles_lemmas.Named.{port_is, port_same}
+use Rattle.mst_vlan.proofs.roles_lemmas.Named.{port_is, port_same}
 use Rattle.mst_sweep.specs.Parts.{AreParts}
 use Rattle.mst_sweep.proofs.StillJoined.{no_parts}
 use Rattle.mst_steps.specs.declared.links.Link.{Link}

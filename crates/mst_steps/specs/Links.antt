@@ -5,7 +5,7 @@ use Rattle.std.specs.List.{list_any}
 use Rattle.mst_net.specs.Tables.{Net, port_eq}
 use Rattle.mst_lag.specs.Aggregation.{same_name}
 use Rattle.mst_lag.specs.View.{LogicalPort}
-use Rattle.mst_diff.specs.trees.Outcome.{Outcome}
+use Rattle.mst_trees.specs.Outcome.{Outcome}
 use Rattle.mst_vlan.specs.Active.{active_ports}
 use Rattle.mst_vlan.specs.Reach.{bridges_on, is_member}
 use Rattle.mst_steps.specs.declared.links.Link.{Link}

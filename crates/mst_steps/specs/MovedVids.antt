@@ -2,7 +2,7 @@
 use Rattle.std.specs.Prelude.{◌≡◌, ℕ, ◌||◌, not, Bool, true, List, filter}
 use Rattle.mst_ids.specs.Vids.{is_vid}
 use Rattle.mst_net.specs.Tables.{Net}
-use Rattle.mst_diff.specs.trees.Outcome.{Outcome}
+use Rattle.mst_trees.specs.Outcome.{Outcome}
 use Rattle.mst_diff.specs.plan_text.PlanText.{all_vids}
 use Rattle.mst_diff.specs.Reach.{has_any}
 use Rattle.mst_sweep.specs.Parts.{AreParts}

@@ -10,9 +10,9 @@ ghost use Rattle.mst_steps.specs.Seen.{seen_carried, seen_differ};
 use crate::change::Change;
 use crate::links::{Link, are_same, between, carried};
 use crate::parts::{is_any, parts};
-use mst_diff::vlan_laws::islands_of_vid;
 use mst_ids::{Name, Vid};
 use mst_sweep::homes_by;
+use mst_vlan::laws::islands_of_vid;
 use std::alloc::{AllocError, Global};
 
 /// What becomes of a VID: the parts that it is cut into, whether it is joined, and whether it moves.

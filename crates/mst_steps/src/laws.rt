@@ -4,7 +4,7 @@ ghost use Rattle.std.specs.List.{Contains};
 ghost use Rattle.mst_rows.specs.Rows.{Row};
 ghost use Rattle.mst_net.specs.After.{after};
 ghost use Rattle.mst_net.specs.Tables.{Net, IsNetwork};
-ghost use Rattle.mst_diff.specs.trees.Outcome.{Outcome, IsOutcome};
+ghost use Rattle.mst_trees.specs.Outcome.{Outcome, IsOutcome};
 ghost use Rattle.mst_sweep.specs.Failures.{edit_of};
 ghost use Rattle.mst_sweep.specs.declared.failure.Failure.{Failure as FailureOf};
 ghost use Rattle.mst_sweep.specs.SweepText.{AreFailureRows};
@@ -12,10 +12,10 @@ ghost use Rattle.mst_steps.specs.StepText.{AreStepRows, IsAsInSweep};
 ghost use Rattle.mst_steps.specs.declared.step.Deed.{Deed as DeedOf};
 ghost use Rattle.mst_steps.specs.declared.step.Stepped.{Stepped as SteppedOf};
 
-use mst_diff::trees_laws::one_outcome;
-use mst_diff::vlan_laws::islands_of_vid;
 use mst_graph::laws::group_lists;
 use mst_ids::Vid;
+use mst_trees::laws::one_outcome;
+use mst_vlan::laws::islands_of_vid;
 
 /// A step has one list of rows, whichever settled outcomes it is made by, and moves some VID by each or by none, and cuts some by each or by
 /// none.

@@ -1,7 +1,7 @@
 ghost use Rattle.std.specs.Prelude.{◌≡◌, ◌++◌, ◌∷◌, [], List, true, IfOk, OnOk, None, Some, vec_len};
 ghost use Rattle.mst_ids.specs.Vids.{runs_from};
 ghost use Rattle.mst_rows.specs.Rows.{Row};
-ghost use Rattle.mst_diff.specs.trees.Agrees.{Known};
+ghost use Rattle.mst_trees.specs.Agrees.{Known};
 ghost use Rattle.mst_diff.specs.plan_text.Bodies.{NumberEach};
 ghost use Rattle.mst_diff.specs.Reach.{has_any};
 ghost use Rattle.mst_diff.specs.Seen.{seen_both};

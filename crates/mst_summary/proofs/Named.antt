@@ -9,9 +9,9 @@ use Rattle.std.proofs.lemmas.List.{length-map}
 use Rattle.std.proofs.lemmas.List.Folds.{flat_map-map}
 use Rattle.mst_ids.specs.Identifiers.{bridge_id}
 use Rattle.mst_ids.specs.Vids.{has}
-use Rattle.mst_diff.specs.net.ByTree.{by_tree, vlans_in}
-use Rattle.mst_diff.specs.net.Seen.{bridge_row}
-use Rattle.mst_diff.specs.net.Tables.{Net, BridgeRow, IsNetwork}
+use Rattle.mst_net.specs.ByTree.{by_tree, vlans_in}
+use Rattle.mst_net.specs.Seen.{bridge_row}
+use Rattle.mst_net.specs.Tables.{Net, BridgeRow, IsNetwork}
 use Rattle.mst_lag.specs.Aggregation.{same_name}
 use Rattle.mst_lag.specs.View.{LogicalLan, LogicalPort}
 use Rattle.mst_lag.specs.Viewed.{named_bridge, named_lan, named_port}
@@ -21,16 +21,16 @@ use Rattle.mst_lag.specs.declared.in_view.PortInView.{PortInView}
 use Rattle.mst_config.specs.Shared.{AreRegions}
 use Rattle.mst_config.specs.Regions.{region_of}
 use Rattle.mst_config.proofs.SameRegion.{has_first, HasFirst}
-use Rattle.mst_diff.specs.trees.InUse.{id_in, seen_has}
-use Rattle.mst_diff.specs.trees.Outcome.{Outcome}
-use Rattle.mst_diff.specs.trees.Settled.{SettledNet, outcome_of, IsSettledNet}
-use Rattle.mst_diff.proofs.trees_lemmas.Entries.{all_weaker}
-use Rattle.mst_diff.proofs.trees_lemmas.Lists.{all_passing, filter_mapped, mapped_twice, some_is}
-use Rattle.mst_diff.proofs.trees_lemmas.Looking.{filter_alike, has_tree_at}
-use Rattle.mst_diff.proofs.trees_lemmas.Seen.{SeenBridge, SeenPort, bridges_seen, ports_seen}
-use Rattle.mst_diff.proofs.trees_lemmas.SettledNet.{forest_of}
+use Rattle.mst_trees.specs.InUse.{id_in, seen_has}
+use Rattle.mst_trees.specs.Outcome.{Outcome}
+use Rattle.mst_trees.specs.Settled.{SettledNet, outcome_of, IsSettledNet}
+use Rattle.mst_trees.proofs.Entries.{all_weaker}
+use Rattle.mst_trees.proofs.Lists.{all_passing, filter_mapped, mapped_twice, some_is}
+use Rattle.mst_trees.proofs.Looking.{filter_alike, has_tree_at}
+use Rattle.mst_trees.proofs.Seen.{SeenBridge, SeenPort, bridges_seen, ports_seen}
+use Rattle.mst_trees.proofs.SettledNet.{forest_of}
 use Rattle.mst_diff.specs.text.TreeText.{has_tree}
-use Rattle.mst_diff.proofs.roles_lemmas.Forwarded.{each_forwards}
+use Rattle.mst_vlan.proofs.roles_lemmas.Forwarded.{each_forwards}
 use Rattle.mst_vlan.specs.Reach.{is_member, lans_up}
 use Rattle.mst_vlan.specs.Seen.{seen_member}
 use Rattle.mst_diff.specs.changes.Subjects.{all_trees, bridge_names}

@@ -8,8 +8,8 @@ use Rattle.mst_graph.specs.Islands.{Island}
 use Rattle.mst_graph.proofs.Alike.{alike_groups}
 use Rattle.mst_graph.proofs.Members.{here, there, in_whole}
 use Rattle.mst_rows.specs.Rows.{Row}
-use Rattle.mst_diff.specs.net.Tables.{Net}
-use Rattle.mst_diff.specs.trees.Outcome.{Outcome}
+use Rattle.mst_net.specs.Tables.{Net}
+use Rattle.mst_trees.specs.Outcome.{Outcome}
 use Rattle.mst_vlan.specs.Reach.{AreIslandsOf}
 use Rattle.mst_diff.specs.plan_text.PlanText.{all_vids}
 use Rattle.mst_diff.proofs.plan_text_lemmas.OnePlan.{vids_once, is_vid_there, OneGrouping}

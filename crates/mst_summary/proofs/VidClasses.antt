@@ -13,21 +13,21 @@ use Rattle.mst_graph.specs.Islands.{AreIslands, Island}
 use Rattle.mst_graph.specs.Numbers.{HaveBodies}
 use Rattle.mst_graph.specs.declared.keys.Numbering.{Numbering}
 use Rattle.mst_graph.proofs.Alike.{alike_groups}
-use Rattle.mst_diff.specs.net.ByTree.{table_in, vlans_in}
-use Rattle.mst_diff.specs.net.Seen.{bridge_row}
-use Rattle.mst_diff.specs.net.Table.{tree_in}
-use Rattle.mst_diff.specs.net.Tables.{Numbers}
+use Rattle.mst_net.specs.ByTree.{table_in, vlans_in}
+use Rattle.mst_net.specs.Seen.{bridge_row}
+use Rattle.mst_net.specs.Table.{tree_in}
+use Rattle.mst_net.specs.Tables.{Numbers}
 use Rattle.mst_lag.specs.Aggregation.{same_name}
 use Rattle.mst_lag.specs.Viewed.{Viewed, named_port}
 use Rattle.mst_lag.specs.declared.in_view.BridgeInView.{BridgeInView}
 use Rattle.mst_lag.specs.declared.in_view.PortInView.{PortInView}
-use Rattle.mst_diff.specs.trees.Forest.{Forest}
-use Rattle.mst_diff.specs.trees.Settled.{SettledNet, outcome_of, IsSettledNet}
-use Rattle.mst_diff.proofs.trees_lemmas.Entries.{all_weaker}
-use Rattle.mst_diff.proofs.trees_lemmas.Lists.{all_contained, all_passing, all_there}
-use Rattle.mst_diff.proofs.trees_lemmas.Looking.{filter_alike}
-use Rattle.mst_diff.specs.roles.Roles.{forwards}
-use Rattle.mst_diff.specs.roles.Seen.{seen_role, seen_tree}
+use Rattle.mst_trees.specs.Forest.{Forest}
+use Rattle.mst_trees.specs.Settled.{SettledNet, outcome_of, IsSettledNet}
+use Rattle.mst_trees.proofs.Entries.{all_weaker}
+use Rattle.mst_trees.proofs.Lists.{all_contained, all_passing, all_there}
+use Rattle.mst_trees.proofs.Looking.{filter_alike}
+use Rattle.mst_vlan.specs.roles.Roles.{forwards}
+use Rattle.mst_vlan.specs.roles.Seen.{seen_role, seen_tree}
 use Rattle.mst_vlan.specs.Reach.{bridges_on, lans_up}
 use Rattle.mst_vlan.specs.Seen.{seen_member}
 use Rattle.mst_vlan.specs.declared.island.Island.{Island as IslandNos}

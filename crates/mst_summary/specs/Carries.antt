@@ -6,12 +6,12 @@ use Rattle.mst_kinds.specs.declared.kind.Kind.TheVariants as kind
 use Rattle.mst_kinds.specs.declared.summary_line.SummaryLine.TheVariants as summary_line
 use Rattle.mst_rows.specs.Cells.{word, names, vids}
 use Rattle.mst_rows.specs.Rows.{Row, row_of}
-use Rattle.mst_diff.specs.net.Tables.{Net}
+use Rattle.mst_net.specs.Tables.{Net}
 use Rattle.mst_lag.specs.Aggregation.{same_name}
 use Rattle.mst_lag.specs.Trees.{is_among}
 use Rattle.mst_lag.specs.View.{LogicalPort, view_ports}
-use Rattle.mst_diff.specs.trees.Outcome.{Outcome}
-use Rattle.mst_diff.specs.roles.Roles.{forwards_for}
+use Rattle.mst_trees.specs.Outcome.{Outcome}
+use Rattle.mst_vlan.specs.roles.Roles.{forwards_for}
 use Rattle.mst_vlan.specs.Reach.{is_member, lans_up}
 use Rattle.mst_diff.specs.plan_text.PlanText.{all_vids}
 

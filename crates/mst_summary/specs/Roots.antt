@@ -7,10 +7,10 @@ use Rattle.mst_kinds.specs.declared.kind.Kind.TheVariants as kind
 use Rattle.mst_kinds.specs.declared.summary_line.SummaryLine.TheVariants as summary_line
 use Rattle.mst_rows.specs.Cells.{absent, word, number}
 use Rattle.mst_rows.specs.Rows.{Row, row_of}
-use Rattle.mst_diff.specs.net.Tables.{Net, BridgeRow}
-use Rattle.mst_diff.specs.net.ByTree.{ByTree, by_tree, priority_in}
-use Rattle.mst_diff.specs.trees.InUse.{id_in}
-use Rattle.mst_diff.specs.trees.Outcome.{Outcome}
+use Rattle.mst_net.specs.Tables.{Net, BridgeRow}
+use Rattle.mst_net.specs.ByTree.{ByTree, by_tree, priority_in}
+use Rattle.mst_trees.specs.InUse.{id_in}
+use Rattle.mst_trees.specs.Outcome.{Outcome}
 use Rattle.mst_diff.specs.Roots.{root_of}
 use Rattle.mst_diff.specs.Reach.{has_any}
 use Rattle.mst_summary.specs.declared.roots.Follower.{Follower}

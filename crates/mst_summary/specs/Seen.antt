@@ -3,16 +3,16 @@ use Rattle.std.specs.Prelude.{ℕ, ◌&&◌, ◌++◌, Bool, List, [], ◌∷◌
 use Rattle.std.specs.List.{count_by, flat_map, list_any}
 use Rattle.mst_ids.specs.declared.name.PortName.{PortName}
 use Rattle.mst_rows.specs.Rows.{Row}
-use Rattle.mst_diff.specs.net.ByTree.{by_tree}
-use Rattle.mst_diff.specs.net.Seen.{bridge_row}
+use Rattle.mst_net.specs.ByTree.{by_tree}
+use Rattle.mst_net.specs.Seen.{bridge_row}
 use Rattle.mst_lag.specs.Aggregation.{same_name}
 use Rattle.mst_lag.specs.Viewed.{Viewed, named_port}
 use Rattle.mst_lag.specs.declared.in_view.BridgeInView.{BridgeInView}
 use Rattle.mst_lag.specs.declared.in_view.PortInView.{PortInView}
-use Rattle.mst_diff.specs.trees.Forest.{Forest}
-use Rattle.mst_diff.specs.trees.InUse.{id_in, seen_has}
-use Rattle.mst_diff.specs.trees.Settled.{SettledNet, outcome_of}
-use Rattle.mst_diff.specs.roles.Seen.{seen_forwards}
+use Rattle.mst_trees.specs.Forest.{Forest}
+use Rattle.mst_trees.specs.InUse.{id_in, seen_has}
+use Rattle.mst_trees.specs.Settled.{SettledNet, outcome_of}
+use Rattle.mst_vlan.specs.roles.Seen.{seen_forwards}
 use Rattle.mst_vlan.specs.Seen.{seen_member}
 use Rattle.mst_vlan.specs.declared.island.Island.{Island}
 use Rattle.mst_diff.specs.changes.Subjects.{all_trees}

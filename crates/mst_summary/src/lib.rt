@@ -20,13 +20,6 @@ mod summary;
 
 pub use kept::ports_by_lan;
 pub use looked_up::role;
-pub use mst_diff::{
-    Differing, Entries, Forest, Planned, Role, Settled, bridge_id, changes_laws, flagged, forwards,
-    has_bridge, has_tree, laws as diff_laws, plan_text_laws, port_role, put_changes,
-    put_configuration, put_diff, put_lags, put_plan, put_regions, put_tree, put_vlan, root_of,
-    set_of, text_laws, trees_laws, vids,
-};
-pub use mst_slips::kept_for;
 pub use over::goes_over;
 pub use roots::{Follower, as_follower, least};
 pub use summary::put_summary;

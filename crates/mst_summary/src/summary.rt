@@ -2,7 +2,7 @@ ghost use Rattle.std.specs.Prelude.{◌≡◌, ◌++◌, ℕ, List, OnOk};
 ghost use Rattle.std.specs.List.{flat_map};
 ghost use Rattle.mst_config.specs.Shared.{AreRegions};
 ghost use Rattle.mst_rows.specs.Rows.{Row};
-ghost use Rattle.mst_diff.specs.trees.Settled.{outcome_of};
+ghost use Rattle.mst_trees.specs.Settled.{outcome_of};
 ghost use Rattle.mst_summary.specs.Seen.{seen_tree_rows};
 ghost use Rattle.mst_summary.specs.SummaryText.{AreSummaryRows};
 
@@ -15,10 +15,10 @@ use crate::roots::put_roots;
 use mst_carried::Carriage;
 use mst_classes::classes_of_vids;
 use mst_config::Regions;
-use mst_diff::Settled;
 use mst_ids::Tree;
 use mst_rows::Rows;
 use mst_slips::put_slips;
+use mst_trees::Settled;
 use std::alloc::{AllocError, Global};
 
 /// Puts the rows of a tree.

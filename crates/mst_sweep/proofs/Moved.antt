@@ -18,15 +18,15 @@ use Rattle.mst_lag.specs.View.{LogicalPort, logical_port, as_port, view_ports}
 use Rattle.mst_lag.specs.Viewed.{Viewed, named_port}
 use Rattle.mst_lag.specs.declared.in_view.BridgeInView.{BridgeInView}
 use Rattle.mst_lag.specs.declared.in_view.PortInView.{PortInView}
-use Rattle.mst_diff.specs.trees.Agrees.{AreOf}
-use Rattle.mst_diff.specs.trees.Forest.{Forest, IsForest}
-use Rattle.mst_diff.specs.trees.Msti.{has_msti}
-use Rattle.mst_diff.specs.trees.Outcome.{Outcome}
-use Rattle.mst_diff.proofs.trees_lemmas.Entries.{all_weaker}
-use Rattle.mst_diff.proofs.trees_lemmas.Lists.{all_there, mapped_twice}
-use Rattle.mst_diff.proofs.roles_lemmas.Named.{own_role}
-use Rattle.mst_diff.specs.roles.Roles.{role_of, role_in, cist_role, msti_role}
-use Rattle.mst_diff.specs.roles.Seen.{seen_role}
+use Rattle.mst_trees.specs.Agrees.{AreOf}
+use Rattle.mst_trees.specs.Forest.{Forest, IsForest}
+use Rattle.mst_trees.specs.Msti.{has_msti}
+use Rattle.mst_trees.specs.Outcome.{Outcome}
+use Rattle.mst_trees.proofs.Entries.{all_weaker}
+use Rattle.mst_trees.proofs.Lists.{all_there, mapped_twice}
+use Rattle.mst_vlan.proofs.roles_lemmas.Named.{own_role}
+use Rattle.mst_vlan.specs.roles.Roles.{role_of, role_in, cist_role, msti_role}
+use Rattle.mst_vlan.specs.roles.Seen.{seen_role}
 use Rattle.mst_diff.specs.changes.Subjects.{all_trees, bridge_names, port_names}
 use Rattle.mst_diff.proofs.changes_lemmas.Orders.{trees_are}
 use Rattle.mst_diff.specs.declared.both.Both.{Both}

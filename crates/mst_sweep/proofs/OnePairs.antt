@@ -5,7 +5,7 @@ use Rattle.std.specs.List.{AllZip, count_by, filter_map, flat_map}
 use Rattle.mst_graph.specs.Groups.{AreGroups}
 use Rattle.mst_graph.specs.Islands.{Island}
 use Rattle.mst_net.specs.Tables.{Net, IsNetwork}
-use Rattle.mst_diff.specs.trees.Outcome.{Outcome, IsOutcome}
+use Rattle.mst_trees.specs.Outcome.{Outcome, IsOutcome}
 use Rattle.mst_vlan.specs.Reach.{AreIslandsOf}
 use Rattle.mst_diff.proofs.plan_text_lemmas.OnePlan.{OneGrouping}
 use Rattle.mst_diff.specs.changes.Subjects.{bridge_names}

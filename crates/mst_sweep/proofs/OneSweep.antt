@@ -12,9 +12,9 @@ use Rattle.mst_lang.specs.declared.line.Edit.{Edit}
 use Rattle.mst_net.specs.After.{after}
 use Rattle.mst_net.specs.Tables.{Net, BridgeRow, LanRow, IsNetwork}
 use Rattle.mst_net.proofs.Keys.{names}
-use Rattle.mst_diff.specs.trees.Outcome.{Outcome, IsOutcome}
-use Rattle.mst_diff.proofs.trees_lemmas.Entries.{entries_found}
-use Rattle.mst_diff.proofs.trees_lemmas.Lists.{all_contained}
+use Rattle.mst_trees.specs.Outcome.{Outcome, IsOutcome}
+use Rattle.mst_trees.proofs.Entries.{entries_found}
+use Rattle.mst_trees.proofs.Lists.{all_contained}
 use Rattle.mst_vlan.specs.Reach.{AreIslandsOf, bridges_on}
 use Rattle.mst_diff.proofs.plan_text_lemmas.OnePlan.{OneGrouping}
 use Rattle.mst_diff.specs.changes.Subjects.{bridge_names}

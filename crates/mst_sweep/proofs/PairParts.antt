@@ -18,13 +18,13 @@ use Rattle.mst_lag.specs.Viewed.{Viewed}
 use Rattle.mst_lag.specs.declared.in_view.BridgeInView.{BridgeInView}
 use Rattle.mst_classes.specs.Alike.{AreAlike, TellApart}
 use Rattle.mst_vlan.specs.Reach.{AreIslandsOf}
-use Rattle.mst_diff.specs.trees.Agrees.{AreOf}
-use Rattle.mst_diff.specs.trees.Forest.{Forest}
-use Rattle.mst_diff.specs.trees.Outcome.{Outcome}
+use Rattle.mst_trees.specs.Agrees.{AreOf}
+use Rattle.mst_trees.specs.Forest.{Forest}
+use Rattle.mst_trees.specs.Outcome.{Outcome}
 use Rattle.mst_diff.proofs.plan_text_lemmas.Grouped.{place_of_vid}
 use Rattle.mst_diff.proofs.plan_text_lemmas.Bodied.{zip_at}
-use Rattle.mst_diff.proofs.trees_lemmas.Lists.{kept_in, kept_from, no_some, some_is}
-use Rattle.mst_diff.proofs.trees_lemmas.Seen.{bridge_seen}
+use Rattle.mst_trees.proofs.Lists.{kept_in, kept_from, no_some, some_is}
+use Rattle.mst_trees.proofs.Seen.{bridge_seen}
 use Rattle.mst_diff.proofs.Named.{names_are}
 use Rattle.mst_diff.proofs.OneDiff.{OneList}
 use Rattle.mst_diff.specs.changes.Subjects.{bridge_names}

@@ -16,12 +16,12 @@ use Rattle.mst_lag.specs.View.{LogicalPort}
 use Rattle.mst_lag.specs.Viewed.{Viewed, named_port}
 use Rattle.mst_lag.specs.declared.in_view.BridgeInView.{BridgeInView}
 use Rattle.mst_lag.specs.declared.in_view.PortInView.{PortInView}
-use Rattle.mst_diff.specs.trees.Agrees.{AreOf}
-use Rattle.mst_diff.specs.trees.Forest.{Forest}
-use Rattle.mst_diff.specs.trees.Outcome.{Outcome}
-use Rattle.mst_diff.proofs.trees_lemmas.Entries.{all_weaker, entries_found}
-use Rattle.mst_diff.proofs.trees_lemmas.Lists.{all_there, all_contained, all_mapped, all_unmapped, kept_same, mapped_twice, no_some}
-use Rattle.mst_diff.proofs.trees_lemmas.Seen.{bridge_seen}
+use Rattle.mst_trees.specs.Agrees.{AreOf}
+use Rattle.mst_trees.specs.Forest.{Forest}
+use Rattle.mst_trees.specs.Outcome.{Outcome}
+use Rattle.mst_trees.proofs.Entries.{all_weaker, entries_found}
+use Rattle.mst_trees.proofs.Lists.{all_there, all_contained, all_mapped, all_unmapped, kept_same, mapped_twice, no_some}
+use Rattle.mst_trees.proofs.Seen.{bridge_seen}
 use Rattle.mst_vlan.specs.Reach.{bridges_on, lans_up, vid_links, AreIslandsOf}
 use Rattle.mst_vlan.proofs.Renumbered.{bridge_listed}
 use Rattle.mst_classes.specs.Alike.{AreAlike}

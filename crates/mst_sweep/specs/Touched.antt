@@ -3,10 +3,10 @@ use Rattle.std.specs.Prelude.{◌≡◌, ℕ, ◌<◌, ◌==◌, ◌&&◌, not, 
 use Rattle.std.specs.List.{Contains, list_any}
 use Rattle.mst_lag.specs.Viewed.{Viewed}
 use Rattle.mst_lag.specs.declared.in_view.PortInView.{PortInView}
-use Rattle.mst_diff.specs.trees.Forest.{Forest}
-use Rattle.mst_diff.specs.trees.InUse.{seen_mstis}
-use Rattle.mst_diff.specs.roles.Seen.{seen_role, seen_forwards}
-use Rattle.mst_diff.specs.roles.declared.kind.Role.{Role}
+use Rattle.mst_trees.specs.Forest.{Forest}
+use Rattle.mst_trees.specs.InUse.{seen_mstis}
+use Rattle.mst_vlan.specs.roles.Seen.{seen_role, seen_forwards}
+use Rattle.mst_vlan.specs.roles.declared.kind.Role.{Role}
 use Rattle.mst_vlan.specs.Seen.{seen_member}
 use Rattle.mst_diff.specs.changes.Values.{role_number}
 

@@ -2,7 +2,7 @@ ghost use Rattle.std.specs.Prelude.{◌≡◌, ◌++◌, ◌<◌, ◌+◌, ◌�
 ghost use Rattle.std.specs.Option.{ForSome, option_copied};
 ghost use Rattle.mst_ids.specs.Vids.{runs_from};
 ghost use Rattle.mst_rows.specs.Rows.{Row};
-ghost use Rattle.mst_diff.specs.trees.Agrees.{Known};
+ghost use Rattle.mst_trees.specs.Agrees.{Known};
 ghost use Rattle.mst_diff.specs.plan_text.Bodies.{NumberEach};
 ghost use Rattle.mst_diff.specs.Reach.{has_any};
 ghost use Rattle.mst_diff.specs.Seen.{seen_both};
@@ -23,12 +23,12 @@ use crate::parts::all_parts;
 use crate::single::{Single, where_touched};
 use crate::with_both::{Homes, staying_with_both};
 use mst_carried::Carriage;
-use mst_diff::vlan_laws::islands_of_vid;
 use mst_diff::{Both, Planned, set_of};
 use mst_graph::Numbering;
 use mst_ids::{Name, Vid, VidSet};
 use mst_kinds::{Kind, SweepLine};
 use mst_rows::{Rows, Value, put};
+use mst_vlan::laws::islands_of_vid;
 use std::alloc::{AllocError, Global};
 
 /// The parts that both failures of a pair make of a class of VIDs: none where no link between bridges goes of it.

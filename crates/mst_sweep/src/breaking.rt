@@ -1,6 +1,6 @@
 ghost use Rattle.std.specs.Prelude.{◌≡◌, ◌<◌, ◌+◌, ℕ, false, true, IfOk, length, slice_index, slice_index_or, vec_len};
 ghost use Rattle.std.specs.Option.{ForSome};
-ghost use Rattle.mst_diff.specs.trees.Agrees.{Known};
+ghost use Rattle.mst_trees.specs.Agrees.{Known};
 ghost use Rattle.mst_sweep.specs.Baseline.{IsBaseline};
 ghost use Rattle.mst_sweep.specs.Breaking.{HasNoParts, IsCarriageOf};
 ghost use Rattle.mst_sweep.specs.Touched.{AreWhereTouched};
@@ -9,8 +9,8 @@ use crate::baseline::Baseline;
 use crate::links::breaks_no_link;
 use mst_carried::Carriage;
 use mst_diff::Planned;
-use mst_diff::vlan_laws::islands_of_vid;
 use mst_ids::Vid;
+use mst_vlan::laws::islands_of_vid;
 use std::alloc::{AllocError, Global};
 
 // Of so many classes islands are made quicker by what carries each VID than one after the other.

@@ -1,6 +1,6 @@
 ghost use Rattle.std.specs.Prelude.{◌≡◌, Some, IfOk, IfSome};
 ghost use Rattle.mst_lag.specs.Aggregation.{same_name};
-ghost use Rattle.mst_diff.specs.trees.Agrees.{Known};
+ghost use Rattle.mst_trees.specs.Agrees.{Known};
 ghost use Rattle.mst_diff.specs.Seen.{seen_both, seen_in_both};
 
 use mst_diff::{Both, Planned};

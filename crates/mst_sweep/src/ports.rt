@@ -2,8 +2,8 @@ ghost use Rattle.std.specs.Prelude.{◌≡◌, ◌≤◌, ◌<◌, ◌∷◌, Ok
 ghost use Rattle.std.specs.List.{Contains, count_by};
 ghost use Rattle.mst_ids.specs.declared.name.PortName.{PortName};
 ghost use Rattle.mst_net.specs.After.{after};
-ghost use Rattle.mst_diff.specs.trees.Agrees.{Known};
-ghost use Rattle.mst_diff.specs.trees.InUse.{AreInUse, seen_mstis};
+ghost use Rattle.mst_trees.specs.Agrees.{Known};
+ghost use Rattle.mst_trees.specs.InUse.{AreInUse, seen_mstis};
 ghost use Rattle.mst_diff.specs.changes.Subjects.{port_names};
 ghost use Rattle.mst_diff.specs.changes.Values.{role_number};
 ghost use Rattle.mst_sweep.specs.Between.{OfNetworks};
@@ -13,9 +13,11 @@ ghost use Rattle.mst_sweep.specs.Moved.{takes_part as takes, is_other_role, port
 ghost use Rattle.mst_sweep.specs.Seen.{seen_port_moved};
 ghost use Rattle.mst_sweep.specs.Touched.{AreTouched};
 
-use mst_diff::{Planned, Role, is_had, port_role, trees_in_use};
+use mst_diff::Planned;
 use mst_ids::Tree;
 use mst_lag::PortInView;
+use mst_trees::{is_had, trees_in_use};
+use mst_vlan::{Role, port_role};
 
 /// Whether a role is other than Disabled.
 fn takes_part(role: Role) -> bool

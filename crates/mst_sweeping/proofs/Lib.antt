@@ -1,4 +1,5 @@
 pub mod Swept
 pub mod SweptParts
 pub mod SweepThere
+pub mod WithFailures
 pub mod Paired

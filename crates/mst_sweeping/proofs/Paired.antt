@@ -1,66 +1,22 @@
--- What pairs of failures do: views and regions of the networks that fail, and what is told of pairs one after another.
+-- What pairs of failures do: what is kept of single ones, how many pairs there are, and pieces of them.
 use Rattle.std.proofs.Common.{◌≡◌, ℕ, ◌+◌, ◌-◌, ◌*◌, ◌/◌, ◌≤◌, ◌<◌, zero, suc, Bool, true, false, cond, List, [], ◌∷◌, ◌++◌, length, map, take, drop, get_or, min, refl, sym, ap, subst, ◌∙◌, arith, drop-cons, length-append}
 use Rattle.std.specs.FinMap as fin
 use Rattle.std.specs.List.{AllByRecursion, filter}
 use Rattle.std.specs.Option.{option_map}
 use Rattle.std.proofs.lemmas.List.{length-map, length-drop, map-append, get_or-map, drop-drop}
 use Rattle.std.proofs.lemmas.Nat.{div-mul-add}
-use Rattle.mst_lang.specs.declared.line.Edit.{Edit}
-use Rattle.mst_lang.specs.declared.line.BridgeChange.TheVariants.{Power}
-use Rattle.mst_lang.specs.declared.line.LanChange.TheVariants.{State}
-use Rattle.mst_lang.specs.declared.line.Power.TheVariants.{Off}
-use Rattle.mst_lang.specs.declared.line.LanState.TheVariants.{Down}
-use Rattle.mst_net.specs.After.{effect}
-use Rattle.mst_net.specs.Contents.{PerKind, numbers_after}
 use Rattle.mst_net.specs.Tables.{Net, Numbers, BridgeRow, LanRow, IsNetwork}
-use Rattle.mst_config.specs.Shared.{AreRegions}
-use Rattle.mst_config.specs.Touching.{touches_regions}
-use Rattle.mst_lag.specs.Viewed.{Viewed, IsView}
-use Rattle.mst_lag.proofs.LanAlone as lan_alone
-use Rattle.mst_lag.proofs.BridgeAlone as bridge_alone
 use Rattle.mst_trees.specs.Outcome.{Outcome}
 use Rattle.mst_vlan.specs.Reach.{bridges_on}
 use Rattle.mst_sweep.specs.declared.baseline.Baseline.{Baseline}
 use Rattle.mst_sweep.specs.declared.failure.Failure.{Failure}
 use Rattle.mst_sweep.specs.declared.failure.Failure.TheVariants.{Lan, Bridge}
 use Rattle.mst_sweep.specs.declared.single.Single.{Single}
-use Rattle.mst_sweep.specs.Failures.{failures, edit_of}
-use Rattle.mst_sweep.specs.Pairs.{failed, pairs_of, with_each}
+use Rattle.mst_sweep.specs.Failures.{failures}
+use Rattle.mst_sweep.specs.Pairs.{pairs_of, with_each}
 use Rattle.mst_sweep.proofs.Windows.{piece, piece_joined, piece_mapped, twice}
 use Rattle.mst_sweeping.specs.Pairing.{IsSingle, AreSingles, HasHomes}
-use Rattle.mst_sweeping.specs.Sweeping.{IsViewBut}
 use Rattle.mst_sweeping.proofs.SweepThere.{all_joined}
-
--- ---- views of a network with one failure, and with a second
-pub first_ahead : (f : Failure) (net : Net) (numbers : Numbers) (v : Viewed) → IsView net numbers v → IsViewBut f (failed (f ∷ []) net) numbers v
-first_ahead (Lan lan) net numbers v view = lan_alone.alone_ahead lan (State Down) net numbers v view
-first_ahead (Bridge bridge) net numbers v view = bridge_alone.alone_ahead bridge (Power Off) net numbers v refl view
-
-pub first_back : (f : Failure) (net : Net) (numbers : Numbers) (v : Viewed) → IsView (failed (f ∷ []) net) numbers v → IsViewBut f net numbers v
-first_back (Lan lan) net numbers v view = lan_alone.alone_back lan (State Down) net numbers v view
-first_back (Bridge bridge) net numbers v view = bridge_alone.alone_back bridge (Power Off) net numbers v refl view
-
-pub second_ahead : (f g : Failure) (net : Net) (numbers : Numbers) (v : Viewed) → IsView (failed (f ∷ []) net) numbers v → IsViewBut g (failed (f ∷ g ∷ []) net) numbers v
-second_ahead (Lan lan) (Lan other) net numbers v view = lan_alone.alone_ahead other (State Down) (failed (Lan lan ∷ []) net) numbers v view
-second_ahead (Lan lan) (Bridge bridge) net numbers v view = bridge_alone.alone_ahead bridge (Power Off) (failed (Lan lan ∷ []) net) numbers v refl view
-second_ahead (Bridge bridge) (Lan lan) net numbers v view = lan_alone.alone_ahead lan (State Down) (failed (Bridge bridge ∷ []) net) numbers v view
-second_ahead (Bridge bridge) (Bridge other) net numbers v view = bridge_alone.alone_ahead other (Power Off) (failed (Bridge bridge ∷ []) net) numbers v refl view
-
-pub second_back : (f g : Failure) (net : Net) (numbers : Numbers) (v : Viewed) → IsView (failed (f ∷ g ∷ []) net) numbers v → IsViewBut g (failed (f ∷ []) net) numbers v
-second_back (Lan lan) (Lan other) net numbers v view = lan_alone.alone_back other (State Down) (failed (Lan lan ∷ []) net) numbers v view
-second_back (Lan lan) (Bridge bridge) net numbers v view = bridge_alone.alone_back bridge (Power Off) (failed (Lan lan ∷ []) net) numbers v refl view
-second_back (Bridge bridge) (Lan lan) net numbers v view = lan_alone.alone_back lan (State Down) (failed (Bridge bridge ∷ []) net) numbers v view
-second_back (Bridge bridge) (Bridge other) net numbers v view = bridge_alone.alone_back other (Power Off) (failed (Bridge bridge ∷ []) net) numbers v refl view
-
--- ---- and its regions
-module _ (stay : (edit : Edit) (net : Net) (numbers : Numbers) (next : PerKind) (region_ids : List (ℕ × ℕ)) → touches_regions edit ≡ false → AreRegions net numbers region_ids → AreRegions (effect edit net) (numbers_after edit next numbers) region_ids) where
-  abbrev nothing_next : PerKind
-  nothing_next = record { bridge = 0; port = 0; lan = 0 }
-
-  pub regions_too : (fs : List Failure) (net : Net) (numbers : Numbers) (region_ids : List (ℕ × ℕ)) → AreRegions net numbers region_ids → AreRegions (failed fs net) numbers region_ids
-  regions_too [] net numbers ids are = are
-  regions_too (Lan lan ∷ fs) net numbers ids are = regions_too fs (effect (edit_of (Lan lan)) net) numbers ids (stay (edit_of (Lan lan)) net numbers nothing_next ids refl are)
-  regions_too (Bridge bridge ∷ fs) net numbers ids are = regions_too fs (effect (edit_of (Bridge bridge)) net) numbers ids (stay (edit_of (Bridge bridge)) net numbers nothing_next ids refl are)
 
 -- ---- single failures
 module _ (net : Net) (numbers : Numbers) (o : Outcome) (firsts : Baseline) where

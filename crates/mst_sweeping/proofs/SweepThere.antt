@@ -3,9 +3,7 @@ use Rattle.std.proofs.Common.{◌≡◌, ℕ, Bool, List, [], ◌∷◌, ◌++�
 use Rattle.std.specs.List.{AllByRecursion, AllZip, filter, flat_map, count_by}
 use Rattle.std.specs.Option.{option_map_or}
 use Rattle.std.specs.FinMap as fin
-use Rattle.mst_lang.specs.Ranges.{InRange}
-use Rattle.mst_lang.specs.declared.line.Edit.{Edit}
-use Rattle.mst_net.specs.After.{after, effect, first_of}
+use Rattle.mst_net.specs.After.{first_of}
 use Rattle.mst_net.specs.Tables.{Net, BridgeRow, LanRow, IsNetwork}
 use Rattle.mst_net.specs.declared.refusal.Refusal.TheVariants.{E04, E06}
 use Rattle.mst_net.proofs.Keys.{names}
@@ -16,10 +14,12 @@ use Rattle.mst_trees.proofs.Lists.{all_mapped, all_passing}
 use Rattle.mst_vlan.specs.Reach.{bridges_on}
 use Rattle.mst_sweep.specs.declared.failure.Failure.{Failure}
 use Rattle.mst_sweep.specs.declared.failure.Failure.TheVariants.{Lan, Bridge}
-use Rattle.mst_sweep.specs.Failures.{edit_of, failures}
+use Rattle.mst_sweep.specs.Failures.{failures}
+use Rattle.mst_sweep.specs.Pairs.{failed}
 use Rattle.mst_sweep.specs.SweepText.{AreFailureRows, Told, IsTold, sweep_row, IsSweepOf}
 use Rattle.mst_sweep.specs.SweepParts.{PartOf, part_of}
-use Rattle.mst_sweeping.specs.Sweeping.{Sweeps, SweepsPart}
+use Rattle.mst_sweep.proofs.Together.{failed_network}
+use Rattle.mst_sweeping.specs.Sweeping.{CanFail, Sweeps, SweepsPart}
 
 pub all_joined : {A : Type 0} (P : A → Type 0) (xs ys : List A) → AllByRecursion P xs → AllByRecursion P ys → AllByRecursion P (xs ++ ys)
 all_joined P [] ys h k = k
@@ -35,29 +35,19 @@ all_dropped P zero xs h = h
 all_dropped P (suc n) [] h = tt
 all_dropped P (suc n) (x ∷ xs) h = all_dropped P n xs h.1
 
-all_in_part : {A : Type 0} (P : A → Type 0) (part : PartOf) (xs : List A) → AllByRecursion P xs → AllByRecursion P (part_of part xs)
+pub all_in_part : {A : Type 0} (P : A → Type 0) (part : PartOf) (xs : List A) → AllByRecursion P xs → AllByRecursion P (part_of part xs)
 all_in_part P part xs h = all_taken P _ _ (all_dropped P _ xs h)
 
--- the edit of a failure is in its ranges, and nothing refuses it
-record CanFail (net : Net) (f : Failure) : Type 0 where
-  in_range : InRange (edit_of f)
-  accepted : after (edit_of f) net ≡ Ok (effect (edit_of f) net)
-
-module _ (net : Net) (is : IsNetwork net) where
+-- nothing refuses the edit of a failure of a network
+module _ (net : Net) where
   lan_can : (e : List ℕ × LanRow) → fin.get net.lans e.0 ≡ Some e.1 → CanFail net (Lan e.0)
-  lan_can e h = record {
-    in_range = record { names = is.lans.named e.0 e.1 h; values = tt };
-    accepted = ap (λ there. option_map_or Err (first_of ((not there, E06) ∷ [])) (Ok (effect (edit_of (Lan e.0)) net))) (ap is_some h);
-  }
+  lan_can e h = ap (λ there. option_map_or Err (first_of ((not there, E06) ∷ [])) (Ok (failed (Lan e.0 ∷ []) net))) (ap is_some h)
 
   bridge_can : (e : List ℕ × BridgeRow) → fin.get net.bridges e.0 ≡ Some e.1 → CanFail net (Bridge e.0)
-  bridge_can e h = record {
-    in_range = record { names = is.bridges.named e.0 e.1 h; values = tt };
-    accepted = ap (λ there. option_map_or Err (first_of ((not there, E04) ∷ [])) (Ok (effect (edit_of (Bridge e.0)) net))) (ap is_some h);
-  }
+  bridge_can e h = ap (λ there. option_map_or Err (first_of ((not there, E04) ∷ [])) (Ok (failed (Bridge e.0 ∷ []) net))) (ap is_some h)
 
-  all_can : AllByRecursion (CanFail net) (failures net)
-  all_can =
+  pub can_fail : IsNetwork net → AllByRecursion (CanFail net) (failures net)
+  can_fail is =
       all_joined (CanFail net) (map (λ (e : List ℕ × LanRow). Lan e.0) (filter (λ (e : List ℕ × LanRow). e.1.is_up) (fin.entries net.lans))) (map Bridge (bridges_on net))
       (all_mapped (CanFail net) (λ (e : List ℕ × LanRow). Lan e.0) (filter (λ (e : List ℕ × LanRow). e.1.is_up) (fin.entries net.lans))
       (all_passing (λ (e : List ℕ × LanRow). fin.get net.lans e.0 ≡ Some e.1) (λ (e : List ℕ × LanRow). CanFail net (Lan e.0)) (λ (e : List ℕ × LanRow). e.1.is_up) (λ e h _. lan_can e h) (fin.entries net.lans)
@@ -67,35 +57,34 @@ module _ (net : Net) (is : IsNetwork net) where
       (all_passing (λ (e : List ℕ × BridgeRow). fin.get net.bridges e.0 ≡ Some e.1) (λ (e : List ℕ × BridgeRow). CanFail net (Bridge e.0)) (λ (e : List ℕ × BridgeRow). e.1.is_on) (λ e h _. bridge_can e h) (fin.entries net.bridges)
       (entries_found names.total net.bridges))))
 
-  module _ (outcomes : (net : Net) → IsNetwork net → (o : Outcome) × IsOutcome net o)
-      (networks : (edit : Edit) (net new : Net) → InRange edit → IsNetwork net → after edit net ≡ Ok new → IsNetwork new)
-      (some : (a b : Net) (o p : Outcome) → IsNetwork a → IsNetwork b → (failure : Failure) → (c : Bool) × (rows : List Row) × AreFailureRows a o b p failure rows c) where
-    abbrev o : Outcome
-    o = (outcomes net is).0
+module _ (net : Net) (is : IsNetwork net) (outcomes : (net : Net) → IsNetwork net → (o : Outcome) × IsOutcome net o)
+    (some : (a b : Net) (o p : Outcome) → IsNetwork a → IsNetwork b → (failure : Failure) → (c : Bool) × (rows : List Row) × AreFailureRows a o b p failure rows c) where
+  abbrev o : Outcome
+  o = (outcomes net is).0
 
-    has_told : (fs : List Failure) → AllByRecursion (CanFail net) fs → (told : List Told) × AllZip (IsTold net o) fs told
-    has_told [] h = ([], tt)
-    has_told (f ∷ fs) h =
-        let failed : Net = effect (edit_of f) net in
-        let ok : IsNetwork failed = networks (edit_of f) net failed h.0.in_range is h.0.accepted in
-        let after_it = outcomes failed ok in
-        let t = some net failed o after_it.0 is ok f in
-        let others = has_told fs h.1 in (
-          record { rows = t.1; cuts = t.0 } ∷ others.0,
-          (record { failed = failed; made = h.0.accepted; outcome = after_it.0; is_outcome = after_it.1; is = t.2 }, others.1),
-        )
+  has_told : (fs : List Failure) → AllByRecursion (CanFail net) fs → (told : List Told) × AllZip (IsTold net o) fs told
+  has_told [] h = ([], tt)
+  has_told (f ∷ fs) h =
+      let new : Net = failed (f ∷ []) net in
+      let ok : IsNetwork new = failed_network (f ∷ []) net is in
+      let after_it = outcomes new ok in
+      let t = some net new o after_it.0 is ok f in
+      let others = has_told fs h.1 in (
+        record { rows = t.1; cuts = t.0 } ∷ others.0,
+        (record { failed = new; made = h.0; outcome = after_it.0; is_outcome = after_it.1; is = t.2 }, others.1),
+      )
 
-    told_of : (fs : List Failure) → AllByRecursion (CanFail net) fs → (cuts : ℕ) × (rows : List Row) × IsSweepOf net o fs rows cuts
-    told_of fs can =
-        let told = has_told fs can in
-        let cuts : ℕ = count_by (λ (t : Told). t.cuts) told.0 in
-        (cuts, flat_map (λ (t : Told). t.rows) told.0 ++ sweep_row fs cuts ∷ [], record { told = told.0; each = told.1; counted = refl; is = refl })
+  told_of : (fs : List Failure) → AllByRecursion (CanFail net) fs → (cuts : ℕ) × (rows : List Row) × IsSweepOf net o fs rows cuts
+  told_of fs can =
+      let told = has_told fs can in
+      let cuts : ℕ = count_by (λ (t : Told). t.cuts) told.0 in
+      (cuts, flat_map (λ (t : Told). t.rows) told.0 ++ sweep_row fs cuts ∷ [], record { told = told.0; each = told.1; counted = refl; is = refl })
 
-    pub has_sweep : (cuts : ℕ) × (rows : List Row) × Sweeps net cuts rows
-    has_sweep = let told = told_of (failures net) all_can in (told.0, told.1, record { outcome = o; is_outcome = (outcomes net is).1; told = told.2 })
+  pub has_sweep : (cuts : ℕ) × (rows : List Row) × Sweeps net cuts rows
+  has_sweep = let told = told_of (failures net) (can_fail net is) in (told.0, told.1, record { outcome = o; is_outcome = (outcomes net is).1; told = told.2 })
 
-    -- and rows of each part of them
-    pub has_part : (part : PartOf) → (cuts : ℕ) × (rows : List Row) × SweepsPart part net cuts rows
-    has_part part =
-        let told = told_of (part_of part (failures net)) (all_in_part (CanFail net) part (failures net) all_can) in
-        (told.0, told.1, record { outcome = o; is_outcome = (outcomes net is).1; told = told.2 })
+  -- and rows of each part of them
+  pub has_part : (part : PartOf) → (cuts : ℕ) × (rows : List Row) × SweepsPart part net cuts rows
+  has_part part =
+      let told = told_of (part_of part (failures net)) (all_in_part (CanFail net) part (failures net) (can_fail net is)) in
+      (told.0, told.1, record { outcome = o; is_outcome = (outcomes net is).1; told = told.2 })

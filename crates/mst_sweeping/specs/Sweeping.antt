@@ -1,5 +1,5 @@
--- What each single failure of a network does, and the plan of a network that failed.
-use Rattle.std.specs.Prelude.{◌≡◌, ◌++◌, ℕ, List, Ok}
+-- What each single failure of a network does.
+use Rattle.std.specs.Prelude.{◌≡◌, ◌++◌, ℕ, List, [], ◌∷◌, Ok}
 use Rattle.std.specs.List.{AllZip, count_by, flat_map, range_with_len}
 use Rattle.mst_net.specs.After.{after}
 use Rattle.mst_net.specs.Tables.{Net, Numbers}
@@ -7,13 +7,12 @@ use Rattle.mst_rows.specs.Rows.{Row}
 use Rattle.mst_trees.specs.Outcome.{Outcome, IsOutcome}
 use Rattle.mst_sweep.specs.declared.failure.Failure.{Failure}
 use Rattle.mst_sweep.specs.Failures.{edit_of}
+use Rattle.mst_sweep.specs.Pairs.{failed}
 use Rattle.mst_sweep.specs.SweepText.{Told, IsTold, IsSweep}
 use Rattle.mst_sweep.specs.SweepParts.{PartOf, ToldOfPart, IsSweepPart}
 use Rattle.mst_sweep.specs.declared.failure.Failure.TheVariants.{Lan, Bridge}
 use Rattle.mst_lag.specs.Viewed.{Viewed}
 use Rattle.mst_lag.specs.Renewed.{IsViewButLan, IsViewButBridge}
-use Rattle.mst_trees.specs.Agrees.{AreOf}
-use Rattle.mst_trees.specs.Forest.{Forest, IsForest}
 
 -- these are the rows of what each single failure does, and this is the number of those that cut some VID, by a settled outcome
 -- of the network
@@ -47,13 +46,9 @@ AreTold net o failures cuts rows = AreToldBy (IsTold net o) failures cuts rows
 abbrev pub Puts : {P : Type 0} → (P → P → List Row → Type 0) → P → P → List Row → Type 0
 Puts {P} grew old now rows = (first : P) (before : List Row) → grew first old before → grew first now (before ++ rows)
 
--- the trees, by this view, are those of the network that a failure makes
-pub record AreFailed (net : Net) (failure : Failure) (v : Viewed) (f : Forest) : Type 0 where
-  pub failed : Net
-  pub numbers : Numbers
-  pub made : after (edit_of failure) net ≡ Ok failed
-  pub of : AreOf failed numbers v f.regions
-  pub forest : IsForest failed numbers f
+-- nothing refuses the edit of a failure: it makes the network with it
+abbrev pub CanFail : Net → Failure → Type 0
+CanFail net failure = after (edit_of failure) net ≡ Ok (failed (failure ∷ []) net)
 
 -- it is the view of a network that differs from this one in what fails at most
 abbrev pub IsViewBut : Failure → Net → Numbers → Viewed → Type 0

@@ -7,7 +7,6 @@ ghost use Rattle.mst_sweeping.specs.Pairing.{SweepsPairs, SweepPairsParts};
 ghost use Rattle.mst_sweeping.specs.Sweeping.{Sweeps, SweepsPart, SweepParts};
 ghost use Rattle.mst_sweep.specs.SweepParts.{PartOf, ToldOfPart, whole_part, but_last_row};
 
-use mst_net::laws::networks;
 use mst_sweep::laws::one_failure;
 use mst_trees::laws::{has_outcome, one_outcome};
 
@@ -17,7 +16,6 @@ pub fn one_sweep()
     ensures one { (net : Net) (rows other : List Row) (c d : ℕ) → IsNetwork net → Sweeps net c rows → Sweeps net d other → (rows ≡ other) × (c ≡ d) }
 {
     has_outcome();
-    networks();
     one_failure();
     mst_sweep::laws::one_sweep();
 }
@@ -34,7 +32,6 @@ pub fn sweep_parts()
 {
     has_outcome();
     one_outcome();
-    networks();
     one_failure();
     mst_sweep::laws::sweep_parts();
 }

@@ -9,7 +9,8 @@ ghost use Rattle.mst_rows.specs.Rows.{Row};
 ghost use Rattle.mst_sweep.specs.Baseline.{IsBaseline};
 ghost use Rattle.mst_sweep.specs.Pairs.{failed, with_each};
 
-use crate::sweeping::{baseline_of, renew, trees_ahead};
+use crate::failing::{renew, trees_ahead, trees_failed, without_failure};
+use crate::sweeping::baseline_of;
 use mst_changes::Planned;
 use mst_config::laws::regions_stay;
 use mst_lag::{View, view};
@@ -98,7 +99,7 @@ fn single_of(
     ensures single { IfOk result (λ single. (is : IsForest network.now.net network.now.numbers plan.now.forest) → IsSingle network.now.net network.now.numbers is.outcome baseline.now single) }
     ensures seen { OnOk result (IsView network.now.net network.now.numbers seen.new) }
 {
-    let forest = trees_of_first(alloc, network, plan, failure, seen)?;
+    let forest = trees_failed(alloc, network, plan, failure, seen)?;
     let old = Planned {
         view: &plan.view,
         forest: &plan.forest,
@@ -108,30 +109,8 @@ fn single_of(
         forest: &forest,
     };
     let kept = kept_alone(alloc, failure, &old, baseline, &new)?;
-    renew(alloc, network, failure, seen)?;
+    without_failure(alloc, network, failure, seen)?;
     Ok(kept)
-}
-
-/// The trees of a network with a failure, repaired from those that stand. The view, which is the network's, is that network's then.
-fn trees_of_first(
-    alloc: Global,
-    network: &Network,
-    plan: &Plan,
-    failure: &Failure,
-    seen: &mut View,
-) -> Result<Forest, AllocError>
-    requires of { IsPlan network.now.net network.now.numbers plan.now }
-    requires seen { IsView network.now.net network.now.numbers seen.old }
-    ensures trees { IfOk result (AreTrees (failed (failure.now ∷ []) network.now.net) network.now.numbers seen.new plan.now.regions) }
-    ensures seen { OnOk result (IsView (failed (failure.now ∷ []) network.now.net) network.now.numbers seen.new) }
-{
-    regions_stay();
-    let failures = [*failure];
-    let failing = Failing {
-        network,
-        failures: &failures,
-    };
-    trees_ahead(alloc, &failing, &plan.forest, &plan.regions, failure, seen)
 }
 
 /// How many pairs so many failures have.
@@ -197,28 +176,15 @@ fn put_run<R: Rows>(
     if others.is_empty() {
         return Ok(0);
     }
-    let forest = trees_of_first(alloc, pairing.network, pairing.plan, &one.failure, seen)?;
+    let forest = trees_failed(alloc, pairing.network, pairing.plan, &one.failure, seen)?;
     let mut cuts = 0;
     for other in others {
         if put_second(alloc, pairing, one, &forest, other, seen, out)? {
             cuts += 1;
         }
     }
-    back_to_none(alloc, pairing.network, &one.failure, seen)?;
+    without_failure(alloc, pairing.network, &one.failure, seen)?;
     Ok(cuts)
-}
-
-/// Renews the view of a network with a failure for the network without.
-fn back_to_none(
-    alloc: Global,
-    network: &Network,
-    failure: &Failure,
-    seen: &mut View,
-) -> Result<(), AllocError>
-    requires { IsView (failed (failure.now ∷ []) network.now.net) network.now.numbers seen.old }
-    ensures { OnOk result (IsView network.now.net network.now.numbers seen.new) }
-{
-    renew(alloc, network, failure, seen)
 }
 
 /// Puts what a pair does, and answers whether it cuts some VID together. The view is that of the network with the

@@ -1,6 +1,5 @@
 pub use Rattle.mst_vlan.proofs.trees_lemmas as trees_lemmas
 pub use Rattle.mst_vlan.proofs.roles_lemmas as roles_lemmas
-pub use Rattle.mst_vlan.proofs as vlan_lemmas
 mod TreeNamed
 pub mod VlanListed
 pub mod VlanNamed

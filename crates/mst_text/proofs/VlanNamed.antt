@@ -3,8 +3,8 @@ use Rattle.std.proofs.Common.{◌≡◌, ℕ, Bool, List, [], ◌∷◌, map, So
 use Rattle.std.specs.List.{AllByRecursion, Contains, filter}
 use Rattle.std.specs.FinMap as fin
 use Rattle.mst_ids.specs.Vids.{has}
-use Rattle.mst_vlan.specs.graph.Islands.{Island}
-use Rattle.mst_vlan.proofs.graph_lemmas.Members.{from_map, from_filter}
+use Rattle.mst_graph.specs.Islands.{Island}
+use Rattle.mst_graph.proofs.Members.{from_map, from_filter}
 use Rattle.mst_net.specs.Tables.{Net, Numbers, BridgeRow}
 use Rattle.mst_net.specs.ByTree.{vlans_in}
 use Rattle.mst_lag.proofs.Lists.{map_itself}

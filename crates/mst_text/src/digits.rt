@@ -2,7 +2,8 @@ ghost use Rattle.std.specs.Prelude.{◌≡◌};
 ghost use Rattle.hex.specs.Hex.{encode_lower};
 ghost use Rattle.mst_config.specs.Digest.{digest_of};
 
-use mst_config::{Table, digest};
+use mst_config::digest;
+use mst_net::Table;
 
 /// The Configuration Digest of a table in lower case hexadecimal digits.
 pub(crate) fn digest_digits(table: &Table) -> [u8; 32]

@@ -34,11 +34,7 @@ pub use configuration::put_configuration;
 pub use holders::Holders;
 pub use islands::bridge_names;
 pub use lags::put_lags;
-pub use mst_vlan::{
-    Forest, Island, Role, Settled, active_ports, bridge_id, forwards, has_tree, is_had, is_member,
-    laws as vlan_laws, mstis_in_use, port_forwards, port_role, reach, role, trees_in_use,
-    trees_laws,
-};
+pub use mst_vlan::{Settled, active_ports, is_member, laws as vlan_laws, mstis_in_use};
 pub use regions::put_regions;
 pub use tree::{put_tree, put_tree_with};
 pub use vlan_text::{put_body, put_heading, put_vlan};

@@ -1,8 +1,7 @@
 ghost use Rattle.std.specs.Prelude.{◌≡◌, ◌++◌, ◌∷◌, [], ℕ, List, OnOk};
 ghost use Rattle.std.specs.List.{flat_map};
 ghost use Rattle.mst_net.specs.Seen.{bridge_row};
-ghost use Rattle.mst_net.specs.Tables.{Net, Numbers};
-ghost use Rattle.mst_net.specs.Tables.{IsNetwork};
+ghost use Rattle.mst_net.specs.Tables.{Net, Numbers, IsNetwork};
 ghost use Rattle.mst_lag.specs.Viewed.{IsView};
 ghost use Rattle.mst_config.specs.Shared.{AreRegions};
 ghost use Rattle.mst_rows.specs.Rows.{Row};
@@ -11,12 +10,12 @@ ghost use Rattle.mst_text.specs.RegionsText.{mstp_row, rstp_row, region_row, reg
 
 use crate::digits::digest_digits;
 use crate::members::{Members, members_of, names_of};
-use mst_config::{Regions, Table};
+use mst_config::Regions;
 use mst_ids::{BridgeId, Name};
 use mst_kinds::{Kind, RegionLine};
 use mst_lag::{BridgeInView, View};
 use mst_lang::Kind as BridgeKind;
-use mst_net::Bridge;
+use mst_net::{Bridge, Table};
 use mst_rows::{Rows, Value, put};
 use std::alloc::{AllocError, Global};
 

@@ -30,7 +30,7 @@ use Rattle.mst_engine.specs.report.Explaining.{has_asked, logical_port_of, unexp
 use Rattle.mst_engine.specs.report.Explaining as unexplained
 use Rattle.mst_engine.specs.report.declared.explaining.Unexplained.{Unexplained}
 use Rattle.mst_engine.specs.report.declared.explaining.Unexplained.TheVariants.{NoBridge, NoPort, NoTree}
-use Rattle.mst_engine.specs.report.trees.Msti.{has_msti}
+use Rattle.mst_trees.specs.Msti.{has_msti}
 use Rattle.mst_lang.specs.Faults as fault
 use Rattle.mst_print.specs.declared.form.Form.{Form}
 use Rattle.mst_tool.specs.Ask.{IsAnswer, Told, is_keyless, is_refused, not_given, unadvised_early, unadvised_in, undrawn_in, unexplained_early, unexplained_in}

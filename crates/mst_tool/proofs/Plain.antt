@@ -1,5 +1,5 @@
 -- Why a port isn't explained is told without escapes: by the codes and the texts of refusals, and of a fault.
-use Rattle.mst_engine.specs.net.declared.refusal.Refusal.TheVariants.{E04, E05}
+use Rattle.mst_net.specs.declared.refusal.Refusal.TheVariants.{E04, E05}
 use Rattle.mst_engine.specs.report.Explaining.{code_of, text_of}
 use Rattle.mst_engine.specs.report.declared.explaining.Unexplained.{Unexplained}
 use Rattle.mst_engine.specs.report.declared.explaining.Unexplained.TheVariants.{NoBridge, NoPort, NoTree}

@@ -5,7 +5,7 @@ use Rattle.std.specs.Option.{unwrap_or}
 use Rattle.std.proofs.KnownBytes.{Appends-trans}
 use Rattle.mst_engine.specs.diff.declared.diff.Differing.{Differing}
 use Rattle.mst_lang.specs.Lines.{lines_of, ended_lines}
-use Rattle.mst_engine.specs.net.Tables.{Net, IsNetwork}
+use Rattle.mst_net.specs.Tables.{Net, IsNetwork}
 use Rattle.mst_engine.specs.report.Differing.{Differs}
 use Rattle.mst_engine.specs.report.Editing.{EditsTo}
 use Rattle.mst_engine.specs.report.State.{IsState, State, empty_state}

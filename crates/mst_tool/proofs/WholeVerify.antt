@@ -2,7 +2,7 @@
 use Rattle.std.proofs.Common.{◌≡◌, ℕ, ◌+◌, List, ◌++◌, Option, None, ap, subst, arith}
 use Rattle.mst_lang.specs.Lines.{lines_of}
 use Rattle.mst_policy.specs.declared.policy.PolicyLine.{PolicyLine}
-use Rattle.mst_engine.specs.net.Tables.{Net}
+use Rattle.mst_net.specs.Tables.{Net}
 use Rattle.mst_engine.specs.report.State.{State, empty_state}
 use Rattle.mst_judging.specs.Verifying as network
 use Rattle.mst_verdict.specs.Verified.{Counts}

@@ -4,7 +4,7 @@ use Rattle.mst_drive.specs.Words.{Telling}
 use Rattle.mst_change.specs.Reading.{LineRead}
 use Rattle.mst_lang.specs.Lines.{lines_of}
 use Rattle.mst_policy.specs.declared.policy.PolicyLine.{PolicyLine}
-use Rattle.mst_engine.specs.net.Tables.{Net}
+use Rattle.mst_net.specs.Tables.{Net}
 use Rattle.mst_engine.specs.report.State.{empty_state}
 use Rattle.mst_stepping.specs.Stepping as network
 use Rattle.mst_stepping.specs.declared.stepping.Course.{Course}

@@ -5,7 +5,7 @@ use Rattle.mst_lang.specs.Arguments.{name, number_value, port_number, tree}
 use Rattle.mst_lang.specs.declared.line.Fault.{Fault}
 use Rattle.mst_advise.specs.declared.goal.Goal.{Goal}
 use Rattle.mst_advise.specs.declared.goal.Goal.TheVariants as goal
-use Rattle.mst_engine.specs.sweep.SweepParts.{PartOf, part_at}
+use Rattle.mst_sweep.specs.SweepParts.{PartOf, part_at}
 use Rattle.mst_tool.specs.declared.asked.Asked.{Asked}
 
 -- the tree that a word stands for in a script, if there is a word

@@ -1,5 +1,3 @@
-pub use Rattle.mst_engine.specs as engine
-pub use Rattle.mst_print.specs as printing
 pub mod Run
 pub mod Check
 pub mod Load

@@ -5,9 +5,9 @@ ghost use Rattle.mst_tool.specs.Ask.{advice_question, dot_question, explain_ques
 ghost use Rattle.mst_tool.specs.Asked.{asked_of, asked_tree, forward_of, halves_of, part_value, root_of};
 
 use mst_advise::Goal;
-use mst_engine::SweepPart;
 use mst_ids::{PortName, Tree, Vid};
 use mst_lang::{Fault, name, parse_number, port_number, tree};
+use mst_sweep::SweepPart;
 
 /// What is asked of the network that a script leaves.
 #[derive(Clone, Copy)]

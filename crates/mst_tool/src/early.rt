@@ -1,7 +1,7 @@
 ghost use Rattle.std.specs.Prelude.{◌≡◌, ◌==◌, ◌&&◌, ◌≤◌, not, if◌then◌else◌, Some, None};
 ghost use Rattle.mst_engine.specs.report.Unadvised.{unrooted_of};
 ghost use Rattle.mst_engine.specs.report.Explaining.{has_asked, has_tree as has_tree_in};
-ghost use Rattle.mst_engine.specs.report.trees.Msti.{has_msti as has_msti_in};
+ghost use Rattle.mst_trees.specs.Msti.{has_msti as has_msti_in};
 ghost use Rattle.mst_tool.specs.Ask.{unadvised_early, unexplained_early};
 
 use mst_advise::Goal;

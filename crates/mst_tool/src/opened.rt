@@ -4,10 +4,10 @@ ghost use Rattle.mst_tool.specs.Shown.{advice_row, explain_row, pairs_row, part_
 
 use crate::asked::Asked;
 use mst_advise::Goal;
-use mst_engine::SweepPart;
 use mst_kinds::{Kind, Query};
 use mst_print::{Form, Printer};
 use mst_rows::Value;
+use mst_sweep::SweepPart;
 use std::alloc::{AllocError, Global};
 
 /// A printer of what explains a port.

@@ -4,7 +4,7 @@ mod devices;
 mod hinted;
 mod shown;
 
-use mst_tool::Outcome;
+use mst_io::Outcome;
 
 fn counts(refused: u64, differing: u64) -> Outcome {
     Outcome {

@@ -26,8 +26,7 @@ use Rattle.mst_trees.specs.Outcome.{TreeOutcome, IsTreeOutcome, Outcome, IsOutco
 use Rattle.mst_trees.specs.Seen.{cist_seen, internal_seen, trees_at}
 use Rattle.mst_trees.specs.Agrees.{Agrees, AreOf, internal_ports_of}
 use Rattle.mst_trees.specs.Mstis.{AreOutcomes}
-use Rattle.mst_trees.specs.Forest.{IsForest}
-use Rattle.mst_trees.specs.Forest.{Forest}
+use Rattle.mst_trees.specs.Forest.{IsForest, Forest}
 use Rattle.mst_trees.proofs.Lists.{all_contained}
 use Rattle.mst_trees.proofs.CistTopology.{given, cist_is_sight}
 use Rattle.mst_trees.proofs.MstiTopology.{msti_is_sight, msti_topology}

@@ -24,8 +24,7 @@ use Rattle.mst_trees.specs.Numbered.{IsSettledBy}
 use Rattle.mst_trees.specs.Seen.{cist_seen}
 use Rattle.mst_trees.specs.Mstis.{AreOutcomes}
 use Rattle.mst_trees.specs.Bound.{KeepsBound}
-use Rattle.mst_trees.specs.Forest.{IsSettledOnce, KeepsBounds, msti_vector, msti_settlings}
-use Rattle.mst_trees.specs.Forest.{Forest}
+use Rattle.mst_trees.specs.Forest.{IsSettledOnce, KeepsBounds, msti_vector, msti_settlings, Forest}
 use Rattle.mst_trees.proofs.Lists.{no_some, all_there, all_contained, all_passing, length_filtered, contains_filtered}
 
 -- what passes is an element, and passes

@@ -21,8 +21,7 @@ use Rattle.mst_nested.specs.Trees.{IsTree, IsSettled}
 use Rattle.mst_trees.specs.Seen.{cist_seen, internal_seen, msti_seen}
 use Rattle.mst_trees.specs.Agrees.{AreOf, internal_ports_of}
 use Rattle.mst_trees.specs.Mstis.{AreOutcomes}
-use Rattle.mst_trees.specs.Forest.{trees_seen}
-use Rattle.mst_trees.specs.Forest.{Forest}
+use Rattle.mst_trees.specs.Forest.{trees_seen, Forest}
 use Rattle.mst_trees.proofs.Lists.{no_some}
 use Rattle.mst_trees.proofs.CistTopology.{cist_is_sight}
 use Rattle.mst_trees.proofs.MstiTopology.{msti_is_sight}

@@ -1,5 +1,3 @@
-pub use Rattle.mst_nested.specs.graph as graph
-pub use Rattle.mst_net.specs as net
 pub use Rattle.mst_config.specs as config
 pub mod Sight
 pub mod Cist

@@ -1,16 +1,17 @@
 use crate::forest::Forest;
 use mst_lag::View;
-use mst_net::{Network, Ready};
+use mst_lang::Edit;
+use mst_net::Network;
 use std::marker::Model;
 
-/// A network, or one as it will be once an edit is made, with its view and its trees, of which it is known that they
+/// A network, or one as it would be with an edit more, with its view and its trees, of which it is known that they
 /// belong together. What is told of a network takes this one value, and its clauses speak of the network's tables and
 /// of its settled outcome, both by name.
 #[derive(Drop)]
 pub struct Settled<'a> {
     network: &'a Network,
     // The edit, if it is of the network ahead of one. Only clauses go by it and by the network.
-    ahead: Option<&'a Ready>,
+    ahead: Option<&'a Edit>,
     view: &'a View,
     forest: &'a Forest,
 }
@@ -52,20 +53,20 @@ impl<'a> Settled<'a> {
         }
     }
 
-    /// A network as it will be once an edit is made, with its view and its trees.
+    /// A network as it would be with an edit, a failure's say, with its view and its trees then. Nothing is made or prepared for it.
     pub fn ahead(
         network: &'a Network,
-        ready: &'a Ready,
+        edit: &'a Edit,
         view: &'a View,
         forest: &'a Forest,
     ) -> Settled<'a>
-        requires of { AreOf (ahead_of network.now ready.now).net (ahead_of network.now ready.now).numbers view.now forest.now.regions }
-        requires forest { IsForest (ahead_of network.now ready.now).net (ahead_of network.now ready.now).numbers forest.now }
-        ensures { result ≡ settled_net (ahead_of network.now ready.now) view.now forest.now }
+        requires of { AreOf (ahead_of network.now edit.now).net (ahead_of network.now edit.now).numbers view.now forest.now.regions }
+        requires forest { IsForest (ahead_of network.now edit.now).net (ahead_of network.now edit.now).numbers forest.now }
+        ensures { result ≡ settled_net (ahead_of network.now edit.now) view.now forest.now }
     {
         Settled {
             network,
-            ahead: Some(ready),
+            ahead: Some(edit),
             view,
             forest,
         }

@@ -10,8 +10,8 @@ use Rattle.mst_policy.specs.declared.expectation.Promise.{Promise}
 use Rattle.mst_policy.specs.declared.policy.PolicyLine.{PolicyLine}
 use Rattle.mst_rows.specs.Cells.{PromiseSaid}
 use Rattle.mst_rows.specs.Rows.{Row}
-use Rattle.mst_summary.specs.net.Tables.{Net}
-use Rattle.mst_summary.specs.trees.Outcome.{Outcome}
+use Rattle.mst_net.specs.Tables.{Net}
+use Rattle.mst_trees.specs.Outcome.{Outcome}
 use Rattle.mst_sweep.specs.Failures.{failures}
 use Rattle.mst_sweep.specs.declared.failure.Failure.{Failure}
 use Rattle.mst_verify.specs.Judged.{asks_at, places}
@@ -25,7 +25,7 @@ use Rattle.mst_verdict.specs.Steps.{Change, changes}
 use Rattle.mst_verdict.specs.Told.{AreFoundIn, AreLineReasons, AreLinesTold, Found, IsFoundAt, IsLineTold, IsToldThere, expected_at, found_rows, has_reason, is_due, is_judged_at, judged, judged_of, lacked, looks_at, missing_rows, unread_by, where_whole}
 use Rattle.mst_verdict.specs.Verified.{IsVerdict, joined, network_count, promise_of, promises_of, refused_rows, rows_of_read}
 use Rattle.mst_verdict.proofs.GoesOn.{one_if}
-use Rattle.mst_summary.specs.diff.Reach.{has_any}
+use Rattle.mst_verify.specs.diff.Reach.{has_any}
 use Rattle.mst_verdict.specs.declared.judgement.Judgement.{Judgement}
 
 -- ---- lists by places

@@ -2,8 +2,8 @@
 use Rattle.std.proofs.Common.{◌≡◌, true, true≢false, List, [], None, sym}
 use Rattle.mst_policy.specs.declared.expectation.Expectation.{Expectation}
 use Rattle.mst_policy.specs.declared.expectation.Expectation.TheVariants as expect
-use Rattle.mst_summary.specs.net.Tables.{Net}
-use Rattle.mst_summary.specs.trees.Outcome.{Outcome}
+use Rattle.mst_net.specs.Tables.{Net}
+use Rattle.mst_trees.specs.Outcome.{Outcome}
 use Rattle.mst_verify.specs.Judged.{looks_back}
 use Rattle.mst_verify.specs.Reasons.{AreReasons}
 use Rattle.mst_verify.specs.declared.reason.Reason.{Reason}

@@ -7,9 +7,9 @@ use Rattle.mst_rows.specs.Cells.{PromiseSaid}
 use Rattle.mst_rows.specs.Rows.{Row}
 use Rattle.mst_rows.specs.declared.value.PromiseScope.{PromiseScope}
 use Rattle.mst_rows.specs.declared.value.PromiseScope.TheVariants as told_scope
-use Rattle.mst_summary.specs.diff.Reach.{has_any}
-use Rattle.mst_summary.specs.net.Tables.{Net}
-use Rattle.mst_summary.specs.trees.Outcome.{Outcome}
+use Rattle.mst_verify.specs.diff.Reach.{has_any}
+use Rattle.mst_net.specs.Tables.{Net}
+use Rattle.mst_trees.specs.Outcome.{Outcome}
 use Rattle.mst_policy.specs.declared.expectation.Promise.{Promise}
 use Rattle.mst_policy.specs.declared.expectation.Scope.{Scope}
 use Rattle.mst_policy.specs.declared.expectation.Scope.TheVariants as scope

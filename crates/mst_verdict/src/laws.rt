@@ -2,14 +2,14 @@
 ghost use Rattle.std.specs.Prelude.{◌≡◌, List};
 ghost use Rattle.mst_policy.specs.declared.policy.PolicyLine.{PolicyLine as LineOf};
 ghost use Rattle.mst_rows.specs.Rows.{Row};
-ghost use Rattle.mst_summary.specs.net.Tables.{Net, IsNetwork};
-ghost use Rattle.mst_summary.specs.trees.Outcome.{Outcome, IsOutcome};
+ghost use Rattle.mst_net.specs.Tables.{Net, IsNetwork};
+ghost use Rattle.mst_trees.specs.Outcome.{Outcome, IsOutcome};
 ghost use Rattle.mst_verify.specs.Named.{OfNetwork, Prior};
 ghost use Rattle.mst_verdict.specs.Told.{IsLineTold, IsToldWhereUnkept};
 ghost use Rattle.mst_verdict.specs.Verified.{Counts as PolicyCounts, IsToldWhereBroken, IsVerdict, IsVerified};
 
 use mst_net::laws::networks;
-use mst_summary::trees_laws::{has_outcome, one_outcome};
+use mst_trees::laws::{has_outcome, one_outcome};
 use mst_verify::laws::{reason_lists, told_where_broken};
 
 /// A line has one list of rows in a network, by what is before that, whichever settled outcome it is judged by.

@@ -1,9 +1,9 @@
 ghost use Rattle.std.specs.Prelude.{◌≡◌, ◌&&◌, ◌||◌, ◌+◌, ◌≤◌, ◌++◌, List, None, true, IfOk, OnOk, count_by, length, map, not};
 ghost use Rattle.std.specs.List.{list_any};
 ghost use Rattle.mst_rows.specs.Rows.{Row, said};
-ghost use Rattle.mst_summary.specs.diff.Reach.{has_any};
-ghost use Rattle.mst_summary.specs.net.Tables.{Net};
-ghost use Rattle.mst_summary.specs.trees.Outcome.{Outcome};
+ghost use Rattle.mst_verify.specs.diff.Reach.{has_any};
+ghost use Rattle.mst_net.specs.Tables.{Net};
+ghost use Rattle.mst_trees.specs.Outcome.{Outcome};
 ghost use Rattle.mst_sweep.specs.Failures.{failures as failures_of};
 ghost use Rattle.mst_verdict.specs.Judged.{AreLinesJudged, Puts, counts_of, found_at, line_found, refused_at, refused_by, verdicts_by, tells_some};
 ghost use Rattle.mst_verdict.specs.Told.{is_now};

@@ -11,11 +11,11 @@ use Rattle.mst_graph.specs.Walks.{bridge_at}
 use Rattle.mst_graph.specs.declared.keys.Numbering.{Numbering}
 use Rattle.mst_lag.specs.Viewed.{Viewed}
 use Rattle.mst_policy.specs.declared.item.NameItem.{NameItem}
-use Rattle.mst_summary.specs.changes.Subjects.{bridge_names}
-use Rattle.mst_summary.specs.net.Tables.{IsNetwork, Net}
-use Rattle.mst_summary.specs.trees.Outcome.{Outcome}
-use Rattle.mst_summary.specs.trees.Settled.{IsSettledNet, outcome_of, SettledNet}
-use Rattle.mst_summary.proofs.trees_lemmas.Lists.{no_some, some_is}
+use Rattle.mst_diff.specs.changes.Subjects.{bridge_names}
+use Rattle.mst_net.specs.Tables.{IsNetwork, Net}
+use Rattle.mst_trees.specs.Outcome.{Outcome}
+use Rattle.mst_trees.specs.Settled.{IsSettledNet, outcome_of, SettledNet}
+use Rattle.mst_trees.proofs.Lists.{no_some, some_is}
 use Rattle.mst_vlan.specs.Reach.{AreIslandsOf, bridges_on, lans_up, vid_links}
 use Rattle.mst_sweep.specs.Baseline.{AreHomes}
 use Rattle.mst_sweep.specs.Parts.{all_parts, ArePartsOf, staying, stays_at}

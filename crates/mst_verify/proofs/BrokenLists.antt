@@ -5,15 +5,15 @@ use Rattle.std.specs.List.{Contains, filter, flat_map}
 use Rattle.std.proofs.lemmas.Bool.{eqb-true}
 use Rattle.mst_ids.specs.Vids.{set_where}
 use Rattle.mst_graph.proofs.Members.{in_filter, from_filter}
-use Rattle.mst_summary.specs.net.Tables.{Net}
+use Rattle.mst_net.specs.Tables.{Net}
 use Rattle.mst_lag.specs.Trees.{is_among}
 use Rattle.mst_lag.specs.View.{LogicalPort}
-use Rattle.mst_summary.specs.trees.Outcome.{Outcome}
-use Rattle.mst_summary.specs.roles.Roles.{role_in}
-use Rattle.mst_summary.specs.roles.declared.kind.Role.{Role}
-use Rattle.mst_summary.specs.roles.declared.kind.Role.TheVariants.{Root, Designated, Alternate, Backup, Master, Disabled}
-use Rattle.mst_summary.specs.changes.Values.{role_number}
-use Rattle.mst_summary.specs.diff.Reach.{has_any}
+use Rattle.mst_trees.specs.Outcome.{Outcome}
+use Rattle.mst_vlan.specs.roles.Roles.{role_in}
+use Rattle.mst_vlan.specs.roles.declared.kind.Role.{Role}
+use Rattle.mst_vlan.specs.roles.declared.kind.Role.TheVariants.{Root, Designated, Alternate, Backup, Master, Disabled}
+use Rattle.mst_diff.specs.changes.Values.{role_number}
+use Rattle.mst_diff.specs.Reach.{has_any}
 use Rattle.mst_policy.specs.declared.expectation.Roles.{Roles}
 use Rattle.mst_verify.specs.Named.{vids_in}
 use Rattle.mst_verify.specs.Over.{goes_over, not_as_wanted}

@@ -6,12 +6,12 @@ use Rattle.mst_ids.specs.Vids.{set_where}
 use Rattle.mst_graph.specs.Groups.{AreGroups, IsThinned, StandOnce, no_groups, one_more, kept}
 use Rattle.mst_graph.proofs.Members.{here, cases, in_none, in_whole, in_filter, passing, thinned_none}
 use Rattle.mst_graph.proofs.Unique as unique
-use Rattle.mst_summary.specs.net.Tables.{Net}
-use Rattle.mst_summary.specs.plan_text.config.Regions.{same_region}
+use Rattle.mst_net.specs.Tables.{Net}
+use Rattle.mst_config.specs.Regions.{same_region}
 use Rattle.mst_lag.specs.Aggregation.{same_name}
 use Rattle.mst_lag.specs.Trees.{is_among}
-use Rattle.mst_summary.specs.trees.Outcome.{Outcome}
-use Rattle.mst_summary.specs.diff.Reach.{has_any}
+use Rattle.mst_trees.specs.Outcome.{Outcome}
+use Rattle.mst_diff.specs.Reach.{has_any}
 use Rattle.mst_vlan.specs.Reach.{bridges_on}
 use Rattle.mst_verify.specs.Named.{vids_in}
 use Rattle.mst_verify.specs.Holds.{AllReach, AreApart, AreOneRegion, AreTogether, IsReached}

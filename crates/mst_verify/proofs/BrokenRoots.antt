@@ -7,17 +7,17 @@ use Rattle.std.specs.Cmp.Lexicographic.{bytes_decides}
 use Rattle.std.specs.FinMap as fin
 use Rattle.std.proofs.lemmas.Bool.{eqb-true}
 use Rattle.mst_graph.proofs.Members.{in_none, in_filter, from_filter}
-use Rattle.mst_summary.specs.net.ByTree.{by_tree}
-use Rattle.mst_summary.specs.net.Tables.{Net, BridgeRow, IsNetwork}
+use Rattle.mst_net.specs.ByTree.{by_tree}
+use Rattle.mst_net.specs.Tables.{Net, BridgeRow, IsNetwork}
 use Rattle.mst_lag.specs.Aggregation.{same_name}
-use Rattle.mst_summary.specs.trees.InUse.{id_in}
-use Rattle.mst_summary.specs.trees.Outcome.{Outcome}
-use Rattle.mst_summary.specs.diff.Reach.{has_any}
-use Rattle.mst_summary.specs.diff.Roots.{root_of, root_name, named_by}
-use Rattle.mst_summary.specs.plan_text.config.Regions.{same_region}
-use Rattle.mst_summary.proofs.trees_lemmas.Lists.{all_contained, no_some, some_is}
-use Rattle.mst_summary.proofs.trees_lemmas.Looking.{first_found}
-use Rattle.mst_summary.proofs.trees_lemmas.Views.{bridges_are, entry_there, same_mac}
+use Rattle.mst_trees.specs.InUse.{id_in}
+use Rattle.mst_trees.specs.Outcome.{Outcome}
+use Rattle.mst_diff.specs.Reach.{has_any}
+use Rattle.mst_diff.specs.Roots.{root_of, root_name, named_by}
+use Rattle.mst_config.specs.Regions.{same_region}
+use Rattle.mst_trees.proofs.Lists.{all_contained, no_some, some_is}
+use Rattle.mst_trees.proofs.Looking.{first_found}
+use Rattle.mst_trees.proofs.Views.{bridges_are, entry_there, same_mac}
 use Rattle.mst_verify.specs.Holds.{IsOneRoot}
 use Rattle.mst_verify.specs.Reasons.{root_count, other_root, other_next, AreRootReasons}
 use Rattle.mst_verify.specs.Roots.{concerned, is_concerned, is_root_of, identifier, IsNextRoot}

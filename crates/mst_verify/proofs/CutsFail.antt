@@ -13,12 +13,12 @@ use Rattle.mst_net.specs.After.{after}
 use Rattle.mst_net.specs.Tables.{Net, IsNetwork}
 use Rattle.mst_policy.specs.declared.item.NameItem.TheVariants.{Any}
 use Rattle.mst_rows.specs.Rows.{Row}
-use Rattle.mst_summary.specs.changes.Subjects.{bridge_names}
-use Rattle.mst_summary.specs.diff.Reach.{has_any}
-use Rattle.mst_summary.specs.plan_text.PlanText.{all_vids}
-use Rattle.mst_summary.specs.trees.Outcome.{Outcome, IsOutcome}
-use Rattle.mst_summary.proofs.plan_text_lemmas.OnePlan.{is_vid_there}
-use Rattle.mst_summary.proofs.trees_lemmas.Lists.{kept_in, kept_from, some_is}
+use Rattle.mst_diff.specs.changes.Subjects.{bridge_names}
+use Rattle.mst_diff.specs.Reach.{has_any}
+use Rattle.mst_plan_text.specs.PlanText.{all_vids}
+use Rattle.mst_trees.specs.Outcome.{Outcome, IsOutcome}
+use Rattle.mst_plan_text.proofs.OnePlan.{is_vid_there}
+use Rattle.mst_trees.proofs.Lists.{kept_in, kept_from, some_is}
 use Rattle.mst_vlan.specs.Reach.{AreIslandsOf, bridges_on}
 use Rattle.mst_sweep.specs.Cuts.{AreCuts}
 use Rattle.mst_sweep.specs.Failures.{edit_of, failures}

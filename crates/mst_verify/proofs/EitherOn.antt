@@ -12,12 +12,12 @@ use Rattle.mst_lag.specs.Aggregation.{same_name}
 use Rattle.mst_lag.specs.Viewed.{Viewed, IsView, named_bridge}
 use Rattle.mst_lag.specs.declared.in_view.BridgeInView.{BridgeInView}
 use Rattle.mst_policy.specs.declared.item.NameItem.{NameItem}
-use Rattle.mst_summary.specs.net.Seen.{bridge_row}
-use Rattle.mst_summary.specs.net.Tables.{Net, Numbers, BridgeRow}
-use Rattle.mst_summary.specs.trees.Outcome.{Outcome}
-use Rattle.mst_summary.proofs.trees_lemmas.Entries.{all_weaker}
-use Rattle.mst_summary.proofs.trees_lemmas.Lists.{all_there, filter_mapped, mapped_twice}
-use Rattle.mst_summary.proofs.trees_lemmas.Looking.{filter_alike}
+use Rattle.mst_net.specs.Seen.{bridge_row}
+use Rattle.mst_net.specs.Tables.{Net, Numbers, BridgeRow}
+use Rattle.mst_trees.specs.Outcome.{Outcome}
+use Rattle.mst_trees.proofs.Entries.{all_weaker}
+use Rattle.mst_trees.proofs.Lists.{all_there, filter_mapped, mapped_twice}
+use Rattle.mst_trees.proofs.Looking.{filter_alike}
 use Rattle.mst_vlan.specs.Reach.{bridges_on, vid_links}
 use Rattle.mst_verify.specs.Holds.{AreTogether, IsReached}
 use Rattle.mst_verify.specs.Islands.{names_in, AreReachParts}

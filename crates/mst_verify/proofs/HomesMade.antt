@@ -6,12 +6,12 @@ use Rattle.std.proofs.lemmas.Slice.Zip.{AllZip-long}
 use Rattle.std.proofs.lemmas.List.{get_or_default}
 use Rattle.mst_carried.specs.Carried.{ViewWithTrees}
 use Rattle.mst_lag.specs.Viewed.{Viewed}
-use Rattle.mst_summary.specs.net.Tables.{Net, Numbers}
-use Rattle.mst_summary.specs.trees.Agrees.{AreOf, Known}
-use Rattle.mst_summary.specs.trees.Forest.{Forest, IsForest}
-use Rattle.mst_summary.specs.trees.Settled.{SettledNet, IsSettledNet, outcome_of}
-use Rattle.mst_summary.proofs.trees_lemmas.SettledNet.{forest_of}
-use Rattle.mst_summary.proofs.plan_text_lemmas.Bodied.{zip_at}
+use Rattle.mst_net.specs.Tables.{Net, Numbers}
+use Rattle.mst_trees.specs.Agrees.{AreOf, Known}
+use Rattle.mst_trees.specs.Forest.{Forest, IsForest}
+use Rattle.mst_trees.specs.Settled.{SettledNet, IsSettledNet, outcome_of}
+use Rattle.mst_trees.proofs.SettledNet.{forest_of}
+use Rattle.mst_plan_text.proofs.Bodied.{zip_at}
 use Rattle.mst_sweep.specs.Baseline.{AreHomes}
 use Rattle.mst_verify.specs.Islands.{AreMade, HasHomesBy, IsOfPlan}
 

@@ -5,25 +5,25 @@ use Rattle.std.specs.FinMap as fin
 use Rattle.mst_ids.specs.Names.{name_cmp}
 use Rattle.mst_graph.specs.Groups.{StandOnce}
 use Rattle.mst_graph.proofs.Members.{in_map, from_map}
-use Rattle.mst_summary.specs.net.ByTree.{by_tree}
-use Rattle.mst_summary.specs.net.Tables.{Net, BridgeRow, IsNetwork}
-use Rattle.mst_summary.specs.vector.Cist.{cist_rules}
-use Rattle.mst_summary.specs.vector.Msti.{msti_rules}
-use Rattle.mst_summary.specs.vector.declared.cist.CistBridge.{CistBridge}
-use Rattle.mst_summary.specs.vector.declared.msti.MstiBridge.{MstiBridge}
+use Rattle.mst_net.specs.ByTree.{by_tree}
+use Rattle.mst_net.specs.Tables.{Net, BridgeRow, IsNetwork}
+use Rattle.mst_vector.specs.Cist.{cist_rules}
+use Rattle.mst_vector.specs.Msti.{msti_rules}
+use Rattle.mst_vector.specs.declared.cist.CistBridge.{CistBridge}
+use Rattle.mst_vector.specs.declared.msti.MstiBridge.{MstiBridge}
 use Rattle.mst_topology.specs.Topology.{HasBridge}
-use Rattle.mst_summary.specs.plan_text.config.Regions.{region_of}
-use Rattle.mst_summary.specs.trees.Apart.{Apart}
-use Rattle.mst_summary.specs.trees.Cist.{cist_bridge, cist_of, cist_sight}
-use Rattle.mst_summary.specs.trees.InUse.{id_in}
-use Rattle.mst_summary.specs.trees.Msti.{has_msti, msti_bridge, msti_of, msti_sight}
-use Rattle.mst_summary.specs.trees.Outcome.{Outcome, IsOutcome, trees_of}
-use Rattle.mst_summary.proofs.trees_lemmas.CistTopology.{given, cist_is_sight}
-use Rattle.mst_summary.proofs.trees_lemmas.Lists.{all_contained, apart_filtered, apart_mapped}
-use Rattle.mst_summary.proofs.trees_lemmas.MstiTopology.{msti_is_sight}
-use Rattle.mst_summary.proofs.trees_lemmas.Sights.{bridge_from}
-use Rattle.mst_summary.proofs.trees_lemmas.Views.{bridges_are, bridges_rise, entry_there, names_differ}
-use Rattle.mst_summary.specs.roles.nested.Trees.{HasTree}
+use Rattle.mst_config.specs.Regions.{region_of}
+use Rattle.mst_trees.specs.Apart.{Apart}
+use Rattle.mst_trees.specs.Cist.{cist_bridge, cist_of, cist_sight}
+use Rattle.mst_trees.specs.InUse.{id_in}
+use Rattle.mst_trees.specs.Msti.{has_msti, msti_bridge, msti_of, msti_sight}
+use Rattle.mst_trees.specs.Outcome.{Outcome, IsOutcome, trees_of}
+use Rattle.mst_trees.proofs.CistTopology.{given, cist_is_sight}
+use Rattle.mst_trees.proofs.Lists.{all_contained, apart_filtered, apart_mapped}
+use Rattle.mst_trees.proofs.MstiTopology.{msti_is_sight}
+use Rattle.mst_trees.proofs.Sights.{bridge_from}
+use Rattle.mst_trees.proofs.Views.{bridges_are, bridges_rise, entry_there, names_differ}
+use Rattle.mst_nested.specs.Trees.{HasTree}
 use Rattle.mst_vlan.specs.Reach.{bridges_on}
 use Rattle.mst_note_text.specs.Depths.{ParentIn}
 

@@ -11,18 +11,18 @@ use Rattle.mst_lag.specs.declared.in_view.PortInView.{PortInView}
 use Rattle.mst_policy.specs.Items.{item_has}
 use Rattle.mst_policy.specs.declared.item.NameItem.{NameItem}
 use Rattle.mst_policy.specs.declared.expectation.Promise.{Promise}
-use Rattle.mst_summary.specs.net.Seen.{bridge_row}
-use Rattle.mst_summary.specs.net.Tables.{Net, Numbers, BridgeRow}
-use Rattle.mst_summary.specs.changes.Subjects.{port_names}
-use Rattle.mst_summary.specs.plan_text.PlanText.{is_had}
-use Rattle.mst_summary.specs.trees.Agrees.{AreOf}
-use Rattle.mst_summary.specs.trees.Msti.{has_msti}
-use Rattle.mst_summary.specs.trees.Seen.{trees_at}
+use Rattle.mst_net.specs.Seen.{bridge_row}
+use Rattle.mst_net.specs.Tables.{Net, Numbers, BridgeRow}
+use Rattle.mst_diff.specs.changes.Subjects.{port_names}
+use Rattle.mst_plan_text.specs.PlanText.{is_had}
+use Rattle.mst_trees.specs.Agrees.{AreOf}
+use Rattle.mst_trees.specs.Msti.{has_msti}
+use Rattle.mst_trees.specs.Seen.{trees_at}
 use Rattle.mst_summary.proofs.Lists.{any_alike, any_mapped}
-use Rattle.mst_summary.proofs.trees_lemmas.Entries.{all_weaker}
-use Rattle.mst_summary.proofs.trees_lemmas.Lists.{mapped_twice}
-use Rattle.mst_summary.proofs.trees_lemmas.Looking.{has_tree_at}
-use Rattle.mst_summary.proofs.trees_lemmas.Seen.{SeenBridge, bridges_seen}
+use Rattle.mst_trees.proofs.Entries.{all_weaker}
+use Rattle.mst_trees.proofs.Lists.{mapped_twice}
+use Rattle.mst_trees.proofs.Looking.{has_tree_at}
+use Rattle.mst_trees.proofs.Seen.{SeenBridge, bridges_seen}
 use Rattle.mst_sweep.specs.declared.failure.Failure.{Failure}
 use Rattle.mst_sweep.specs.declared.failure.Failure.TheVariants.{Lan, Bridge}
 use Rattle.mst_sweep.proofs.AllFailures.{failures_seen}

@@ -1,6 +1,3 @@
-pub use Rattle.mst_summary.proofs.trees_lemmas as trees_lemmas
-pub use Rattle.mst_summary.proofs.roles_lemmas as roles_lemmas
-pub use Rattle.mst_summary.proofs.plan_text_lemmas as plan_text_lemmas
 pub mod Things
 pub mod OfVids
 pub mod StayTogether

@@ -7,11 +7,11 @@ use Rattle.std.specs.FinMap as fin
 use Rattle.mst_rows.specs.Rows.{Row}
 use Rattle.mst_graph.proofs.Members.{in_none, in_filter, from_filter}
 use Rattle.mst_lag.specs.View.{LogicalPort, view_ports}
-use Rattle.mst_summary.specs.net.Tables.{Net, BridgeRow}
-use Rattle.mst_summary.specs.vector.declared.cist.CistVector.{CistVector}
-use Rattle.mst_summary.specs.vector.declared.msti.MstiVector.{MstiVector}
-use Rattle.mst_summary.specs.trees.Outcome.{Outcome}
-use Rattle.mst_summary.proofs.trees_lemmas.Lists.{all_contained}
+use Rattle.mst_net.specs.Tables.{Net, BridgeRow}
+use Rattle.mst_vector.specs.declared.cist.CistVector.{CistVector}
+use Rattle.mst_vector.specs.declared.msti.MstiVector.{MstiVector}
+use Rattle.mst_trees.specs.Outcome.{Outcome}
+use Rattle.mst_trees.proofs.Lists.{all_contained}
 use Rattle.mst_note_text.specs.AreDepths.{TreeDepths}
 use Rattle.mst_note_text.specs.NotesText.{hops_note, age_note, external_note, internal_note, greatest_cost, hops_notes, age_notes, cist_notes, msti_notes, bridge_notes, tree_notes, trees_notes, restricted_note, restricted_notes, AreNoteRows}
 use Rattle.mst_verify.specs.Holds.{is_restricted, limit_notes, NoLimitBinds}

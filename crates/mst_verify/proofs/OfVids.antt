@@ -8,8 +8,8 @@ use Rattle.mst_graph.proofs.Alike.{alike_groups}
 use Rattle.mst_graph.proofs.Exists.{has_groups}
 use Rattle.mst_graph.proofs.Members.{here, in_whole}
 use Rattle.mst_graph.proofs.Unique as unique
-use Rattle.mst_summary.specs.plan_text.PlanText.{all_vids}
-use Rattle.mst_summary.proofs.plan_text_lemmas.OnePlan.{vids_once}
+use Rattle.mst_plan_text.specs.PlanText.{all_vids}
+use Rattle.mst_plan_text.proofs.OnePlan.{vids_once}
 use Rattle.mst_sweep.proofs.SameParts.{parts_decide, same_parts}
 use Rattle.mst_verify.specs.Named.{vids_in}
 use Rattle.mst_verify.specs.Reasons.{AreVidReasons, Parts, group_reasons}

@@ -9,11 +9,11 @@ use Rattle.mst_graph.proofs.Unique as unique
 use Rattle.mst_policy.specs.declared.expectation.Expectation.{Expectation}
 use Rattle.mst_policy.specs.declared.expectation.Expectation.TheVariants as expect
 use Rattle.mst_rows.specs.Rows.{Row}
-use Rattle.mst_summary.specs.net.Tables.{Net, IsNetwork}
-use Rattle.mst_summary.specs.plan_text.config.Regions.{same_region}
-use Rattle.mst_summary.specs.diff.Reach.{has_any}
-use Rattle.mst_summary.specs.roles.nested.Trees.{IsSettled}
-use Rattle.mst_summary.specs.trees.Outcome.{Outcome, trees_of}
+use Rattle.mst_net.specs.Tables.{Net, IsNetwork}
+use Rattle.mst_config.specs.Regions.{same_region}
+use Rattle.mst_diff.specs.Reach.{has_any}
+use Rattle.mst_nested.specs.Trees.{IsSettled}
+use Rattle.mst_trees.specs.Outcome.{Outcome, trees_of}
 use Rattle.mst_vlan.specs.Reach.{bridges_on}
 use Rattle.mst_note_text.specs.Children.{HasSteps}
 use Rattle.mst_note_text.specs.Depths.{ParentIn}

@@ -8,13 +8,13 @@ use Rattle.mst_graph.proofs.Members.{here, there, from_map}
 use Rattle.mst_lag.specs.Aggregation.{same_name}
 use Rattle.mst_lag.specs.Viewed.{Viewed}
 use Rattle.mst_lag.specs.declared.in_view.BridgeInView.{BridgeInView}
-use Rattle.mst_summary.specs.net.Tables.{Net, Numbers, BridgeRow}
-use Rattle.mst_summary.specs.plan_text.config.Regions.{same_configuration, same_region}
-use Rattle.mst_summary.specs.plan_text.config.Shared.{same_in}
-use Rattle.mst_summary.specs.trees.Agrees.{AreOf}
-use Rattle.mst_summary.proofs.trees_lemmas.Lists.{no_some, some_is}
-use Rattle.mst_summary.proofs.trees_lemmas.Looking.{first_found}
-use Rattle.mst_summary.proofs.trees_lemmas.Seen.{bridge_seen}
+use Rattle.mst_net.specs.Tables.{Net, Numbers, BridgeRow}
+use Rattle.mst_config.specs.Regions.{same_configuration, same_region}
+use Rattle.mst_config.specs.Shared.{same_in}
+use Rattle.mst_trees.specs.Agrees.{AreOf}
+use Rattle.mst_trees.proofs.Lists.{no_some, some_is}
+use Rattle.mst_trees.proofs.Looking.{first_found}
+use Rattle.mst_trees.proofs.Seen.{bridge_seen}
 use Rattle.mst_verify.proofs.Keys.{key_there}
 use Rattle.mst_verify.proofs.NamedIn.{names_are}
 

@@ -4,14 +4,14 @@ use Rattle.std.specs.Prelude.{if◌then◌else◌}
 use Rattle.std.specs.Option.{option_map}
 use Rattle.std.specs.FinMap as fin
 use Rattle.std.proofs.lemmas.Bool.{eqb-true}
-use Rattle.mst_summary.specs.net.Tables.{Net, IsNetwork}
-use Rattle.mst_summary.specs.vector.declared.cist.CistVector.{CistVector}
-use Rattle.mst_summary.specs.vector.declared.msti.MstiVector.{MstiVector}
-use Rattle.mst_summary.specs.roles.nested.Trees.{IsSettled}
-use Rattle.mst_summary.specs.trees.Msti.{has_msti}
-use Rattle.mst_summary.specs.trees.Outcome.{Outcome, trees_of}
-use Rattle.mst_summary.specs.diff.Roots.{root_of}
-use Rattle.mst_summary.proofs.trees_lemmas.Lists.{no_some, some_is}
+use Rattle.mst_net.specs.Tables.{Net, IsNetwork}
+use Rattle.mst_vector.specs.declared.cist.CistVector.{CistVector}
+use Rattle.mst_vector.specs.declared.msti.MstiVector.{MstiVector}
+use Rattle.mst_nested.specs.Trees.{IsSettled}
+use Rattle.mst_trees.specs.Msti.{has_msti}
+use Rattle.mst_trees.specs.Outcome.{Outcome, trees_of}
+use Rattle.mst_diff.specs.Roots.{root_of}
+use Rattle.mst_trees.proofs.Lists.{no_some, some_is}
 use Rattle.mst_vlan.proofs.Names.{tests}
 use Rattle.mst_note_text.proofs.Tops.{internal_depth, external_depth, ends_cist, ends_msti}
 use Rattle.mst_verify.proofs.Keys.{InNet, cist_there, msti_there}

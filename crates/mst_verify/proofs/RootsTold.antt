@@ -9,19 +9,19 @@ use Rattle.std.proofs.lemmas.Bool.{eqb-true}
 use Rattle.std.proofs.lemmas.List.{length-map}
 use Rattle.mst_graph.proofs.Members.{in_none, in_filter, from_filter, in_map, from_map, here, there}
 use Rattle.mst_lag.specs.Aggregation.{same_name}
-use Rattle.mst_summary.specs.net.ByTree.{by_tree}
-use Rattle.mst_summary.specs.net.Tables.{Net, BridgeRow, IsNetwork}
-use Rattle.mst_summary.specs.trees.InUse.{id_in}
-use Rattle.mst_summary.specs.trees.Outcome.{Outcome}
-use Rattle.mst_summary.specs.diff.Reach.{has_any}
-use Rattle.mst_summary.specs.diff.Roots.{root_of}
-use Rattle.mst_summary.specs.plan_text.config.Regions.{same_region}
+use Rattle.mst_net.specs.ByTree.{by_tree}
+use Rattle.mst_net.specs.Tables.{Net, BridgeRow, IsNetwork}
+use Rattle.mst_trees.specs.InUse.{id_in}
+use Rattle.mst_trees.specs.Outcome.{Outcome}
+use Rattle.mst_diff.specs.Reach.{has_any}
+use Rattle.mst_diff.specs.Roots.{root_of}
+use Rattle.mst_config.specs.Regions.{same_region}
 use Rattle.mst_summary.specs.Roots.{least, with_lesser}
 use Rattle.mst_summary.specs.declared.roots.Follower.{Follower}
 use Rattle.mst_summary.proofs.Next.{least_of}
-use Rattle.mst_summary.proofs.trees_lemmas.Entries.{all_weaker}
-use Rattle.mst_summary.proofs.trees_lemmas.Lists.{all_contained, all_there, filter_mapped, kept_from, no_some, some_is}
-use Rattle.mst_summary.proofs.trees_lemmas.Looking.{filter_alike}
+use Rattle.mst_trees.proofs.Entries.{all_weaker}
+use Rattle.mst_trees.proofs.Lists.{all_contained, all_there, filter_mapped, kept_from, no_some, some_is}
+use Rattle.mst_trees.proofs.Looking.{filter_alike}
 use Rattle.mst_verify.specs.Reasons.{other_root, root_count}
 use Rattle.mst_verify.specs.Roots.{concerned, identifier, is_concerned, is_root_of, IsNextRoot}
 use Rattle.mst_verify.specs.Seen.{concerned_follower, concerned_followers, seen_other_root}

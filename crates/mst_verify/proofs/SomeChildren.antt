@@ -11,12 +11,12 @@ use Rattle.mst_note_text.specs.Depths.{ParentIn, ParentBetween, ParentWithin}
 use Rattle.mst_note_text.specs.declared.children.Child.{Child}
 use Rattle.mst_note_text.proofs.Regions.{msti_region, parent_sides}
 use Rattle.mst_note_text.proofs.Tops.{external_depth, internal_depth}
-use Rattle.mst_summary.specs.net.Tables.{Net, IsNetwork}
-use Rattle.mst_summary.specs.roles.nested.Trees.{HasTree, IsSettled, Trees}
-use Rattle.mst_summary.specs.trees.Outcome.{Outcome, trees_of}
-use Rattle.mst_summary.specs.vector.declared.cist.CistVector.{CistVector}
-use Rattle.mst_summary.specs.vector.declared.msti.MstiVector.{MstiVector}
-use Rattle.mst_summary.proofs.trees_lemmas.Lists.{no_some}
+use Rattle.mst_net.specs.Tables.{Net, IsNetwork}
+use Rattle.mst_nested.specs.Trees.{HasTree, IsSettled, Trees}
+use Rattle.mst_trees.specs.Outcome.{Outcome, trees_of}
+use Rattle.mst_vector.specs.declared.cist.CistVector.{CistVector}
+use Rattle.mst_vector.specs.declared.msti.MstiVector.{MstiVector}
+use Rattle.mst_trees.proofs.Lists.{no_some}
 use Rattle.mst_vlan.proofs.Names.{tests}
 use Rattle.mst_verify.proofs.Keys.{tree_there}
 

@@ -18,10 +18,10 @@ use Rattle.mst_note_text.specs.NotesText.{AreNoteRows}
 use Rattle.mst_policy.specs.declared.expectation.Expectation.{Expectation}
 use Rattle.mst_policy.specs.declared.expectation.Expectation.TheVariants as expect
 use Rattle.mst_rows.specs.Rows.{Row}
-use Rattle.mst_summary.specs.net.Tables.{Net, IsNetwork}
-use Rattle.mst_summary.specs.plan_text.config.Regions.{same_region}
-use Rattle.mst_summary.specs.roles.nested.Trees.{IsSettled}
-use Rattle.mst_summary.specs.trees.Outcome.{Outcome, trees_of}
+use Rattle.mst_net.specs.Tables.{Net, IsNetwork}
+use Rattle.mst_config.specs.Regions.{same_region}
+use Rattle.mst_nested.specs.Trees.{IsSettled}
+use Rattle.mst_trees.specs.Outcome.{Outcome, trees_of}
 use Rattle.mst_vlan.specs.Reach.{AreIslandsOf, bridges_on, vid_links}
 use Rattle.mst_sweep.specs.Parts.{home}
 use Rattle.mst_sweep.proofs.Joined.{has_home, home_joined, home_on, joined_home}

@@ -4,10 +4,10 @@ use Rattle.std.specs.List.{Contains}
 use Rattle.std.specs.Option.{option_and_then, option_map}
 use Rattle.std.proofs.lemmas.Bool.{eqb-true, eq-eqb}
 use Rattle.mst_graph.specs.Islands.{Island}
-use Rattle.mst_summary.specs.diff.Reach.{has_any}
-use Rattle.mst_summary.specs.net.Tables.{Net}
-use Rattle.mst_summary.specs.trees.Outcome.{Outcome}
-use Rattle.mst_summary.proofs.trees_lemmas.Lists.{kept_in, kept_from, some_is}
+use Rattle.mst_diff.specs.Reach.{has_any}
+use Rattle.mst_net.specs.Tables.{Net}
+use Rattle.mst_trees.specs.Outcome.{Outcome}
+use Rattle.mst_trees.proofs.Lists.{kept_in, kept_from, some_is}
 use Rattle.mst_vlan.specs.Reach.{AreIslandsOf, bridges_on}
 use Rattle.mst_sweep.specs.Parts.{all_parts, home, staying, stays_at}
 use Rattle.mst_sweep.specs.declared.parts.Stays.{Stays}

@@ -12,14 +12,14 @@ use Rattle.mst_ids.specs.Vids.{has}
 use Rattle.mst_ids.specs.declared.name.PortName.{PortName}
 use Rattle.mst_lag.specs.Viewed.{Viewed, named_port}
 use Rattle.mst_lag.specs.declared.in_view.PortInView.{PortInView}
-use Rattle.mst_summary.specs.net.ByTree.{vlans_in}
-use Rattle.mst_summary.specs.net.Tables.{IsNetwork, Net, Numbers}
-use Rattle.mst_summary.specs.trees.Agrees.{AreOf}
-use Rattle.mst_summary.specs.trees.Forest.{Forest, IsForest}
-use Rattle.mst_summary.specs.trees.Outcome.{Outcome}
-use Rattle.mst_summary.specs.trees.Settled.{SettledNet, IsSettledNet, outcome_of}
-use Rattle.mst_summary.proofs.trees_lemmas.Lists.{filter_mapped}
-use Rattle.mst_summary.proofs.trees_lemmas.SettledNet.{forest_of}
+use Rattle.mst_net.specs.ByTree.{vlans_in}
+use Rattle.mst_net.specs.Tables.{IsNetwork, Net, Numbers}
+use Rattle.mst_trees.specs.Agrees.{AreOf}
+use Rattle.mst_trees.specs.Forest.{Forest, IsForest}
+use Rattle.mst_trees.specs.Outcome.{Outcome}
+use Rattle.mst_trees.specs.Settled.{SettledNet, IsSettledNet, outcome_of}
+use Rattle.mst_trees.proofs.Lists.{filter_mapped}
+use Rattle.mst_trees.proofs.SettledNet.{forest_of}
 use Rattle.mst_vlan.specs.Active.{active_ports}
 use Rattle.mst_vlan.specs.Reach.{bridges_on, lans_up, is_member, link_of, vid_links}
 use Rattle.mst_vlan.specs.Seen.{seen_active, seen_member}

@@ -5,8 +5,8 @@ use Rattle.std.specs.List.{Contains, cons_option, filter, filter_map, flat_map, 
 use Rattle.std.proofs.lemmas.Bool.{eqb-true}
 use Rattle.mst_graph.specs.Groups.{IsThinned, StandOnce, nothing, kept}
 use Rattle.mst_graph.proofs.Members.{here, there, cases, in_none, in_filter, from_filter}
-use Rattle.mst_summary.specs.diff.Reach.{has_any}
-use Rattle.mst_summary.proofs.trees_lemmas.Lists.{kept_in, kept_from, no_some}
+use Rattle.mst_diff.specs.Reach.{has_any}
+use Rattle.mst_trees.proofs.Lists.{kept_in, kept_from, no_some}
 
 -- ---- there is something
 pub any_there : {A : Type 0} (xs : List A) → has_any xs ≡ true → (x : A) × Contains xs x

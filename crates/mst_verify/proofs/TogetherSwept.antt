@@ -15,11 +15,11 @@ use Rattle.mst_net.specs.Tables.{IsNetwork, Net}
 use Rattle.mst_policy.specs.declared.item.NameItem.TheVariants.{Any}
 use Rattle.mst_rows.specs.Rows.{Row}
 use Rattle.mst_diff.proofs.changes_lemmas.Lists.{flat_map-flat_map}
-use Rattle.mst_summary.specs.changes.Subjects.{bridge_names}
-use Rattle.mst_summary.specs.diff.Reach.{has_any}
-use Rattle.mst_summary.specs.plan_text.PlanText.{all_vids}
-use Rattle.mst_summary.specs.trees.Outcome.{IsOutcome, Outcome}
-use Rattle.mst_summary.proofs.plan_text_lemmas.OnePlan.{is_vid_there}
+use Rattle.mst_diff.specs.changes.Subjects.{bridge_names}
+use Rattle.mst_diff.specs.Reach.{has_any}
+use Rattle.mst_plan_text.specs.PlanText.{all_vids}
+use Rattle.mst_trees.specs.Outcome.{IsOutcome, Outcome}
+use Rattle.mst_plan_text.proofs.OnePlan.{is_vid_there}
 use Rattle.mst_vlan.specs.Reach.{AreIslandsOf}
 use Rattle.mst_sweep.specs.Cuts.{AreCuts, cut_row, group_rows, runs_of}
 use Rattle.mst_sweep.specs.Failures.{edit_of, failures}

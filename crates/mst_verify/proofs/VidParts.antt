@@ -7,16 +7,16 @@ use Rattle.mst_graph.specs.Walks.{bridge_at}
 use Rattle.mst_graph.specs.declared.keys.Numbering.{Numbering}
 use Rattle.mst_graph.proofs.Alike.{alike_groups}
 use Rattle.mst_lag.specs.Viewed.{Viewed}
-use Rattle.mst_summary.specs.net.Tables.{Net}
+use Rattle.mst_net.specs.Tables.{Net}
 use Rattle.mst_classes.specs.Alike.{AreAlike}
-use Rattle.mst_summary.specs.plan_text.Bodies.{NumberEach}
-use Rattle.mst_summary.specs.plan_text.PlanText.{all_vids}
-use Rattle.mst_summary.specs.trees.Outcome.{Outcome}
-use Rattle.mst_summary.specs.trees.Settled.{SettledNet, IsSettledNet, outcome_of}
+use Rattle.mst_plan_text.specs.Bodies.{NumberEach}
+use Rattle.mst_plan_text.specs.PlanText.{all_vids}
+use Rattle.mst_trees.specs.Outcome.{Outcome}
+use Rattle.mst_trees.specs.Settled.{SettledNet, IsSettledNet, outcome_of}
 use Rattle.mst_classes.specs.Classes.{AreClasses}
-use Rattle.mst_summary.specs.diff.Classes.{flag_at}
-use Rattle.mst_summary.proofs.plan_text_lemmas.Classes.{links_shared, numbers_below}
-use Rattle.mst_summary.proofs.plan_text_lemmas.Grouped.{vid_place}
+use Rattle.mst_diff.specs.Classes.{flag_at}
+use Rattle.mst_plan_text.proofs.Classes.{links_shared, numbers_below}
+use Rattle.mst_plan_text.proofs.Grouped.{vid_place}
 use Rattle.mst_sweep.specs.Cuts.{parts_at}
 use Rattle.mst_vlan.specs.Reach.{vid_links}
 use Rattle.mst_verify.specs.Holds.{AreTogether, IsReached}

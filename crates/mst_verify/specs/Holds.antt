@@ -8,19 +8,19 @@ use Rattle.mst_kinds.specs.declared.note_line.NoteLine.TheVariants as note_line
 use Rattle.mst_rows.specs.Rows.{Row}
 use Rattle.mst_graph.specs.Islands.{AreJoined}
 use Rattle.mst_graph.specs.Walks.{bridge_at}
-use Rattle.mst_summary.specs.net.Tables.{Net}
-use Rattle.mst_summary.specs.plan_text.config.Regions.{same_region}
+use Rattle.mst_net.specs.Tables.{Net}
+use Rattle.mst_config.specs.Regions.{same_region}
 use Rattle.mst_lag.specs.View.{LogicalPort}
 use Rattle.mst_note_text.specs.Children.{HasSteps}
 use Rattle.mst_note_text.specs.Depths.{ParentIn}
 use Rattle.mst_note_text.specs.NotesText.{AreNoteRows}
-use Rattle.mst_summary.specs.trees.Outcome.{Outcome, trees_of}
-use Rattle.mst_summary.specs.roles.Roles.{role_in}
-use Rattle.mst_summary.specs.roles.declared.kind.Role.{Role}
-use Rattle.mst_summary.specs.roles.declared.kind.Role.TheVariants.{Root, Designated, Alternate, Backup, Master, Disabled}
+use Rattle.mst_trees.specs.Outcome.{Outcome, trees_of}
+use Rattle.mst_vlan.specs.roles.Roles.{role_in}
+use Rattle.mst_vlan.specs.roles.declared.kind.Role.{Role}
+use Rattle.mst_vlan.specs.roles.declared.kind.Role.TheVariants.{Root, Designated, Alternate, Backup, Master, Disabled}
 use Rattle.mst_vlan.specs.Reach.{bridges_on, vid_links}
-use Rattle.mst_summary.specs.diff.Reach.{has_any}
-use Rattle.mst_summary.specs.diff.Roots.{root_name}
+use Rattle.mst_diff.specs.Reach.{has_any}
+use Rattle.mst_diff.specs.Roots.{root_name}
 use Rattle.mst_policy.specs.declared.expectation.Expectation.{Expectation}
 use Rattle.mst_policy.specs.declared.expectation.Expectation.TheVariants as expect
 use Rattle.mst_policy.specs.declared.expectation.Roles.{Roles}

@@ -1,10 +1,4 @@
-pub use Rattle.mst_summary.specs.net as net
-pub use Rattle.mst_summary.specs.trees as trees
-pub use Rattle.mst_summary.specs.roles as roles
-pub use Rattle.mst_summary.specs.plan_text as plan_text
-pub use Rattle.mst_summary.specs.diff as diff
-pub use Rattle.mst_summary.specs as summary
-pub use Rattle.mst_vlan.specs as vlan
+pub use Rattle.mst_diff.specs as diff
 pub mod Named
 pub mod Roots
 pub mod Over

@@ -4,10 +4,10 @@ use Rattle.std.specs.List.{list_all, list_any}
 use Rattle.std.specs.Option.{option_map_or}
 use Rattle.std.specs.FinMap as fin
 use Rattle.mst_ids.specs.declared.name.PortName.{PortName}
-use Rattle.mst_summary.specs.net.Tables.{Net}
-use Rattle.mst_summary.specs.plan_text.PlanText.{is_had}
-use Rattle.mst_summary.specs.changes.Subjects.{port_names}
-use Rattle.mst_summary.specs.diff.Reach.{has_any}
+use Rattle.mst_net.specs.Tables.{Net}
+use Rattle.mst_plan_text.specs.PlanText.{is_had}
+use Rattle.mst_diff.specs.changes.Subjects.{port_names}
+use Rattle.mst_diff.specs.Reach.{has_any}
 use Rattle.mst_sweep.specs.Failures.{failures}
 use Rattle.mst_policy.specs.Items.{item_has, port_item_has}
 use Rattle.mst_policy.specs.declared.item.NameItem.{NameItem}

@@ -1,8 +1,8 @@
 -- Why an expectation doesn't hold in a network, or in that of a failure.
 use Rattle.std.specs.Prelude.{◌≡◌, List, Option, None, Some, Ok}
-use Rattle.mst_summary.specs.net.After.{after}
-use Rattle.mst_summary.specs.net.Tables.{Net}
-use Rattle.mst_summary.specs.trees.Outcome.{Outcome, IsOutcome}
+use Rattle.mst_net.specs.After.{after}
+use Rattle.mst_net.specs.Tables.{Net}
+use Rattle.mst_trees.specs.Outcome.{Outcome, IsOutcome}
 use Rattle.mst_sweep.specs.Failures.{edit_of}
 use Rattle.mst_sweep.specs.declared.failure.Failure.{Failure}
 use Rattle.mst_policy.specs.declared.expectation.Expectation.{Expectation}

@@ -11,22 +11,22 @@ use Rattle.mst_kinds.specs.declared.note_line.NoteLine.TheVariants as note_line
 use Rattle.mst_rows.specs.Cells.{Cell, word, number}
 use Rattle.mst_rows.specs.Rows.{Row}
 use Rattle.mst_graph.specs.Groups.{AreGroups, IsThinned}
-use Rattle.mst_summary.specs.net.Tables.{Net}
-use Rattle.mst_summary.specs.plan_text.config.Regions.{same_region}
+use Rattle.mst_net.specs.Tables.{Net}
+use Rattle.mst_config.specs.Regions.{same_region}
 use Rattle.mst_lag.specs.Aggregation.{same_name}
 use Rattle.mst_lag.specs.Trees.{is_among}
 use Rattle.mst_lag.specs.View.{LogicalPort}
 use Rattle.mst_note_text.specs.Children.{HasSteps}
 use Rattle.mst_note_text.specs.Depths.{ParentIn}
 use Rattle.mst_note_text.specs.NotesText.{AreNoteRows}
-use Rattle.mst_summary.specs.trees.Outcome.{Outcome, trees_of}
-use Rattle.mst_summary.specs.roles.Roles.{role_in}
-use Rattle.mst_summary.specs.roles.declared.kind.Role.{Role}
-use Rattle.mst_summary.specs.roles.declared.kind.Role.TheVariants as a_role
+use Rattle.mst_trees.specs.Outcome.{Outcome, trees_of}
+use Rattle.mst_vlan.specs.roles.Roles.{role_in}
+use Rattle.mst_vlan.specs.roles.declared.kind.Role.{Role}
+use Rattle.mst_vlan.specs.roles.declared.kind.Role.TheVariants as a_role
 use Rattle.mst_vlan.specs.Reach.{bridges_on}
 use Rattle.mst_sweep.specs.Parts.{ArePartsOf}
-use Rattle.mst_summary.specs.changes.Values.{role_number}
-use Rattle.mst_summary.specs.diff.Reach.{has_any}
+use Rattle.mst_diff.specs.changes.Values.{role_number}
+use Rattle.mst_diff.specs.Reach.{has_any}
 use Rattle.mst_policy.specs.declared.expectation.Expectation.{Expectation}
 use Rattle.mst_policy.specs.declared.expectation.Expectation.TheVariants as expect
 use Rattle.mst_policy.specs.declared.expectation.Roles.{Roles}

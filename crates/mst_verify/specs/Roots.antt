@@ -3,13 +3,13 @@ use Rattle.std.specs.Prelude.{◌≢◌, ℕ, ◌≤◌, ◌==◌, ◌&&◌, ◌
 use Rattle.std.specs.List.{Contains}
 use Rattle.std.specs.Option.{option_map_or}
 use Rattle.std.specs.FinMap as fin
-use Rattle.mst_summary.specs.net.ByTree.{by_tree}
-use Rattle.mst_summary.specs.net.Tables.{Net}
-use Rattle.mst_summary.specs.plan_text.config.Regions.{same_region}
+use Rattle.mst_net.specs.ByTree.{by_tree}
+use Rattle.mst_net.specs.Tables.{Net}
+use Rattle.mst_config.specs.Regions.{same_region}
 use Rattle.mst_lag.specs.Aggregation.{same_name}
-use Rattle.mst_summary.specs.trees.InUse.{id_in}
-use Rattle.mst_summary.specs.trees.Outcome.{Outcome}
-use Rattle.mst_summary.specs.diff.Roots.{root_of, root_name}
+use Rattle.mst_trees.specs.InUse.{id_in}
+use Rattle.mst_trees.specs.Outcome.{Outcome}
+use Rattle.mst_diff.specs.Roots.{root_of, root_name}
 
 -- a bridge has a root in the tree, and in a tree other than 0 it is of B's region. One that is off or hasn't the tree has no root
 abbrev pub is_concerned : Net → Outcome → ℕ → List ℕ → List ℕ → Bool

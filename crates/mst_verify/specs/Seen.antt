@@ -7,22 +7,22 @@ use Rattle.std.specs.HashSet.{contains}
 use Rattle.std.specs.declared.alloc.Global.{Global}
 use Rattle.std.specs.FinMap as fin
 use Rattle.mst_ids.specs.declared.name.PortName.{PortName}
-use Rattle.mst_summary.specs.net.ByTree.{by_tree}
-use Rattle.mst_summary.specs.net.Seen.{bridge_row}
-use Rattle.mst_summary.specs.net.Tables.{Net, BridgeRow, port_eq}
-use Rattle.mst_summary.specs.plan_text.config.Regions.{same_region}
+use Rattle.mst_net.specs.ByTree.{by_tree}
+use Rattle.mst_net.specs.Seen.{bridge_row}
+use Rattle.mst_net.specs.Tables.{Net, BridgeRow, port_eq}
+use Rattle.mst_config.specs.Regions.{same_region}
 use Rattle.mst_lag.specs.Aggregation.{same_name}
 use Rattle.mst_lag.specs.Viewed.{Viewed}
 use Rattle.mst_lag.specs.declared.in_view.BridgeInView.{BridgeInView}
 use Rattle.mst_lag.specs.declared.in_view.MemberLan.{MemberLan}
 use Rattle.mst_lag.specs.declared.in_view.PortInView.{PortInView}
 use Rattle.mst_note_text.specs.declared.children.Child.{Child}
-use Rattle.mst_summary.specs.trees.Forest.{Forest}
-use Rattle.mst_summary.specs.trees.InUse.{id_in}
-use Rattle.mst_summary.specs.trees.Outcome.{Outcome}
-use Rattle.mst_summary.specs.roles.Seen.{seen_role}
-use Rattle.mst_summary.specs.roles.declared.kind.Role.{Role}
-use Rattle.mst_summary.specs.diff.Reach.{has_any}
+use Rattle.mst_trees.specs.Forest.{Forest}
+use Rattle.mst_trees.specs.InUse.{id_in}
+use Rattle.mst_trees.specs.Outcome.{Outcome}
+use Rattle.mst_vlan.specs.roles.Seen.{seen_role}
+use Rattle.mst_vlan.specs.roles.declared.kind.Role.{Role}
+use Rattle.mst_diff.specs.Reach.{has_any}
 use Rattle.mst_summary.specs.Roots.{follower}
 use Rattle.mst_summary.specs.declared.roots.Follower.{Follower}
 use Rattle.mst_policy.specs.Items as policy

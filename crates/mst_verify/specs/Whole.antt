@@ -7,10 +7,10 @@ use Rattle.mst_rows.specs.Rows.{Row}
 use Rattle.mst_policy.specs.declared.expectation.Expectation.{Expectation}
 use Rattle.mst_policy.specs.declared.expectation.Expectation.TheVariants as expect
 use Rattle.mst_policy.specs.declared.item.NameItem.TheVariants.{Any}
-use Rattle.mst_summary.specs.net.After.{after}
-use Rattle.mst_summary.specs.net.Tables.{Net, IsNetwork}
-use Rattle.mst_summary.specs.plan_text.PlanText.{all_vids}
-use Rattle.mst_summary.specs.trees.Outcome.{Outcome, IsOutcome}
+use Rattle.mst_net.specs.After.{after}
+use Rattle.mst_net.specs.Tables.{Net, IsNetwork}
+use Rattle.mst_plan_text.specs.PlanText.{all_vids}
+use Rattle.mst_trees.specs.Outcome.{Outcome, IsOutcome}
 use Rattle.mst_sweep.specs.Cuts.{cut_row}
 use Rattle.mst_sweep.specs.declared.cuts.CutBy.TheVariants.{One}
 use Rattle.mst_sweep.specs.Failures.{edit_of, failures}

@@ -8,7 +8,7 @@ use mst_carried::{Carriage, differing};
 use mst_classes::classes_of_both;
 use mst_graph::Numbering;
 use mst_ids::{BridgeNo, VidSet};
-use mst_summary::Settled;
+use mst_trees::Settled;
 use std::alloc::{AllocError, Global};
 
 /// What is kept of two networks of which the one came from the other: classes of VIDs that nothing tells apart in either, and the islands of some

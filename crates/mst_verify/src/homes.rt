@@ -1,6 +1,6 @@
 ghost use Rattle.std.specs.Prelude.{◌≡◌, ◌<◌, ◌+◌, IfOk, MatchOption, [], length, ⊤};
 ghost use Rattle.std.specs.List.{All};
-ghost use Rattle.mst_summary.specs.trees.Settled.{outcome_of, SettledNet};
+ghost use Rattle.mst_trees.specs.Settled.{outcome_of, SettledNet};
 ghost use Rattle.mst_classes.specs.Classes.{AreClasses};
 ghost use Rattle.mst_sweep.specs.Baseline.{AreHomes};
 ghost use Rattle.mst_verify.specs.Islands.{AreAlike, AreKept, AreMade, AreMadeBy, HasHomesBy, HasIslandsOf};
@@ -9,9 +9,10 @@ use crate::before::Before;
 use crate::vids::classes_asked;
 use indexmap::IndexMap;
 use mst_carried::{Carriage, differing};
+use mst_diff::Planned;
 use mst_ids::{BridgeNo, Vid, VidSet};
-use mst_summary::{Planned, Settled};
 use mst_sweep::{homes_by, homes_of};
+use mst_trees::Settled;
 use std::alloc::{AllocError, Global};
 
 /// The islands of some classes of VIDs in a network, made once for all expectations that ask for them.

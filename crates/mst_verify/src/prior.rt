@@ -9,7 +9,7 @@ use indexmap::IndexMap;
 use mst_carried::Carriage;
 use mst_graph::Numbering;
 use mst_ids::BridgeNo;
-use mst_summary::Settled;
+use mst_trees::Settled;
 
 /// What is kept of the network that is prior to the one which is judged: what carries its VIDs, the classes of VIDs that nothing tells apart in
 /// either network, and islands of both.

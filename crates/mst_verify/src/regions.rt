@@ -1,7 +1,7 @@
 ghost use Rattle.std.specs.Prelude.{◌≡◌, IfOk, map, nat_eq, if◌then◌else◌, [], ◌∷◌, true};
 ghost use Rattle.std.specs.Map.{lookup};
 ghost use Rattle.mst_graph.specs.Groups.{AreGroups};
-ghost use Rattle.mst_summary.specs.plan_text.config.Regions.{same_region};
+ghost use Rattle.mst_config.specs.Regions.{same_region};
 ghost use Rattle.mst_verify.specs.Named.{named as named_in};
 ghost use Rattle.mst_verify.specs.Reasons.{AreRegionReasons, has_two as has_two_of};
 
@@ -13,7 +13,7 @@ use mst_graph::groups;
 use mst_ids::Name;
 use mst_lag::BridgeInView;
 use mst_policy::NameList;
-use mst_summary::Settled;
+use mst_trees::Settled;
 use std::alloc::{AllocError, Global};
 
 /// The number of the identifier of a bridge's region.

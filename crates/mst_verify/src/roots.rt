@@ -4,9 +4,9 @@ ghost use Rattle.std.specs.Option.{option_copied, option_map, option_map_or};
 ghost use Rattle.indexmap.specs.IndexMap.{get};
 ghost use Rattle.mst_lag.specs.Aggregation.{same_name};
 ghost use Rattle.mst_lag.specs.Viewed.{named_bridge};
-ghost use Rattle.mst_summary.specs.plan_text.config.Regions.{same_region};
-ghost use Rattle.mst_summary.specs.trees.Settled.{outcome_of};
-ghost use Rattle.mst_summary.specs.diff.Reach.{has_any};
+ghost use Rattle.mst_config.specs.Regions.{same_region};
+ghost use Rattle.mst_trees.specs.Settled.{outcome_of};
+ghost use Rattle.mst_diff.specs.Reach.{has_any};
 ghost use Rattle.mst_summary.specs.Roots.{least as least_of};
 ghost use Rattle.mst_summary.specs.declared.roots.Follower.{Follower as FollowerOf};
 ghost use Rattle.mst_verify.specs.Reasons.{AreRootReasons, other_next as other_next_of};
@@ -17,8 +17,9 @@ use crate::reason::Reason;
 use indexmap::IndexMap;
 use mst_ids::{Name, Tree};
 use mst_lag::BridgeInView;
-use mst_summary::trees_laws::nested;
-use mst_summary::{Follower, Settled, as_follower, bridge_id, least};
+use mst_summary::{Follower, as_follower, least};
+use mst_trees::laws::nested;
+use mst_trees::{Settled, bridge_id};
 use std::alloc::{AllocError, Global};
 
 /// The bridge of a name.

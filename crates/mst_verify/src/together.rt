@@ -1,6 +1,6 @@
 ghost use Rattle.std.specs.Prelude.{◌≡◌, ◌+◌, ◌<◌, IfOk, MatchOption, Some, false, filter, filter_map, length, map, slice_index, slice_index_or, true, vec_len, ⊤};
 ghost use Rattle.mst_diff.specs.Seen.{seen_both};
-ghost use Rattle.mst_summary.specs.trees.Settled.{outcome_of};
+ghost use Rattle.mst_trees.specs.Settled.{outcome_of};
 ghost use Rattle.mst_sweep.specs.Cuts.{names_of};
 ghost use Rattle.mst_sweep.specs.Parts.{all_parts as all_parts_of};
 ghost use Rattle.mst_sweep.specs.Seen.{seen_stays};

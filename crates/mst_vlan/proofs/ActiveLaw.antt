@@ -7,11 +7,11 @@ use Rattle.std.specs.FinMap as fin
 use Rattle.std.proofs.lemmas.Bool.{eqb-true}
 use Rattle.mst_ids.specs.Names.{port_cmp}
 use Rattle.mst_ids.specs.declared.name.PortName.{PortName}
-use Rattle.mst_roles.specs.vector.Cist.{cist_rules}
-use Rattle.mst_roles.specs.vector.Msti.{msti_rules}
-use Rattle.mst_roles.specs.vector.declared.cist.CistBridge.{CistBridge}
-use Rattle.mst_roles.specs.vector.declared.cist.CistPort.{CistPort}
-use Rattle.mst_roles.specs.vector.declared.msti.MstiBridge.{MstiBridge}
+use Rattle.mst_vector.specs.Cist.{cist_rules}
+use Rattle.mst_vector.specs.Msti.{msti_rules}
+use Rattle.mst_vector.specs.declared.cist.CistBridge.{CistBridge}
+use Rattle.mst_vector.specs.declared.cist.CistPort.{CistPort}
+use Rattle.mst_vector.specs.declared.msti.MstiBridge.{MstiBridge}
 use Rattle.mst_topology.specs.Topology.{TreePort, HasBridge, KeyTests}
 use Rattle.mst_graph.specs.Joined.{IsJoined, HasNoLoop, Other}
 use Rattle.mst_graph.proofs.Members.{in_filter, from_filter}
@@ -19,8 +19,8 @@ use Rattle.mst_nested.specs.Ports.{port_ends as plug_ends}
 use Rattle.mst_nested.specs.Trees.{Trees, IsSettled, IsFree, IsEnabled as IsEnabledPlug, HasTree, SameRegion}
 use Rattle.mst_nested.specs.Roles.{Forwards}
 use Rattle.mst_nested.specs.Active.{IsTreeOfVid, IsActive}
-use Rattle.mst_roles.specs.net.Tables.{Net, BridgeRow, IsNetwork}
-use Rattle.mst_roles.specs.net.ByTree.{by_tree}
+use Rattle.mst_net.specs.Tables.{Net, BridgeRow, IsNetwork}
+use Rattle.mst_net.specs.ByTree.{by_tree}
 use Rattle.mst_lag.specs.View.{LogicalPort, view_ports}
 use Rattle.mst_roles.specs.config.Regions.{same_region, region_of}
 use Rattle.mst_roles.proofs.config_lemmas.SameRegion.{told}

@@ -1,4 +1,3 @@
-pub use Rattle.mst_graph.proofs as graph_lemmas
 pub use Rattle.mst_roles.proofs.trees_lemmas as trees_lemmas
 pub use Rattle.mst_roles.proofs as roles_lemmas
 pub mod Names

@@ -9,9 +9,9 @@ use Rattle.mst_graph.specs.Islands.{Link, HaveEnds}
 use Rattle.mst_graph.specs.Renaming.{KeepApart, link_by}
 use Rattle.mst_graph.proofs.Members.{in_map, from_map, from_filter}
 use Rattle.mst_graph.proofs.Splits.{kept_each, map_of_map}
-use Rattle.mst_roles.specs.net.Tables.{Net, Numbers, BridgeRow}
-use Rattle.mst_roles.specs.net.ByTree.{vlans_in}
-use Rattle.mst_roles.specs.net.Seen.{bridge_row}
+use Rattle.mst_net.specs.Tables.{Net, Numbers, BridgeRow}
+use Rattle.mst_net.specs.ByTree.{vlans_in}
+use Rattle.mst_net.specs.Seen.{bridge_row}
 use Rattle.mst_lag.specs.Trees.{is_among}
 use Rattle.mst_lag.specs.View.{LogicalPort, LogicalLan}
 use Rattle.mst_lag.specs.Viewed.{Viewed, named_bridge, named_port, named_lan}
@@ -19,9 +19,8 @@ use Rattle.mst_lag.specs.declared.in_view.BridgeInView.{BridgeInView}
 use Rattle.mst_lag.specs.declared.in_view.PortInView.{PortInView}
 use Rattle.mst_lag.specs.declared.in_view.LanInView.{LanInView}
 use Rattle.mst_roles.specs.trees.Agrees.{AreOf}
-use Rattle.mst_roles.specs.trees.Forest.{IsForest}
+use Rattle.mst_roles.specs.trees.Forest.{IsForest, Forest}
 use Rattle.mst_roles.specs.trees.Seen.{trees_at}
-use Rattle.mst_roles.specs.trees.Forest.{Forest}
 use Rattle.mst_roles.proofs.trees_lemmas.Entries.{all_weaker}
 use Rattle.mst_roles.proofs.trees_lemmas.Lists.{all_contained, filter_mapped}
 use Rattle.mst_roles.proofs.trees_lemmas.Looking.{filter_alike}

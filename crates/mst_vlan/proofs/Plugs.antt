@@ -2,12 +2,12 @@
 use Rattle.std.proofs.Common.{ℕ, Bool, List, Some, None, refl, ap}
 use Rattle.std.specs.Prelude.{if◌then◌else◌}
 use Rattle.mst_ids.specs.declared.name.PortName.{PortName}
-use Rattle.mst_roles.specs.vector.Cist.{cist_rules}
-use Rattle.mst_roles.specs.vector.declared.cist.CistPort.{CistPort}
+use Rattle.mst_vector.specs.Cist.{cist_rules}
+use Rattle.mst_vector.specs.declared.cist.CistPort.{CistPort}
 use Rattle.mst_topology.specs.Topology.{TreePort}
 use Rattle.mst_nested.specs.Trees.{TakesPart}
-use Rattle.mst_roles.specs.net.Tables.{Net, IsNetwork}
-use Rattle.mst_roles.specs.net.ByTree.{by_tree}
+use Rattle.mst_net.specs.Tables.{Net, IsNetwork}
+use Rattle.mst_net.specs.ByTree.{by_tree}
 use Rattle.mst_lag.specs.View.{LogicalPort}
 use Rattle.mst_roles.specs.trees.Sight.{tree_port}
 use Rattle.mst_roles.specs.trees.Cist.{cist_port, cist_sight, cist_of}

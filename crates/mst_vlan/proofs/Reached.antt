@@ -6,13 +6,12 @@ use Rattle.mst_graph.specs.Islands.{Link, Island, AreIslands, HaveEnds}
 use Rattle.mst_graph.specs.Renaming.{link_by, island_by}
 use Rattle.mst_graph.proofs.Members.{from_map, from_filter}
 use Rattle.mst_graph.proofs.Splits.{kept_each, map_of_map}
-use Rattle.mst_roles.specs.net.Tables.{Net, Numbers, IsNetwork}
+use Rattle.mst_net.specs.Tables.{Net, Numbers, IsNetwork}
 use Rattle.mst_lag.specs.View.{view_ports}
 use Rattle.mst_lag.specs.Viewed.{Viewed}
 use Rattle.mst_roles.specs.trees.Outcome.{Outcome}
 use Rattle.mst_roles.specs.trees.Agrees.{AreOf}
-use Rattle.mst_roles.specs.trees.Forest.{IsForest}
-use Rattle.mst_roles.specs.trees.Forest.{Forest}
+use Rattle.mst_roles.specs.trees.Forest.{IsForest, Forest}
 use Rattle.mst_roles.specs.Roles.{forwards_for}
 use Rattle.mst_vlan.specs.Active.{active_ports}
 use Rattle.mst_vlan.specs.Reach.{bridges_on, lans_up, is_member, link_of, vid_links, AreReached}

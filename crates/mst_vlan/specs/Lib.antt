@@ -1,4 +1,3 @@
-pub use Rattle.mst_graph.specs as graph
 pub use Rattle.mst_roles.specs.settle as settle
 pub use Rattle.mst_roles.specs.trees as trees
 pub use Rattle.mst_roles.specs as roles

@@ -2,8 +2,8 @@
 use Rattle.std.specs.Prelude.{ℕ, Bool, List, map, filter}
 use Rattle.mst_ids.specs.Vids.{has}
 use Rattle.mst_graph.specs.Islands.{Link, Island}
-use Rattle.mst_roles.specs.net.ByTree.{vlans_in}
-use Rattle.mst_roles.specs.net.Seen.{bridge_row}
+use Rattle.mst_net.specs.ByTree.{vlans_in}
+use Rattle.mst_net.specs.Seen.{bridge_row}
 use Rattle.mst_lag.specs.Viewed.{Viewed}
 use Rattle.mst_lag.specs.declared.in_view.PortInView.{PortInView}
 use Rattle.mst_roles.specs.trees.Forest.{Forest}

@@ -4,10 +4,10 @@
 ghost use Rattle.std.specs.Prelude.{◌≡◌, ◌⊎◌, ◌↔◌, ℕ, suc, true, List, Some};
 ghost use Rattle.std.specs.List.{Contains};
 ghost use Rattle.mst_ids.specs.declared.name.PortName.{PortName as PortKey};
-ghost use Rattle.mst_roles.specs.vector.declared.cist.CistBridge.{CistBridge};
-ghost use Rattle.mst_roles.specs.vector.declared.cist.CistPort.{CistPort};
-ghost use Rattle.mst_roles.specs.vector.declared.cist.CistVector.{CistVector};
-ghost use Rattle.mst_roles.specs.vector.declared.msti.MstiVector.{MstiVector};
+ghost use Rattle.mst_vector.specs.declared.cist.CistBridge.{CistBridge};
+ghost use Rattle.mst_vector.specs.declared.cist.CistPort.{CistPort};
+ghost use Rattle.mst_vector.specs.declared.cist.CistVector.{CistVector};
+ghost use Rattle.mst_vector.specs.declared.msti.MstiVector.{MstiVector};
 ghost use Rattle.mst_topology.specs.Topology.{TreePort, HasBridge};
 ghost use Rattle.mst_graph.specs.Islands.{Island};
 ghost use Rattle.mst_graph.specs.Joined.{HasNoLoop};
@@ -17,8 +17,8 @@ ghost use Rattle.mst_nested.specs.Parts.{SameRoots, HasRoot, HasRegionalRoot, Ha
 ghost use Rattle.mst_nested.specs.Ports.{port_ends as plug_ends};
 ghost use Rattle.mst_nested.specs.Roles.{Forwards, ForwardsInside};
 ghost use Rattle.mst_nested.specs.Trees.{SamePart, SameRegion, HasTree};
-ghost use Rattle.mst_roles.specs.net.Tables.{Net, IsNetwork};
-ghost use Rattle.mst_roles.specs.net.ByTree.{by_tree};
+ghost use Rattle.mst_net.specs.Tables.{Net, IsNetwork};
+ghost use Rattle.mst_net.specs.ByTree.{by_tree};
 ghost use Rattle.mst_lag.specs.View.{LogicalPort, IsUnrestricted};
 ghost use Rattle.mst_roles.specs.trees.Cist.{cist_of, cist_port};
 ghost use Rattle.mst_roles.specs.trees.Sight.{tree_port};

@@ -8,8 +8,8 @@ mod topology;
 
 pub use island::{BridgeList, Island, LanList};
 pub use mst_roles::{
-    Forest, Role, Settled, bridge_id, cist_port, forwards, has_tree, is_had, msti_port,
-    mstis_in_use, port_forwards, port_role, role, role_of, trees_in_use, trees_laws,
+    Forest, Role, Settled, bridge_id, cist_port, is_had, msti_port, mstis_in_use, port_forwards,
+    port_role, role_of, trees_in_use, trees_laws,
 };
 pub use reaching::{bridges_on, is_member, islands_of, lans_up, reach, reach_from};
 pub use topology::{active, active_ports, forwarding};

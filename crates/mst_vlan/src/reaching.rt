@@ -1,7 +1,7 @@
 ghost use Rattle.std.specs.Prelude.{◌≡◌, IfOk, map, filter};
 ghost use Rattle.mst_graph.specs.Islands.{AreIslands, HaveEnds};
 ghost use Rattle.mst_ids.specs.Vids.{has};
-ghost use Rattle.mst_roles.specs.net.Tables.{Net, Numbers};
+ghost use Rattle.mst_net.specs.Tables.{Net, Numbers};
 ghost use Rattle.mst_roles.specs.trees.Agrees.{AreOf, Known};
 ghost use Rattle.mst_roles.specs.trees.Forest.{IsForest};
 ghost use Rattle.mst_roles.specs.trees.Settled.{outcome_of};

@@ -2,8 +2,8 @@
 use Rattle.std.specs.Prelude.{ℕ, Bool, true, false, not, ◌||◌, ◌&&◌, List, [], ◌∷◌, Option, Some, None, codes, if◌then◌else◌}
 use Rattle.std.specs.Option.{option_and_then}
 use Rattle.std.specs.Str.{bytes_eq}
-use Rattle.mst_tool.specs.printing.declared.form.Form.{Form}
-use Rattle.mst_tool.specs.printing.declared.form.Form.TheVariants.{Text, Json}
+use Rattle.mst_print.specs.declared.form.Form.{Form}
+use Rattle.mst_print.specs.declared.form.Form.TheVariants.{Text, Json}
 use Rattle.mstplan.specs.Table.{row_of}
 use Rattle.mstplan.specs.Words.{Request, are_worded, asked_by, is_dashes}
 use Rattle.mstplan.specs.declared.flags.Flags.{Flags}

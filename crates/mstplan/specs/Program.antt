@@ -9,7 +9,7 @@ use Rattle.mst_tool.specs.Diff.{differing}
 use Rattle.mst_tool.specs.Run.{running}
 use Rattle.mst_tool.specs.Verify.{verifying}
 use Rattle.mst_tool.specs.declared.asked.Question.{Question}
-use Rattle.mst_tool.specs.printing.declared.form.Form.{Form}
+use Rattle.mst_print.specs.declared.form.Form.{Form}
 use Rattle.mst_io.specs.Devices.{Seen}
 use Rattle.mst_io.specs.declared.outcome.Outcome.{Outcome}
 use Rattle.mst_io.specs.declared.outcome.RunFault.{RunFault}

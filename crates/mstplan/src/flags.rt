@@ -3,7 +3,7 @@ ghost use Rattle.mstplan.specs.Flags.{flags_in, form_of, has_flag as stands_amon
 ghost use Rattle.mstplan.specs.Words.{behind_name, is_dashes as dashes};
 
 use crate::table::Verb;
-use mst_tool::Form;
+use mst_print::Form;
 
 /// What asks for JSON.
 const JSON: &str = "--json";

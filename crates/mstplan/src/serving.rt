@@ -17,7 +17,8 @@ use crate::endings::{Stop, stop_unserved};
 use crate::flags::Flags;
 use mst_ask::AskWord;
 use mst_drive::Word;
-use mst_frame::{Names, Ran, Script, Scripts, Sources, serve_named};
+use mst_frame::{Names, Ran, Scripts, Sources, serve_named};
+use mst_hints::Script;
 use mst_io::Sink;
 use mst_tool::{
     Between, CheckWord, DiffWord, Question, QuestionWord, RunWord, StepsWord, VerifyWord,

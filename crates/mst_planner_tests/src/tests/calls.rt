@@ -3,18 +3,21 @@
 
 use super::lines::planner_of;
 use super::repairs::{EACH_ITS_OWN_REGION, TRIANGLE};
-use mst_compare::{Forest, compare, read_line};
+use mst_bpdu::read_line;
+use mst_compare::compare;
 use mst_config::regions_of;
 use mst_graph::laws as graph_laws;
 use mst_ids::{BridgeId, BridgeNo, Tree, Vid};
 use mst_kinds::{Kind, TreeLine};
 use mst_lag::{View, view};
 use mst_net::{Contents, Network, laws as net_laws};
+use mst_roles::{Role, forwards, role};
 use mst_rows::{Counts, Value, put};
 use mst_settle::Settler;
 use mst_topology::{Bridges, ByNumber, Topology, Wiring};
+use mst_trees::Forest;
 use mst_vector::{CistBridge, CistMetric};
-use mst_vlan::{Role, active, forwards, role};
+use mst_vlan::active;
 use std::alloc::{AllocError, Global};
 use std::test::Fail;
 
@@ -85,7 +88,8 @@ fn a_plan_is_asked(rt: HostRuntime) -> Result<(), Fail> {
     let parts = [TRIANGLE, EACH_ITS_OWN_REGION];
     let mut planner = planner_of(alloc, &parts).ok_or("refused")?;
     planner.settle()?;
-    let found = compare(alloc, &planner, &bpdu).ok().ok_or("not compared")?;
+    let plan = planner.settled();
+    let found = compare(alloc, &plan, &bpdu).ok().ok_or("not compared")?;
     let ports = active(alloc, &planner.settled(), vid)?;
     assert_eq!(rt; (found.len(), ports.len()), (0, 5));
     Ok(())

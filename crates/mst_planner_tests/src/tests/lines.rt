@@ -1,7 +1,7 @@
 //! What lines of scripts say, and planners of the networks that they make.
 
-use mst_compare::Planner;
 use mst_lang::{Edit, Line, parse_line};
+use mst_report::Planner;
 use std::alloc::Global;
 
 /// The edit that a line says.

@@ -4,10 +4,10 @@
 //! and `checks/refuse_memory.py` each in turn: then it has to pass, whatever N is.
 
 use super::records::held;
-use mst_compare::Planner;
 use mst_ids::{Tree, push_decimal};
 use mst_lang::{Line, Query, parse_line};
 use mst_net::Refusal;
+use mst_report::Planner;
 use std::alloc::{AllocError, Global};
 use std::test::Fail;
 

@@ -3,8 +3,8 @@
 
 use super::lines::{is_applied, is_staged, planner_of};
 use super::refused::serve_once;
-use mst_compare::Planner;
 use mst_ids::Tree;
+use mst_report::Planner;
 use std::alloc::Global;
 
 /// Bridges A, B and C, and their ports in the LANs X, Y and Z between each two of them.

@@ -2,10 +2,9 @@
 
 use super::counts;
 use mst_ask::ask_within;
-use mst_tool::{
-    Form, FromRead, Outcome, Question, RunFault, TURNS, ToWrite, ask, check, diff, edits, run,
-    steps, verify,
-};
+use mst_io::{FromRead, Outcome, RunFault, TURNS, ToWrite};
+use mst_print::Form;
+use mst_tool::{Question, ask, check, diff, edits, run, steps, verify};
 use mst_trials::{Sink, Source};
 use std::alloc::Global;
 use std::test::Fail;

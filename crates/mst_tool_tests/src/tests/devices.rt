@@ -1,7 +1,9 @@
 //! How often devices are called.
 
 use super::counts;
-use mst_tool::{Form, FromRead, Outcome, RunFault, ToWrite, check_within, run_from};
+use mst_io::{FromRead, Outcome, RunFault, ToWrite};
+use mst_print::Form;
+use mst_tool::{check_within, run_from};
 use mst_trials::{Sink, Source};
 
 /// Two lines that are refused, and a part of one.

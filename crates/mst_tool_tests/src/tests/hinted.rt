@@ -3,8 +3,11 @@
 ghost use Rattle.std.specs.Prelude.{◌≡◌, false};
 
 use super::counts;
-use mst_hinting::{Hinting, Script, Telling};
-use mst_tool::{Form, FromRead, Outcome, RunFault, TURNS, ToWrite, run_within};
+use mst_hinting::{Hinting, Telling};
+use mst_hints::Script;
+use mst_io::{FromRead, Outcome, RunFault, TURNS, ToWrite};
+use mst_print::Form;
+use mst_tool::run_within;
 use mst_trials::{Sink, Source};
 use std::alloc::Global;
 use std::io::{Read, Write};
@@ -33,7 +36,7 @@ fn hinted<R: Read + Drop, W: Write>(
 }
 
 /// The same of a script that a source gives.
-fn listened<S: mst_tool::Source, K: mst_tool::Sink>(
+fn listened<S: mst_io::Source, K: mst_io::Sink>(
     alloc: Global,
     wanted: bool,
     inner: &mut S,

@@ -3,9 +3,11 @@
 use super::counts;
 use mst_ask::laws as standing;
 use mst_ids::BadText;
+use mst_io::RunFault;
 use mst_lang::Fault;
 use mst_net::Refusal;
-use mst_tool::{RunFault, laws, report_laws as answers, status, trees_laws as outcomes};
+use mst_tool::{laws, report_laws as answers, status};
+use mst_trees::laws as outcomes;
 use std::alloc::Global;
 use std::fmt::Display;
 

@@ -1,9 +1,9 @@
 use Rattle.std.proofs.Common.{Option, sym, ap, ◌∙◌}
 use Rattle.std.specs.Option.{option_copied, option_map_or}
-use Rattle.mst_roles.specs.net.ByTree.{by_tree}
-use Rattle.mst_roles.specs.net.Seen.{bridge_row}
-use Rattle.mst_roles.specs.net.Tables.{BridgeRow}
-use Rattle.mst_roles.specs.trees.InUse.{id_in}
+use Rattle.mst_net.specs.ByTree.{by_tree}
+use Rattle.mst_net.specs.Seen.{bridge_row}
+use Rattle.mst_net.specs.Tables.{BridgeRow}
+use Rattle.mst_trees.specs.InUse.{id_in}
 use Rattle.mst_advise.proofs.BridgeNamed.{is_there, not_there}
 use Rattle.mst_advise.proofs.priorities.identifier.Goals as goal
 

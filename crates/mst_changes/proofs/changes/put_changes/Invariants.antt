@@ -1,7 +1,7 @@
 use Rattle.std.proofs.Common.{List, ◌++◌}
 use Rattle.std.specs.List.{flat_map, range_with_len}
 use Rattle.mst_rows.specs.Rows.{Row}
-use Rattle.mst_roles.specs.net.Tables.{Net}
+use Rattle.mst_net.specs.Tables.{Net}
 use Rattle.mst_roles.specs.trees.Outcome.{Outcome}
 use Rattle.mst_roles.specs.trees.Settled.{outcome_of}
 use Rattle.mst_changes.specs.Kept.{AreEntries}

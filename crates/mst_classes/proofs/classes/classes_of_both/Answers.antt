@@ -1,17 +1,12 @@
-use Rattle.std.proofs.Common.{◌≡◌, ◌<◌, ℕ, Bool, List, length, get_or, nat_eq, subst, sym}
-use Rattle.std.specs.List.{All}
+use Rattle.std.proofs.Common.{Bool, List, ℕ, subst}
 use Rattle.std.proofs.lemmas.Result.{IfOk-weaker}
-use Rattle.std.proofs.lemmas.List.{get_or_default}
-use Rattle.mst_graph.specs.Numbers.{AreNumbers}
 use Rattle.mst_net.specs.ByTree.{table_in, vlans_in}
 use Rattle.mst_lag.specs.declared.in_view.BridgeInView.{BridgeInView}
 use Rattle.mst_lag.specs.declared.in_view.PortInView.{PortInView}
 use Rattle.mst_classes.specs.Alike.{TellApart}
 use Rattle.mst_lag.proofs.Lists.{all_weaker}
+use Rattle.mst_classes.proofs.Firsts.{firsts_below}
 use Rattle.mst_classes.proofs.classes.classes_of_both.Goals as goal
-
-firsts_below : (told numbers firsts : List ℕ) → length told ≡ 4094 → AreNumbers nat_eq told numbers firsts → All (λ place. place < 4094) firsts
-firsts_below told numbers firsts long are = λ n d below. let e = get_or_default firsts n d 0 below in subst (λ place. place < 4094) (sym e) (subst (λ k. get_or firsts n 0 < k) long (are.first n below).0)
 
 pub returns-clause-classes : goal.returns-clause-classes
 returns-clause-classes c = IfOk-weaker c.number_keys.result _ _

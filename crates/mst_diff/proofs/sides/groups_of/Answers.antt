@@ -1,10 +1,10 @@
 use Rattle.std.proofs.Common.{List, ℕ, subst, ◌∙◌}
 use Rattle.std.proofs.lemmas.Result.{IfOk-weaker}
-use Rattle.mst_plan_text.specs.trees.Agrees.{AreOf}
-use Rattle.mst_plan_text.specs.trees.Forest.{IsForest}
-use Rattle.mst_plan_text.specs.trees.Settled.{outcome_of}
-use Rattle.mst_plan_text.specs.vlan.Reach.{AreReached}
-use Rattle.mst_plan_text.proofs.trees_lemmas.SettledNet.{forest_of}
+use Rattle.mst_vlan.specs.trees.Agrees.{AreOf}
+use Rattle.mst_vlan.specs.trees.Forest.{IsForest}
+use Rattle.mst_vlan.specs.trees.Settled.{outcome_of}
+use Rattle.mst_vlan.specs.Reach.{AreReached}
+use Rattle.mst_vlan.proofs.trees_lemmas.SettledNet.{forest_of}
 use Rattle.mst_net.specs.Tables.{Net, Numbers}
 use Rattle.mst_carried.specs.Carried.{ViewWithTrees}
 use Rattle.mst_diff.specs.Seen.{seen_groups}

@@ -1,5 +1,7 @@
-use Rattle.std.proofs.Common.{◌≡◌, false, sym, ap, ◌∙◌}
-use Rattle.mst_compare.specs.report.Planned.{planned_state}
+use Rattle.std.proofs.Common.{◌≡◌, false, sym, ap, subst, ◌∙◌}
+use Rattle.mst_net.specs.Tables.{Net}
+use Rattle.mst_compare.specs.Comparison.{AreDifferences}
+use Rattle.mst_report.specs.Planned.{planned_state}
 use Rattle.mst_engine.specs.Captures.{compared}
 use Rattle.mst_engine.specs.Engine.{shape_of, is_starved, replied}
 use Rattle.mst_engine.specs.Steps.{Step}
@@ -17,4 +19,4 @@ returns c =
     let reply = c.in-Ok-told.reply in
     let told : replied (shape_of (Captures form)) number now reply ≡ compared form false number now port found = c.in-Ok-told.ensures now ∙ ap (compared form false number now port) c.as_slice.ensures.value in
     let whole : is_starved reply ≡ false = ap (λ (s : Step). s.lacking) told ∙ compared_whole form number now port found in
-    (found, c.in-Ok.ensures.found, told ∙ ap (λ lacks. compared form lacks number now port found) (sym whole))
+    (found, subst (λ (net : Net). AreDifferences net c.args.bpdu.now found) c.settled-plan.ensures c.in-Ok.ensures.found, told ∙ ap (λ lacks. compared form lacks number now port found) (sym whole))

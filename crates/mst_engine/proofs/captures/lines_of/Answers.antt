@@ -1,6 +1,6 @@
 use Rattle.std.proofs.Common.{◌++◌, ◌∙◌, [], ap}
 use Rattle.std.specs.List.{flat_map}
-use Rattle.mst_compare.specs.bpdu.CaptureText.{comparison_rows}
+use Rattle.mst_bpdu.specs.CaptureText.{comparison_rows}
 use Rattle.mst_rows.specs.Lines.{row_line}
 use Rattle.mst_rows.proofs.Printers.{nothing_yet}
 use Rattle.mst_engine.proofs.captures.lines_of.Goals as goal

@@ -1,4 +1,4 @@
-use Rattle.mst_compare.specs.report.Planned.{planned_state}
+use Rattle.mst_report.specs.Planned.{planned_state}
 use Rattle.mst_engine.proofs.Told.{rows_told, rows_starved}
 use Rattle.mst_engine.proofs.engine.told.Goals as goal
 

@@ -1,4 +1,4 @@
-use Rattle.mst_compare.specs.report.State.{empty_state}
+use Rattle.mst_report.specs.State.{empty_state}
 use Rattle.mst_engine.specs.Script.{version_of}
 use Rattle.mst_engine.proofs.Loads.{loads_same}
 use Rattle.mst_engine.proofs.laws.loads_network.Goals as goal

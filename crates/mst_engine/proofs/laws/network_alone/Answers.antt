@@ -1,4 +1,4 @@
-use Rattle.mst_compare.specs.report.State.{empty_state}
+use Rattle.mst_report.specs.State.{empty_state}
 use Rattle.mst_engine.specs.Script.{version_of}
 use Rattle.mst_engine.specs.Steps.{left_by}
 use Rattle.mst_print.specs.Shape.{of_script}

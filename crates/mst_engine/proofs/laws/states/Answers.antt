@@ -1,4 +1,4 @@
-use Rattle.mst_compare.specs.report.State.{empty_state}
+use Rattle.mst_report.specs.State.{empty_state}
 use Rattle.mst_engine.specs.Script.{version_of, loading}
 use Rattle.mst_print.specs.Shape.{of_script}
 use Rattle.mst_engine.proofs.OneRun.{Laws, as_it_stands, as_loaded, empty_is, state_left}

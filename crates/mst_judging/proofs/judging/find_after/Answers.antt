@@ -1,7 +1,6 @@
 use Rattle.std.proofs.Common.{Some}
 use Rattle.std.proofs.lemmas.Result.{on_ok_weaker}
 use Rattle.mst_verdict.specs.Judged.{reasons_in}
-use Rattle.mst_sweeping.proofs.Swept.{same_all}
 use Rattle.mst_judging.specs.Verifying.{sitting_of}
 use Rattle.mst_judging.proofs.Findings.{finds_by, finds_none}
 use Rattle.mst_judging.proofs.Judgements.{as_many, none_of}
@@ -18,11 +17,8 @@ returns-in-None-clause-found c = λ prior is.
     finds_none (sitting_of t.net t.numbers j prior) j.lines.now place c.args.found.now.items
     (none_of j t.net t.numbers prior is place j.lines.now (c.asked_vids.ensures c.in-None.is t.net c.requires.judging.lacking))
 
-pub returns-in-None-clause-same : goal.returns-in-None-clause-same
-returns-in-None-clause-same c = same_all c.args.network.now
-
-pub returns-in_ok-renew-in-Some-clause-found : goal.returns-in_ok-renew-in-Some-clause-found
-returns-in_ok-renew-in-Some-clause-found c =
+pub returns-in_ok-without_failure-in-Some-clause-found : goal.returns-in_ok-without_failure-in-Some-clause-found
+returns-in_ok-without_failure-in-Some-clause-found c =
     let t = c.args.network.now in
     let j = c.args.judging.now in
     on_ok_weaker c.add_finding.result
@@ -30,5 +26,5 @@ returns-in_ok-renew-in-Some-clause-found c =
     (c.in_ok-reasons-in-Some.ensures.reasons prior is) added)
     c.add_finding.ensures
 
-pub returns-in_ok-renew-in-Some-clause-seen : goal.returns-in_ok-renew-in-Some-clause-seen
-returns-in_ok-renew-in-Some-clause-seen c = on_ok_weaker c.add_finding.result (λ added. c.in_ok-renew-in-Some.ensures) c.add_finding.ensures
+pub returns-in_ok-without_failure-in-Some-clause-seen : goal.returns-in_ok-without_failure-in-Some-clause-seen
+returns-in_ok-without_failure-in-Some-clause-seen c = on_ok_weaker c.add_finding.result (λ added. c.in_ok-without_failure-in-Some.ensures) c.add_finding.ensures

@@ -1,12 +1,14 @@
-use Rattle.std.proofs.Common.{◌≡◌, ◌+◌, ◌∷◌, [], ◌++◌, List, None, Some, map, take, sym, ap, subst, ◌∙◌}
+use Rattle.std.proofs.Common.{◌≡◌, ◌+◌, ◌∷◌, [], ◌++◌, List, Ok, None, Some, map, take, sym, ap, subst, ◌∙◌}
+use Rattle.std.specs.List.{AllByRecursion}
 use Rattle.std.proofs.lemmas.List.{map-append, take_all, take_more}
+use Rattle.mst_net.specs.After.{after}
+use Rattle.mst_sweep.specs.Failures.{edit_of}
+use Rattle.mst_sweep.specs.Pairs.{failed}
 use Rattle.mst_sweep.specs.declared.failure.Failure.{Failure}
-use Rattle.mst_plan.specs.Plan.{IsPlan}
+use Rattle.mst_sweeping.proofs.SweepThere.{can_fail}
 use Rattle.mst_verdict.specs.declared.judgement.Finding.{Finding}
-use Rattle.mst_judging.specs.Verifying.{FindsAt, FoundIn, IsJudging, OfSittings, sitting_of}
-use Rattle.mst_judging.proofs.Judgements.{to_now, to_old}
-use Rattle.mst_judging.proofs.Findings.{found_more, found_none}
-use Rattle.mst_sweeping.proofs.Swept.{same_all, same_then}
+use Rattle.mst_judging.specs.Verifying.{FindsAt, FoundIn, sitting_of}
+use Rattle.mst_judging.proofs.Findings.{all_at, found_more, found_none}
 use Rattle.mst_judging.proofs.judging.find_all.Goals as goal
 
 pub loop-failure-init : goal.loop-failure-init
@@ -14,7 +16,6 @@ loop-failure-init c =
     let t = c.args.network.now in
     let j = c.args.judging.now in
     record {
-      same = same_all c.args.network.now;
       found = λ prior is.
           let s = sitting_of t.net t.numbers j prior in
           found_more s j.lines.now [] None [] c.find_now.new.found.items (found_none s j.lines.now)
@@ -22,38 +23,35 @@ loop-failure-init c =
       seen = c.in_ok-seen.ensures;
     }
 
-pub find_after-requires-clause-of : goal.find_after-requires-clause-of
-find_after-requires-clause-of c = to_now c.args.network.now c.loop-failure.network c.loop-failure.invariant.same (λ net numbers. IsPlan net numbers c.args.judging.now.plan.now) c.requires.of
-
-pub find_after-requires-clause-judging : goal.find_after-requires-clause-judging
-find_after-requires-clause-judging c = to_now c.args.network.now c.loop-failure.network c.loop-failure.invariant.same (λ net numbers. IsJudging net numbers c.args.judging.now) c.requires.judging
+pub find_after-requires-clause-accepted : goal.find_after-requires-clause-accepted
+find_after-requires-clause-accepted c =
+    let net = c.args.network.now.net in
+    let fs = c.args.failures.now in
+    let IsAccepted : Failure → Type 0 = λ f. after (edit_of f) net ≡ Ok (failed (f ∷ []) net) in
+    all_at IsAccepted fs c.loop-failure.failure-index c.failure-item.result (subst (AllByRecursion IsAccepted) (sym c.requires.failures) (can_fail net c.requires.of.of.network)) c.loop-failure-test.true (sym c.failure-item.is)
 
 pub loop-failure-preserved : goal.loop-failure-preserved
 loop-failure-preserved c =
-    let old = c.args.network.now in
-    let was = c.loop-failure.invariant in
+    let t = c.args.network.now in
     let j = c.args.judging.now in
     let fs = c.args.failures.now in
     let i = c.loop-failure.failure-index in
     let f = c.failure-item.result in
     let made = c.in_ok-find_after.ensures in
-    let finds =
-    to_old old c.loop-failure.network was.same (λ net numbers. OfSittings net numbers j (λ s. FindsAt s j.lines.now (Some f) c.loop-failure.found.items c.find_after.new.found.items)) made.found in
     let next : None ∷ map Some (take (i + 1) fs) ≡ (None ∷ map Some (take i fs)) ++ Some f ∷ [] =
     ap (λ l. None ∷ map Some l) (take_more fs i f c.loop-failure-test.true ∙ ap (λ x. take i fs ++ x ∷ []) (sym c.failure-item.is)) ∙ ap (λ l. None ∷ l) (map-append Some (take i fs) (f ∷ [])) in
     record {
-      same = same_then old c.loop-failure.network c.find_after.new.network was.same made.same;
       found = λ prior is.
-          let s = sitting_of old.net old.numbers j prior in
+          let s = sitting_of t.net t.numbers j prior in
           subst (λ some. FoundIn s j.lines.now some c.find_after.new.found.items) (sym next)
-          (found_more s j.lines.now (None ∷ map Some (take i fs)) (Some f) c.loop-failure.found.items c.find_after.new.found.items (was.found prior is) (finds prior is));
+          (found_more s j.lines.now (None ∷ map Some (take i fs)) (Some f) c.loop-failure.found.items c.find_after.new.found.items (c.loop-failure.invariant.found prior is) (made.found prior is));
       seen = made.seen;
     }
 
-pub returns-clause-found : goal.returns-clause-found
-returns-clause-found c = λ prior is.
-    let old = c.args.network.now in
+pub returns : goal.returns
+returns c = λ prior is.
+    let t = c.args.network.now in
     let j = c.args.judging.now in
     let fs = c.args.failures.now in
     let all = take_all c.loop-failure.failure-index fs c.loop-failure-test.false ∙ c.requires.failures in
-    subst (λ (l : List Failure). FoundIn (sitting_of old.net old.numbers j prior) j.lines.now (None ∷ map Some l) c.loop-failure.found.items) all (c.loop-failure.invariant.found prior is)
+    subst (λ (l : List Failure). FoundIn (sitting_of t.net t.numbers j prior) j.lines.now (None ∷ map Some l) c.loop-failure.found.items) all (c.loop-failure.invariant.found prior is)

@@ -3,7 +3,6 @@ use Rattle.std.proofs.lemmas.Bool.{eqb-true}
 use Rattle.std.proofs.lemmas.List.{nil_from_length}
 use Rattle.std.proofs.lemmas.Result.{IfOk-weaker}
 use Rattle.mst_policy.specs.declared.policy.PolicyLine.{PolicyLine}
-use Rattle.mst_sweeping.proofs.Swept.{same_all}
 use Rattle.mst_verdict.specs.Judged.{told_in}
 use Rattle.mst_verdict.proofs.Lines.{told_there}
 use Rattle.mst_judging.specs.Verifying.{Judges, plan_outcome}
@@ -11,21 +10,18 @@ use Rattle.mst_judging.proofs.Judgements.{plan_settled}
 use Rattle.mst_judging.proofs.OneJudgement.{all_due}
 use Rattle.mst_judging.proofs.judging.judge.Goals as goal
 
-pub returns-then-is_empty-clause-told : goal.returns-then-is_empty-clause-told
-returns-then-is_empty-clause-told c = λ before is.
+pub returns-then-is_empty : goal.returns-then-is_empty
+returns-then-is_empty c = λ before is.
     let old = c.args.network.now in
     let none : c.args.lines.now ≡ [] = nil_from_length c.args.lines.now (eqb-true (length c.args.lines.now) 0 (sym c.is_empty.ensures ∙ c.if-is_empty.true)) in
     subst (λ (lines : List PolicyLine). Judges old.net before c.args.is_last lines (told_in lines c.none.result)) (sym none)
     (record { outcome = plan_outcome old.net old.numbers c.args.plan.now; is_outcome = plan_settled old.net old.numbers c.args.plan.now c.requires; are = tt; unkept = tt })
 
-pub returns-then-is_empty-clause-same : goal.returns-then-is_empty-clause-same
-returns-then-is_empty-clause-same c = same_all c.args.network.now
-
 pub judge_lines-requires-clause-failures : goal.judge_lines-requires-clause-failures
 judge_lines-requires-clause-failures c = c.as_slice.ensures.value ∙ c.in_ok-failures.ensures c.args.network.now.net c.args.network.now.numbers c.requires.of.view
 
-pub returns-clause-told : goal.returns-clause-told
-returns-clause-told c =
+pub returns : goal.returns
+returns c =
     let old = c.args.network.now in
     let o = plan_outcome old.net old.numbers c.args.plan.now in
     IfOk-weaker c.judge_lines.result _ _
@@ -37,4 +33,4 @@ returns-clause-told c =
           all_due c.args.is_last old.net o before (λ line rows told. c.line_where_unkept.ensures old.net o before line rows c.requires.of.network (plan_settled old.net old.numbers c.args.plan.now c.requires) told) c.args.lines.now
           (told_in c.args.lines.now judgement) (told_there old.net o before c.args.is_last judgement c.args.lines.now (judged before is));
     })
-    c.judge_lines.ensures.judged
+    c.judge_lines.ensures

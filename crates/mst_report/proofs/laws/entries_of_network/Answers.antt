@@ -1,5 +1,5 @@
 use Rattle.std.proofs.Common.{ap, refl, sym, ◌∙◌}
-use Rattle.mst_picture.specs.changes.Kept.{entries_of}
+use Rattle.mst_changes.specs.Kept.{entries_of}
 use Rattle.mst_report.proofs.laws.entries_of_network.Goals as goal
 
 pub returns-clause-some : goal.returns-clause-some

@@ -1,5 +1,5 @@
 use Rattle.std.proofs.Common.{◌≡◌, subst}
-use Rattle.mst_picture.specs.diff.DiffText.{AreDiffRowsOf}
+use Rattle.mst_diff.specs.DiffText.{AreDiffRowsOf}
 use Rattle.mst_report.proofs.laws.no_difference.Goals as goal
 
 pub returns : goal.returns

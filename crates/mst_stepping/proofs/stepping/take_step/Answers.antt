@@ -3,7 +3,6 @@ use Rattle.mst_net.specs.Tables.{Net}
 use Rattle.mst_stepping.specs.Setting.{refused_lines}
 use Rattle.mst_stepping.specs.Stepping.{IsStepTold, StepTold, changes_in}
 use Rattle.mst_stepping.proofs.Made.{lines_few}
-use Rattle.mst_stepping.proofs.Planned.{still_plan}
 use Rattle.mst_sweeping.proofs.Swept.{put_then}
 use Rattle.mst_steps.specs.StepText.{AreStepRows}
 use Rattle.mst_steps.specs.declared.step.Deed.TheVariants as deed
@@ -48,7 +47,7 @@ returns-clause-told g c w watching judged_before =
             refused = refl;
             own = subst (λ (step : Step). AreStepRows old.net before.outcome now.net after.outcome (deed.Step step) said.0 c.in_ok-does.does) c.step_of_lines-step.ensures said.1;
             judged_before = judged_before;
-            judged_now = c.in_ok-now.ensures.told w watching;
+            judged_now = c.in_ok-now.ensures w watching;
           });
       was = refl;
       follows = refl;
@@ -66,7 +65,4 @@ pub returns-clause-few : goal.returns-clause-few
 returns-clause-few g c = omega (arith, c.in_ok-made.ensures.made.refused, lines_few c.args.number c.args.network.now.net c.args.lines.now)
 
 pub returns-clause-network : goal.returns-clause-network
-returns-clause-network g c = c.judge_at.ensures.same.net ∙ c.in_ok-made.ensures.made.net_is
-
-pub returns-clause-plan : goal.returns-clause-plan
-returns-clause-plan g c = still_plan c.make_lines.new.network c.judge_at.new.network c.in_ok-next.next c.judge_at.ensures.same c.in_ok-next.ensures
+returns-clause-network g c = c.in_ok-made.ensures.made.net_is

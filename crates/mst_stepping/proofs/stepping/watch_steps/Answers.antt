@@ -1,15 +1,13 @@
 use Rattle.std.proofs.Common.{◌++◌, ◌∙◌, List, ap, refl, sym, subst}
-use Rattle.mst_net.specs.Tables.{Net}
 use Rattle.mst_rows.specs.Rows.{Row}
 use Rattle.mst_judging.specs.Verifying.{plan_outcome}
 use Rattle.mst_sweeping.proofs.Swept.{put_then}
 use Rattle.mst_verdict.specs.Judged.{told_in}
 use Rattle.mst_verdict.specs.Steps.{start_rows}
-use Rattle.mst_stepping.specs.Setting.{after_steps}
-use Rattle.mst_stepping.specs.Stepping.{AreRowsIn, IsFew, Watch, watch_of}
+use Rattle.mst_stepping.specs.Stepping.{IsFew, Watch, watch_of}
 use Rattle.mst_stepping.specs.Taking.{course_for}
 use Rattle.mst_stepping.specs.declared.stepping.Course.{Course}
-use Rattle.mst_stepping.proofs.Planned.{prior_of}
+use Rattle.mst_judging.proofs.Judgements.{prior_of}
 use Rattle.mst_stepping.proofs.Watched.{was_settled}
 use Rattle.mst_stepping.proofs.stepping.watch_steps.Goals as goal
 
@@ -20,11 +18,10 @@ returns-clause-told g c =
     let lines = c.args.lines.now in
     let start = told_in lines c.in_ok-start.start in
     let last = told_in lines c.in_ok-behind.behind.judgement in
-    let same = c.judge_at.ensures.same in
     let prior = prior_of old.net old.numbers c.args.first.now c.in_ok-carriage.carriage c.requires.plan c.in_ok-carriage.ensures in
     let w : Watch = watch_of old.net (plan_outcome old.net old.numbers c.args.first.now) steps lines in
-    let judged = c.in_ok-start.ensures.told w (record { prior = prior; last = refl; lines = refl }) in
-    let took = c.in_ok-behind.ensures.told w (record { prior = prior; last = refl; lines = refl }) (sym same.net) (subst (λ (net : Net). AreRowsIn w 0 net start) (sym same.net) judged) in
+    let judged = c.in_ok-start.ensures w (record { prior = prior; last = refl; lines = refl }) in
+    let took = c.in_ok-behind.ensures.told w (record { prior = prior; last = refl; lines = refl }) refl judged in
     let first : List Row = start_rows lines start in (
       first ++ took.rows,
       record {
@@ -46,6 +43,3 @@ pub returns-clause-few : goal.returns-clause-few
 returns-clause-few g c =
     let few = c.in_ok-behind.ensures.few in
     subst (λ (course : Course). IsFew course c.args.steps.now) (sym c.of_policy.ensures) (record { refused = few.refused; steps = few.steps; moving = few.moving; cutting = few.cutting; failing = few.failing })
-
-pub returns-clause-network : goal.returns-clause-network
-returns-clause-network g c = c.in_ok-behind.ensures.network ∙ ap (λ (net : Net). after_steps net c.args.steps.now) c.judge_at.ensures.same.net

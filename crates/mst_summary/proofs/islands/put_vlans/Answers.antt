@@ -2,7 +2,7 @@ use Rattle.std.proofs.Common.{◌≡◌, ℕ, ◌++◌, List, length, map, refl,
 use Rattle.std.specs.List.{flat_map}
 use Rattle.std.proofs.lemmas.Result.{on_ok_weaker}
 use Rattle.mst_rows.specs.Rows.{Row}
-use Rattle.mst_diff.specs.trees.Settled.{outcome_of}
+use Rattle.mst_trees.specs.Settled.{outcome_of}
 use Rattle.mst_diff.specs.plan_text.Bodies.{NumberEach}
 use Rattle.mst_diff.proofs.plan_text_lemmas.Grouped.{vids_long}
 use Rattle.mst_diff.proofs.plan_text_lemmas.Classes.{numbers_below, each_below}

@@ -1,4 +1,4 @@
-use Rattle.mst_sweeping.proofs.Paired.{second_back}
+use Rattle.mst_sweeping.proofs.WithFailures.{second_back}
 use Rattle.mst_sweeping.proofs.pairing.back_to_first.Goals as goal
 
 pub renew-requires : goal.renew-requires

@@ -3,11 +3,7 @@ use Rattle.mst_trees.specs.Outcome.{IsOutcome}
 use Rattle.mst_sweep.specs.CutClasses.{AreKeptAlone, kept_of}
 use Rattle.mst_sweep.specs.Pairs.{failed}
 use Rattle.mst_sweep.proofs.Together.{failed_left}
-use Rattle.mst_sweeping.proofs.Paired.{first_back}
 use Rattle.mst_sweeping.proofs.pairing.single_of.Goals as goal
-
-pub renew-requires : goal.renew-requires
-renew-requires c = first_back c.args.failure.now c.args.network.now.net c.args.network.now.numbers c.trees_of_first.new.seen c.in_ok-forest.ensures.seen
 
 pub returns-clause-single : goal.returns-clause-single
 returns-clause-single c = λ is.

@@ -1,5 +1,5 @@
 use Rattle.std.proofs.Common.{[], ◌∷◌}
-use Rattle.mst_sweeping.proofs.Paired.{second_ahead, regions_too}
+use Rattle.mst_sweeping.proofs.WithFailures.{second_ahead, regions_too}
 use Rattle.mst_sweeping.proofs.pairing.trees_of_second.Goals as goal
 
 pub trees_ahead-requires-clause-seen : goal.trees_ahead-requires-clause-seen

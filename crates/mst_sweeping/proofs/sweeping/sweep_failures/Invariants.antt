@@ -1,17 +1,15 @@
 use Rattle.std.proofs.Common.{◌≤◌, List, take}
-use Rattle.mst_net.specs.Contents.{SameContents}
 use Rattle.mst_lag.specs.Viewed.{IsView}
 use Rattle.mst_rows.specs.Rows.{Row}
 use Rattle.mst_trees.specs.Forest.{IsForest}
 use Rattle.mst_sweeping.specs.Sweeping.{AreTold, Puts}
 use Rattle.mst_sweeping.proofs.sweeping.sweep_failures.Given as goal
 
--- what the failures so far do, and the network as it was
+-- what the failures so far do, and the view of the network
 abbrev pub invariant-loop-failure : goal.invariant-loop-failure
 invariant-loop-failure g l = record {
-  same : SameContents l.fn.network l.network;
-  told : (is : IsForest l.fn.network.net l.fn.network.numbers l.plan.forest)
-      → (rows : List Row) × AreTold l.fn.network.net is.outcome (take l.failure-index l.failures) l.cuts rows × Puts g.R.Rows.grew l.fn.out l.out rows;
+  told : (is : IsForest l.network.net l.network.numbers l.plan.forest)
+      → (rows : List Row) × AreTold l.network.net is.outcome (take l.failure-index l.failures) l.cuts rows × Puts g.R.Rows.grew l.fn.out l.out rows;
   few : l.cuts ≤ l.failure-index;
   seen : IsView l.network.net l.network.numbers l.seen;
 }

@@ -1,5 +1,5 @@
 use Rattle.std.proofs.Common.{◌≡◌, None, ap, refl, sym, ◌∙◌}
-use Rattle.mst_engine.specs.net.Contents.{Contents}
+use Rattle.mst_net.specs.Contents.{Contents}
 use Rattle.mst_tool.specs.Ask.{unadvised_early}
 use Rattle.mst_tool.proofs.EarlyRefusals.{unadvised_so, whatever}
 use Rattle.mst_tool.proofs.WholeLoad.{unadvised_told}

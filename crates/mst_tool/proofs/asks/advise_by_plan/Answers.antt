@@ -1,5 +1,5 @@
 use Rattle.std.proofs.Common.{[], None, ap, sym, ◌∙◌}
-use Rattle.mst_engine.specs.net.Contents.{Contents}
+use Rattle.mst_net.specs.Contents.{Contents}
 use Rattle.mst_print.proofs.Shown.{grew_none}
 use Rattle.mst_tool.specs.Shown.{advice_row}
 use Rattle.mst_tool.proofs.WholeLoad.{advice_shown, unadvised_told}

@@ -1,6 +1,6 @@
 use Rattle.std.proofs.Common.{subst}
 use Rattle.std.specs.Prelude.{IfOk}
-use Rattle.mst_engine.specs.net.Contents.{Contents}
+use Rattle.mst_net.specs.Contents.{Contents}
 use Rattle.mst_engine.specs.report.Picturing.{DepictsVlan}
 use Rattle.mst_tool.proofs.asks.depicted_vlan.Goals as goal
 

@@ -1,5 +1,5 @@
 use Rattle.std.proofs.Common.{[], None, ap}
-use Rattle.mst_engine.specs.net.Contents.{Contents}
+use Rattle.mst_net.specs.Contents.{Contents}
 use Rattle.mst_print.proofs.Shown.{grew_none}
 use Rattle.mst_tool.specs.Shown.{sweep_row}
 use Rattle.mst_tool.proofs.WholeLoad.{swept_shown}
@@ -8,7 +8,7 @@ use Rattle.mst_tool.proofs.asks.swept.Goals as goal
 pub returns-clause-answer : goal.returns-clause-answer
 returns-clause-answer c =
     let printer = c.in_ok-printer.printer in
-    let put = c.in_ok-cuts.ensures.told printer [] (grew_none printer) in
+    let put = c.in_ok-cuts.ensures printer [] (grew_none printer) in
     swept_shown c.args.form c.args.part c.args.planner.now.contents.net c.settle.new.self.contents.net c.in_ok-cuts.cuts put.0 c.in_ok-text.text.items
     (ap (λ (k : Contents). k.net) c.settle.ensures.same) put.1
     (c.in_ok-text.ensures c.args.form None (sweep_row c.args.part) printer put.0 c.in_ok-printer.ensures put.2)

@@ -3,13 +3,13 @@ use Rattle.std.specs.List.{AllZip, Contains}
 use Rattle.std.proofs.lemmas.Result.{IfOk-weaker}
 use Rattle.mst_graph.proofs.Members.{from_filter}
 use Rattle.mst_ids.specs.Vids.{has}
-use Rattle.mst_summary.proofs.trees_lemmas.Entries.{all_weaker}
-use Rattle.mst_summary.proofs.trees_lemmas.Lists.{all_there}
-use Rattle.mst_summary.proofs.trees_lemmas.Looking.{filter_alike}
-use Rattle.mst_summary.specs.trees.Settled.{outcome_of}
-use Rattle.mst_summary.specs.plan_text.PlanText.{all_vids}
-use Rattle.mst_summary.proofs.plan_text_lemmas.OnePlan.{is_vid_there}
-use Rattle.mst_summary.specs.diff.Classes.{flag_at}
+use Rattle.mst_trees.proofs.Entries.{all_weaker}
+use Rattle.mst_trees.proofs.Lists.{all_there}
+use Rattle.mst_trees.proofs.Looking.{filter_alike}
+use Rattle.mst_trees.specs.Settled.{outcome_of}
+use Rattle.mst_plan_text.specs.PlanText.{all_vids}
+use Rattle.mst_plan_text.proofs.OnePlan.{is_vid_there}
+use Rattle.mst_diff.specs.Classes.{flag_at}
 use Rattle.mst_summary.specs.Seen.{seen_on, seen_over}
 use Rattle.mst_summary.proofs.VidClasses.{AtPlaces, things_have, over_alike}
 use Rattle.mst_verify.specs.Named.{vids_in}

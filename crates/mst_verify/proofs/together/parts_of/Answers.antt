@@ -2,7 +2,7 @@ use Rattle.std.proofs.Common.{Vec, Global, ◌≡◌, ◌+◌, ◌<◌, ℕ, Lis
 use Rattle.std.specs.Prelude.{MatchOption, ⊤}
 use Rattle.std.proofs.lemmas.Grind.{common_steps}
 use Rattle.mst_carried.specs.Carried.{ViewWithTrees}
-use Rattle.mst_summary.specs.trees.Settled.{outcome_of}
+use Rattle.mst_trees.specs.Settled.{outcome_of}
 use Rattle.mst_sweep.specs.Baseline.{AreHomes}
 use Rattle.mst_verify.specs.Compared.{HaveParts}
 use Rattle.mst_verify.specs.Islands.{kept_in}

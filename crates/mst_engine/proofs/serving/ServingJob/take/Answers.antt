@@ -1,4 +1,4 @@
-use Rattle.mst_compare.specs.report.Planned.{planned_state}
+use Rattle.mst_report.specs.Planned.{planned_state}
 use Rattle.mst_engine.specs.Engine.{replied, reply_text, shape_of}
 use Rattle.mst_engine.proofs.ServedBy.{line_told}
 use Rattle.std.proofs.Common.{sym, ap}

@@ -1,6 +1,6 @@
 use Rattle.std.proofs.Common.{ap, sym, ◌∙◌}
 use Rattle.std.specs.Option.{option_map}
-use Rattle.mst_picture.specs.changes.Stored.{kept_entries}
+use Rattle.mst_changes.specs.Stored.{kept_entries}
 use Rattle.mst_report.specs.Planned.{planned_state}
 use Rattle.mst_report.proofs.Answering.{not_marked}
 use Rattle.mst_report.proofs.planner.Planner.changes.Goals as goal

@@ -2,10 +2,10 @@ use Rattle.std.proofs.Common.{refl, subst}
 use Rattle.std.specs.Prelude.{Ok}
 use Rattle.std.proofs.lemmas.Result.{on_ok_weaker}
 use Rattle.mst_net.specs.Tables.{Net}
-use Rattle.mst_picture.specs.changes.ChangesText.{all_changes}
-use Rattle.mst_picture.specs.changes.Kept.{entries_of}
-use Rattle.mst_picture.specs.changes.Stored.{kept_entries}
-use Rattle.mst_picture.specs.trees.Settled.{outcome_of}
+use Rattle.mst_changes.specs.ChangesText.{all_changes}
+use Rattle.mst_changes.specs.Kept.{entries_of}
+use Rattle.mst_changes.specs.Stored.{kept_entries}
+use Rattle.mst_trees.specs.Settled.{outcome_of}
 use Rattle.mst_report.specs.Answers.{TellsChanges}
 use Rattle.mst_report.specs.Planned.{planned_state}
 use Rattle.mst_report.proofs.Answering.{was_marked, changes_are}

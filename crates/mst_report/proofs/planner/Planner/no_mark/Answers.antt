@@ -1,7 +1,7 @@
 use Rattle.std.proofs.Common.{ap, sym, ◌∙◌}
 use Rattle.std.specs.Option.{option_map}
 use Rattle.mst_lang.specs.declared.line.Query.TheVariants.{Changes}
-use Rattle.mst_picture.specs.changes.Stored.{kept_entries}
+use Rattle.mst_changes.specs.Stored.{kept_entries}
 use Rattle.mst_report.specs.Planned.{planned_state}
 use Rattle.mst_report.proofs.Answering.{changes_have_rows}
 use Rattle.mst_report.proofs.planner.Planner.no_mark.Goals as goal

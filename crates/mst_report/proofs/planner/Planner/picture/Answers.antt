@@ -1,6 +1,6 @@
 use Rattle.std.proofs.Common.{ap, subst, ◌∙◌, ◌++◌}
 use Rattle.mst_net.specs.Tables.{Net}
-use Rattle.mst_picture.specs.trees.Settled.{outcome_of}
+use Rattle.mst_trees.specs.Settled.{outcome_of}
 use Rattle.mst_picture.specs.Picture.{picture}
 use Rattle.mst_report.specs.Picturing.{Depicts}
 use Rattle.mst_report.proofs.planner.Planner.picture.Goals as goal

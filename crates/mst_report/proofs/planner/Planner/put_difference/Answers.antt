@@ -1,7 +1,7 @@
 use Rattle.std.proofs.Common.{subst}
 use Rattle.std.proofs.lemmas.Result.{IfOk-weaker}
 use Rattle.mst_net.specs.Tables.{Net}
-use Rattle.mst_picture.specs.trees.Settled.{outcome_of}
+use Rattle.mst_trees.specs.Settled.{outcome_of}
 use Rattle.mst_report.specs.Differing.{Differs}
 use Rattle.mst_report.proofs.planner.Planner.put_difference.Goals as goal
 

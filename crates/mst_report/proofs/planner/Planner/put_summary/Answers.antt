@@ -1,7 +1,7 @@
 use Rattle.std.proofs.Common.{ap, subst, ◌∙◌}
 use Rattle.std.proofs.lemmas.Result.{on_ok_weaker}
 use Rattle.mst_net.specs.Tables.{Net}
-use Rattle.mst_picture.specs.trees.Settled.{outcome_of, SettledNet}
+use Rattle.mst_trees.specs.Settled.{outcome_of, SettledNet}
 use Rattle.mst_report.specs.Summarizing.{Summarizes}
 use Rattle.mst_report.proofs.planner.Planner.put_summary.Goals as goal
 

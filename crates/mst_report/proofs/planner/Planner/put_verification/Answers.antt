@@ -1,7 +1,7 @@
 use Rattle.std.proofs.Common.{◌+◌, ◌≤◌, length, List, subst}
 use Rattle.std.proofs.lemmas.Result.{IfOk-weaker}
+use Rattle.mst_net.specs.Contents.{Contents}
 use Rattle.mst_policy.specs.declared.policy.PolicyLine.{PolicyLine}
-use Rattle.mst_report.specs.Planned.{Planned}
 use Rattle.mst_judging.specs.Verifying.{Verifies}
 use Rattle.mst_verdict.specs.Judged.{counts_of}
 use Rattle.mst_report.proofs.planner.Planner.put_verification.Goals as goal
@@ -12,7 +12,7 @@ returns-clause-told g c first before grew =
     (λ verdict said. (
       said.0,
       subst (λ (lines : List PolicyLine). Verifies c.args.self.now.contents.net lines (counts_of verdict) said.0) c.as_slice.ensures
-          (subst (λ (p : Planned). Verifies p.contents.net c.as_slice.result.now (counts_of verdict) said.0) c.self.view_is said.1),
+          (subst (λ (n : Contents). Verifies n.net c.as_slice.result.now (counts_of verdict) said.0) c.network.ensures said.1),
       said.2 first before grew,
     ))
     c.verify_network.ensures.told

@@ -1,6 +1,6 @@
 use Rattle.std.proofs.Common.{ℕ, List, ap, subst, sym, ◌∙◌, ◌++◌}
 use Rattle.mst_net.specs.Tables.{Net}
-use Rattle.mst_picture.specs.trees.Settled.{outcome_of}
+use Rattle.mst_trees.specs.Settled.{outcome_of}
 use Rattle.mst_picture.specs.VlanPicture.{IsVlanPicture}
 use Rattle.mst_report.specs.Picturing.{DepictsVlan}
 use Rattle.mst_report.proofs.planner.Planner.vlan_picture.Goals as goal

@@ -1,5 +1,5 @@
 use Rattle.std.proofs.lemmas.Result.{on_ok_weaker}
-use Rattle.mst_picture.specs.plan_text.PlanText.{ArePlanRows}
+use Rattle.mst_plan_text.specs.PlanText.{ArePlanRows}
 use Rattle.mst_report.proofs.Told.{tells}
 use Rattle.mst_report.proofs.planner.Planner.whole_plan.Goals as goal
 

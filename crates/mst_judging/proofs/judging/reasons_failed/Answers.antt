@@ -1,38 +1,45 @@
-use Rattle.std.proofs.Common.{◌≡◌, Ok, Some, subst, sym}
+use Rattle.std.proofs.Common.{◌≡◌, ◌∷◌, [], Ok, Some, subst, sym}
 use Rattle.std.specs.List.{AllZip}
 use Rattle.std.proofs.lemmas.Result.{IfOk-weaker}
 use Rattle.mst_carried.specs.Carried.{ViewWithTrees}
-use Rattle.mst_lag.specs.Viewed.{IsView}
-use Rattle.mst_net.specs.After.{after}
-use Rattle.mst_net.specs.Contents.{Tables, ahead_of}
 use Rattle.mst_classes.specs.Classes.{AreClasses}
-use Rattle.mst_trees.specs.Settled.{SettledNet, outcome_of}
+use Rattle.mst_net.specs.After.{after}
+use Rattle.mst_net.specs.Contents.{Tables}
 use Rattle.mst_sweep.specs.Failures.{edit_of}
-use Rattle.mst_net.specs.Tables.{Numbers}
+use Rattle.mst_sweep.specs.Pairs.{failed}
+use Rattle.mst_trees.specs.Agrees.{AreOf}
+use Rattle.mst_trees.specs.Forest.{IsForest}
+use Rattle.mst_trees.specs.Settled.{SettledNet, outcome_of}
 use Rattle.mst_verdict.specs.Judged.{reasons_in}
 use Rattle.mst_verify.specs.Islands.{HasIslandsOf, IsOneOf}
 use Rattle.mst_judging.specs.Verifying.{AreReasonsIf, HaveLans, expected_in, plan_outcome}
-use Rattle.mst_judging.proofs.Judgements.{as_many, classes_stay, have_lans_there, lines_after, made_ahead, numbers_stay, prior_of}
-use Rattle.mst_judging.proofs.judging.reasons_ahead.Goals as goal
+use Rattle.mst_judging.proofs.Judgements.{as_many, classes_stay, failed_ahead, failed_plan, have_lans_failed, lines_after, prior_of}
+use Rattle.mst_judging.proofs.judging.reasons_failed.Goals as goal
+
+pub ahead-plan-requires-clause-of : goal.ahead-plan-requires-clause-of
+ahead-plan-requires-clause-of c =
+    let trees = c.in_ok-trees.trees in
+    subst (λ (t : Tables). AreOf t.net t.numbers c.trees_failed.new.seen trees.regions) (sym (failed_ahead c.args.failure.now c.edit-edit.result c.args.network.now c.edit-edit.ensures)) c.in_ok-trees.ensures.trees.of
+
+pub ahead-plan-requires-clause-forest : goal.ahead-plan-requires-clause-forest
+ahead-plan-requires-clause-forest c =
+    let trees = c.in_ok-trees.trees in
+    subst (λ (t : Tables). IsForest t.net t.numbers trees) (sym (failed_ahead c.args.failure.now c.edit-edit.result c.args.network.now c.edit-edit.ensures)) c.in_ok-trees.ensures.trees.forest
 
 pub beside-requires-clause-classes : goal.beside-requires-clause-classes
 beside-requires-clause-classes c =
     let old = c.args.network.now in
-    let edit = c.args.ready.now in
     let f = c.args.failure.now in
     let j = c.args.judging.now in
-    let view = subst (λ (t : Tables). IsView t.net t.numbers c.trees_ahead.new.seen) c.ahead.ensures c.in_ok-trees.ensures.seen in
     subst (λ (s : SettledNet). AreClasses s.view j.before.now.classes) (sym c.ahead-plan.ensures)
-    (classes_stay f old.net (ahead_of old edit).net old.numbers (ahead_of old edit).numbers j.plan.now.view c.trees_ahead.new.seen (made_ahead f old.net edit c.requires.edit c.requires.ready.accepted) c.requires.of.of.view view
-    j.before.now.classes c.requires.judging.classes)
+    (classes_stay f old.net (failed (f ∷ []) old.net) old.numbers old.numbers j.plan.now.view c.trees_failed.new.seen c.requires.accepted c.requires.of.of.view c.in_ok-trees.ensures.seen j.before.now.classes
+    c.requires.judging.classes)
 
 pub beside-requires-clause-islands : goal.beside-requires-clause-islands
 beside-requires-clause-islands c =
-    let old = c.args.network.now in
-    let edit = c.args.ready.now in
     let j = c.args.judging.now in
-    subst (λ (s : SettledNet). HasIslandsOf j.carriage.now s.numbers j.before.now) (sym c.ahead-plan.ensures)
-    (subst (λ (numbers : Numbers). HasIslandsOf j.carriage.now numbers j.before.now) (sym (numbers_stay c.args.failure.now edit old.next old.numbers c.requires.edit)) c.requires.judging.islands)
+    subst (λ (s : SettledNet). HasIslandsOf j.carriage.now s.numbers j.before.now)
+    (sym (failed_plan c.args.failure.now c.edit-edit.result c.args.network.now c.edit-edit.ensures c.trees_failed.new.seen c.in_ok-trees.trees c.ahead-plan.result c.ahead-plan.ensures)) c.requires.judging.islands
 
 pub failed-prior-requires-clause-classes : goal.failed-prior-requires-clause-classes
 failed-prior-requires-clause-classes c =
@@ -41,11 +48,9 @@ failed-prior-requires-clause-classes c =
 
 pub failed-prior-requires-clause-islands : goal.failed-prior-requires-clause-islands
 failed-prior-requires-clause-islands c =
-    let old = c.args.network.now in
-    let edit = c.args.ready.now in
     let j = c.args.judging.now in
-    subst (λ (s : SettledNet). HasIslandsOf j.carriage.now s.numbers j.before.now) (sym c.ahead-plan.ensures)
-    (subst (λ (numbers : Numbers). HasIslandsOf j.carriage.now numbers j.before.now) (sym (numbers_stay c.args.failure.now edit old.next old.numbers c.requires.edit)) c.requires.judging.islands)
+    subst (λ (s : SettledNet). HasIslandsOf j.carriage.now s.numbers j.before.now)
+    (sym (failed_plan c.args.failure.now c.edit-edit.result c.args.network.now c.edit-edit.ensures c.trees_failed.new.seen c.in_ok-trees.trees c.ahead-plan.result c.ahead-plan.ensures)) c.requires.judging.islands
 
 pub judge_place-requires-clause-missing : goal.judge_place-requires-clause-missing
 judge_place-requires-clause-missing c = let j = c.args.judging.now in as_many c.args.network.now.net j.is_last j.lines.now j.missing.now c.requires.judging.lacking
@@ -54,18 +59,23 @@ pub judge_place-requires-clause-lans : goal.judge_place-requires-clause-lans
 judge_place-requires-clause-lans c =
     let net = c.args.network.now.net in
     let f = c.args.failure.now in
-    let j = c.args.judging.now in
-    (net, c.requires.judging.lacking, subst (λ (s : SettledNet). HaveLans j net s.net (Some f)) (sym c.ahead-plan.ensures) (have_lans_there f net c.args.ready.now c.requires.edit j (Some f)))
+    let j = c.args.judging.now in (
+      net,
+      c.requires.judging.lacking,
+      subst (λ (s : SettledNet). HaveLans j net s.net (Some f))
+          (sym (failed_plan f c.edit-edit.result c.args.network.now c.edit-edit.ensures c.trees_failed.new.seen c.in_ok-trees.trees c.ahead-plan.result c.ahead-plan.ensures)) (have_lans_failed j net f (Some f)),
+    )
 
 pub returns-clause-reasons : goal.returns-clause-reasons
 returns-clause-reasons c =
     let old = c.args.network.now in
-    let edit = c.args.ready.now in
     let f = c.args.failure.now in
     let j = c.args.judging.now in
     let s = c.ahead-plan.result in
     let o = plan_outcome old.net old.numbers j.plan.now in
-    let made = subst (λ (t : SettledNet). after (edit_of f) old.net ≡ Ok t.net) (sym c.ahead-plan.ensures) (made_ahead f old.net edit c.requires.edit c.requires.ready.accepted) in
+    let made =
+    subst (λ (t : SettledNet). after (edit_of f) old.net ≡ Ok t.net)
+    (sym (failed_plan f c.edit-edit.result old c.edit-edit.ensures c.trees_failed.new.seen c.in_ok-trees.trees s c.ahead-plan.ensures)) c.requires.accepted in
     let one : IsOneOf old.net o c.failed-prior.result.old.now =
     subst (λ (v : ViewWithTrees). IsOneOf old.net o v) (sym c.failed-prior.ensures.old) (prior_of old.net old.numbers j.plan.now j.carriage.now c.requires.of c.requires.judging.carriage) in
     IfOk-weaker c.judge_place.result _ _

@@ -6,10 +6,10 @@ use Rattle.mst_settle.specs.Assignment.{vector_of}
 use Rattle.mst_trees.specs.Bound.{KeepsBound}
 use Rattle.mst_plan.specs.Standing.{Standing, nothing, standing_of, msti_vector, msti_settlings, KeepsBounds}
 use Rattle.mst_plan.specs.declared.plan.Plan.{Plan}
-use Rattle.mst_plan.proofs.plan.next_plan.Goals as goal
+use Rattle.mst_plan.proofs.kept.KeptPlan.next.Goals as goal
 
-pub returns-in-None-clause-bounds : goal.returns-in-None-clause-bounds
-returns-in-None-clause-bounds g c = rw c.in-None.is (go c.plan_from.result c.plan_from.ensures.bounds)
+pub returns-in_ok-regions-in-Nothing-clause-bounds : goal.returns-in_ok-regions-in-Nothing-clause-bounds
+returns-in_ok-regions-in-Nothing-clause-bounds g c = rw c.in-Nothing.is (go c.plan_from.result c.plan_from.ensures.bounds)
   where
     empty : Standing
     empty = standing_of c.empty.result

@@ -1,5 +1,5 @@
 use Rattle.mst_sweeping.proofs.Swept.{if_ok}
-use Rattle.mst_sweeping.proofs.sweeping.trees_ahead.Goals as goal
+use Rattle.mst_sweeping.proofs.failing.trees_ahead.Goals as goal
 
 pub repaired-requires : goal.repaired-requires
 repaired-requires g c =

@@ -1,6 +1,6 @@
 use Rattle.std.proofs.Common.{[], ◌∷◌}
-use Rattle.mst_sweeping.proofs.Paired.{first_ahead, regions_too}
-use Rattle.mst_sweeping.proofs.pairing.trees_of_first.Goals as goal
+use Rattle.mst_sweeping.proofs.WithFailures.{first_ahead, regions_too}
+use Rattle.mst_sweeping.proofs.failing.trees_failed.Goals as goal
 
 pub trees_ahead-requires-clause-seen : goal.trees_ahead-requires-clause-seen
 trees_ahead-requires-clause-seen c = first_ahead c.args.failure.now c.args.network.now.net c.args.network.now.numbers c.args.seen.now c.requires.seen

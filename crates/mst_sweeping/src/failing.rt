@@ -1,0 +1,87 @@
+ghost use Rattle.std.specs.Prelude.{[], ◌∷◌, IfOk, OnOk};
+ghost use Rattle.mst_config.specs.Shared.{AreRegions};
+ghost use Rattle.mst_lag.specs.Viewed.{IsView};
+ghost use Rattle.mst_plan.specs.Plan.{IsPlan, AreTrees};
+ghost use Rattle.mst_sweep.specs.Pairs.{failed};
+ghost use Rattle.mst_sweeping.specs.Sweeping.{IsViewBut};
+
+use mst_config::Regions;
+use mst_config::laws::regions_stay;
+use mst_lag::View;
+use mst_net::{Contents, Network};
+use mst_plan::Plan;
+use mst_sweep::{Failing, Failure};
+use mst_trees::Forest;
+use std::alloc::{AllocError, Global};
+
+/// The trees of a network with a failure, by one repair of those that stand. The view, which is the network's, is that network's
+/// then. `AllocError`: memory was wanted and refused; the view may be of neither.
+pub fn trees_failed(
+    alloc: Global,
+    network: &Network,
+    plan: &Plan,
+    failure: &Failure,
+    seen: &mut View,
+) -> Result<Forest, AllocError>
+    requires of { IsPlan network.now.net network.now.numbers plan.now }
+    requires seen { IsView network.now.net network.now.numbers seen.old }
+    ensures trees { IfOk result (AreTrees (failed (failure.now ∷ []) network.now.net) network.now.numbers seen.new plan.now.regions) }
+    ensures seen { OnOk result (IsView (failed (failure.now ∷ []) network.now.net) network.now.numbers seen.new) }
+{
+    regions_stay();
+    let failures = [*failure];
+    let failing = Failing {
+        network,
+        failures: &failures,
+    };
+    trees_ahead(alloc, &failing, &plan.forest, &plan.regions, failure, seen)
+}
+
+/// Renews the view of a network with a failure for the network without it. `AllocError`: memory was wanted and refused; the view may be of
+/// neither.
+pub fn without_failure(
+    alloc: Global,
+    network: &Network,
+    failure: &Failure,
+    seen: &mut View,
+) -> Result<(), AllocError>
+    requires { IsView (failed (failure.now ∷ []) network.now.net) network.now.numbers seen.old }
+    ensures { OnOk result (IsView network.now.net network.now.numbers seen.new) }
+{
+    renew(alloc, network, failure, seen)
+}
+
+/// The trees of a network whose view is this one but for what fails, repaired from these: the view is renewed for that.
+pub(crate) fn trees_ahead<C: Contents>(
+    alloc: Global,
+    contents: &C,
+    from: &Forest,
+    regions: &Regions,
+    failure: &Failure,
+    seen: &mut View,
+) -> Result<Forest, AllocError>
+    requires seen { IsViewBut failure.now (C.tables contents.now).net (C.tables contents.now).numbers seen.old }
+    requires regions { AreRegions (C.tables contents.now).net (C.tables contents.now).numbers regions.now }
+    ensures trees { IfOk result (AreTrees (C.tables contents.now).net (C.tables contents.now).numbers seen.new regions.now) }
+    ensures seen { OnOk result (IsView (C.tables contents.now).net (C.tables contents.now).numbers seen.new) }
+{
+    contents.known();
+    renew(alloc, contents, failure, seen)?;
+    from.repaired(alloc, seen, regions)
+}
+
+/// Renews a view that is the network's but for what fails.
+pub(crate) fn renew<C: Contents>(
+    alloc: Global,
+    contents: &C,
+    failure: &Failure,
+    seen: &mut View,
+) -> Result<(), AllocError>
+    requires { IsViewBut failure.now (C.tables contents.now).net (C.tables contents.now).numbers seen.old }
+    ensures { OnOk result (IsView (C.tables contents.now).net (C.tables contents.now).numbers seen.new) }
+{
+    match failure {
+        Failure::Lan(lan) => seen.renew_lan(alloc, contents, lan),
+        Failure::Bridge(bridge) => seen.renew_bridge(alloc, contents, bridge),
+    }
+}
