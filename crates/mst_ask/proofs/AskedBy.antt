@@ -2,12 +2,14 @@
 use Rattle.std.proofs.Common.{◌≡◌, ◌⊎◌, ℕ, ◌+◌, ◌≤◌, ◌<◌, ◌^◌, Bool, true, false, cond, List, [], ◌∷◌, ◌++◌, Option, refl, sym, ap, subst, ◌∙◌, arith, add-zero, append-nil, inl, inr}
 use Rattle.std.proofs.lemmas.List.Sums.{sum_by-cons}
 use Rattle.std.specs.Io.KnownBytes.{Appends}
-use Rattle.mst_drive.specs.Driving.{Driven, DrivenEnded, DrivenFront}
-use Rattle.mst_drive.specs.Words.{Wrote, WroteFront}
+use Rattle.mst_drive.specs.Driving.{Driven, DrivenEnded, DrivenFront, DrivenOn}
+use Rattle.mst_drive.specs.Words.{HasTold, Wrote, WroteFront}
 use Rattle.mst_engine.specs.Served.{IsFew}
+use Rattle.mst_io.specs.Devices.{HearsWhere, Seen}
 use Rattle.mst_io.specs.Held.{lines_held}
 use Rattle.mst_io.specs.Written.{AppendsFront, Reads}
 use Rattle.mst_io.specs.declared.outcome.Outcome.{Outcome}
+use Rattle.mst_io.proofs.Chains.{Hears-as}
 use Rattle.mst_lang.specs.Lines.{last_line, no_line}
 use Rattle.mst_ask.specs.Answering.{Answered, AnsweredEnded, PrintsAnswers}
 use Rattle.mst_ask.specs.Kept.{SameScript, standing_of}
@@ -134,3 +136,9 @@ module _ (old : Asking) (begins : old.outcome ≡ none_counted) (reads left writ
 
     pub answered_loaded : new.loaded ≡ old.loaded
     answered_loaded = ap (λ (j : Asking). j.loaded) (d.ended).1 ∙ (d.told).loaded
+
+-- what has gone out before each call of the source
+pub answered_told : {S : Type 0} (does : S → S → List ℕ → Seen → Type 0) (remaining : S → Option (List ℕ)) (old : Asking) → old.outcome ≡ none_counted → (reads : Option (List ℕ)) (before : Seen) (from now : S)
+    → HearsWhere does (DrivenOn Tells old reads remaining before) from now → HearsWhere does (HasTold (AnsweredEnded old.standing reads) remaining before) from now
+answered_told does remaining old begins reads before from now calls =
+    Hears-as does (DrivenOn Tells old reads remaining before) (HasTold (AnsweredEnded old.standing reads) remaining before) (λ source sink h. (h.0, answered_ended old begins reads (remaining source) before.bytes sink.bytes h.1)) from now calls

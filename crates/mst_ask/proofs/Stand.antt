@@ -1,12 +1,12 @@
 -- What answering questions of a script has printed, by what loading it and answering them have.
-use Rattle.std.proofs.Common.{◌≡◌, ℕ, ◌+◌, List, [], ◌∷◌, ◌++◌, Option, Result, Err, refl, ap, subst, ◌∙◌, arith, inl, inr}
+use Rattle.std.proofs.Common.{◌≡◌, ℕ, ◌+◌, List, [], ◌∷◌, ◌++◌, Option, None, Result, Err, refl, sym, ap, subst, ◌∙◌, arith, append-nil, inl, inr}
 use Rattle.std.specs.Prelude.{IsOk}
 use Rattle.std.specs.Io.KnownBytes.{Appends}
 use Rattle.std.specs.Option.{unwrap_or}
 use Rattle.mst_drive.specs.Turned.{Turned, Turning}
-use Rattle.mst_drive.specs.Words.{AreRead, Inputs, IsUnread, MayTell, Wrote, WroteFront}
-use Rattle.mst_drive.proofs.Words.{front_then, read_three, unread_three, wrote_still, wrote_then}
-use Rattle.mst_io.specs.Devices.{Seen, stopped_by}
+use Rattle.mst_drive.specs.Words.{AreRead, HasTold, Inputs, IsUnread, MayTell, Unwritten, Wrote, WroteFront}
+use Rattle.mst_drive.proofs.Words.{front_then, read_three, told_behind, unread_three, wrote_still, wrote_then}
+use Rattle.mst_io.specs.Devices.{HearsWhere, Seen, stopped_by}
 use Rattle.mst_io.specs.Written.{AppendsFront, Reads}
 use Rattle.mst_io.specs.declared.outcome.Outcome.{Outcome}
 use Rattle.mst_io.specs.declared.outcome.RunFault.{RunFault}
@@ -149,6 +149,22 @@ module _ (ways : AskWays) (form : Form) (given : Inputs) (written mid sent now :
 
   pub asked_ended : (left : Inputs) → Wrote sent now (AnsweredEnded asking.standing given.second left.second) → Wrote written now ((standing form).cut given left)
   asked_ended left a = wrote_then written sent now told.0 a.0 _ (inr (inr (stands_ended ways form given.first given.third told.0 begins policy asking is_opened are given.second left.second a.0 a.1))) told.2 a.2
+
+-- ---- what has gone out before each call of the policy's source, and of that of the questions
+module _ {S : Type 0} (does : S → S → List ℕ → Seen → Type 0) (remaining : S → Option (List ℕ)) (form : Form) (given : Inputs) (before mid : Seen) (opened : Asking) (w : Wrote before.bytes mid.bytes (Opens form given.first opened)) (turns : ℕ) where
+  pub policy_told : (sources : List Turning) → Turned turns sources before mid None → (from now : S) → HearsWhere does (HasTold Unwritten remaining mid) from now → HearsWhere does (HasTold (λ left. Begins form given.first) remaining before) from now
+  policy_told sources turned from now calls =
+      told_behind does remaining before Unwritten (λ left. Begins form given.first) mid w.0 from now turns sources turned w.2
+      (λ left more none. subst (Begins form given.first) (sym (ap (λ m. w.0 ++ m) none ∙ append-nil w.0)) (w.1).0) calls
+
+  pub questions_told : (ways : AskWays) (sent : Seen) (asking : Asking) (policy : List PolicyLine) → Appends mid.bytes sent.bytes [] → (are : AreLines given.third policy) → (is : asking ≡ judged_by opened policy) → (sources : List Turning) → Turned turns sources before sent None → (from now : S)
+      → HearsWhere does (HasTold (AnsweredEnded asking.standing given.second) remaining sent) from now → HearsWhere does (HasTold (AnswersEnded form given.first given.third given.second) remaining before) from now
+  questions_told ways sent asking policy nothing are is sources turned from now calls =
+      let all : Wrote before.bytes sent.bytes (Opens form given.first opened) = wrote_still before.bytes mid.bytes sent.bytes (Opens form given.first opened) w nothing in
+      let begun : Begins form given.first all.0 = (all.1).0 in
+      let ready : IsOpened form begun.script begun.loads policy asking = opened_with form begun.script begun.loads policy opened asking is (all.1).1 in
+      told_behind does remaining before (AnsweredEnded asking.standing given.second) (AnswersEnded form given.first given.third given.second) sent all.0 from now turns sources turned all.2
+      (λ left more h. stands_ended ways form given.first given.third all.0 begun policy asking ready are given.second left more h) calls
 
 -- ---- the sources, of which the questions come last
 pub sources_read : (turns : ℕ) (script policy questions : Turning) (sink sink_now : Seen) (result : Result Outcome RunFault) → Turned turns (script ∷ policy ∷ questions ∷ []) sink sink_now (stopped_by result) → IsOk result

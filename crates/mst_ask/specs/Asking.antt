@@ -1,7 +1,7 @@
 -- What a standing planner tells of a script and of questions of its network, where it prints in this form.
 use Rattle.std.specs.Prelude.{◌≡◌, ◌+◌, ◌++◌, ◌⊎◌, ◌==◌, not, false, ℕ, List, [], Option}
 use Rattle.std.specs.Io.KnownBytes.{Consumes}
-use Rattle.mst_drive.specs.Words.{Telling}
+use Rattle.mst_drive.specs.Words.{Telling, Unwritten}
 use Rattle.mst_lang.specs.Lines.{lines_of, ended_lines}
 use Rattle.mst_engine.specs.Script.{LoadsAll, version_of}
 use Rattle.mst_engine.specs.Steps as steps
@@ -94,4 +94,7 @@ standing form = record {
   begins = λ given text. LoadsScript (of_script form) given.first text;
   cut = λ given left text. StandsEnded form given.first left.first given.third given.second left.second text;
   starved = λ given text. Unasked form given.first text;
+  told_first = λ given. Unwritten;
+  told_second = λ given. AnswersEnded form given.first given.third given.second;
+  told_third = λ given left. Begins form given.first;
 }

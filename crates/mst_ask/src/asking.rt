@@ -1,10 +1,10 @@
 ghost use Rattle.std.specs.Prelude.{◌≡◌, ◌≤◌, ◌<◌, ◌^◌, ◌∷◌, [], false, length, Err, IfOk, IfErr, OnErr};
 ghost use Rattle.mst_drive.specs.Turned.{Turned, turning};
-ghost use Rattle.mst_drive.specs.Words.{Ended, Wrote, WroteFront, inputs};
-ghost use Rattle.mst_io.specs.Devices.{Hears, seen_by, stopped_by};
+ghost use Rattle.mst_drive.specs.Words.{Ended, HasTold, Unwritten, Wrote, WroteFront, inputs};
+ghost use Rattle.mst_io.specs.Devices.{HearsWhere, seen_by, stopped_by};
 ghost use Rattle.mst_print.specs.Shape.{of_script};
 ghost use Rattle.mst_tool.specs.Load.{LoadsEnded};
-ghost use Rattle.mst_ask.specs.Asking.{LoadsFront, standing};
+ghost use Rattle.mst_ask.specs.Asking.{AnswersEnded, Begins, LoadsFront, standing};
 ghost use Rattle.mst_ask.specs.Opening.{Leaves, MayOpen, Opens, OpensNot, OpensWhole};
 
 use crate::laws::{has_turns, one_asking, standings};
@@ -39,8 +39,10 @@ use std::alloc::Global;
 /// whatever the policy's lines are. A blank line and a comment have no answer. In [`Form::Json`] each `done` and each `undone` is a
 /// record on a line of its own.
 ///
-/// The sources are called up to so many times each, as turns are given, and the sink is flushed before each call of the second and of
-/// the third one.
+/// The sink holds nothing back as it begins: it was flushed since it was last called, or wasn't called yet. The sources are called up to
+/// so many times each, as turns are given, and only where it holds nothing back: while the script is
+/// read nothing was written, while the policy is what the script's lines print and the end of that, and behind it the answers too of all
+/// questions that were complete.
 ///
 /// [`RunFault::Read`] is answered just where the sink works and a source has failed, or all turns of it were used and none found the
 /// end; [`RunFault::Write`] just where the sink has failed, or took nothing of a part that had a byte; [`RunFault::Memory`] where there
@@ -59,14 +61,15 @@ pub fn ask_within<S: Source, P: Source, Q: Source, K: Sink>(
     requires policy { (P.told policy.old).failed ≡ false }
     requires questions { (Q.told questions.old).failed ≡ false }
     requires sink { (K.told sink.old).failed ≡ false }
+    requires sent { (K.told sink.old).unsent ≡ false }
     requires turns { turns ≤ 2 ^ 32 }
     ensures ended { Ended (standing form) (inputs (S.remaining script.old) (Q.remaining questions.old) (P.remaining policy.old)) (inputs (S.remaining script.new) (Q.remaining questions.new) (P.remaining policy.new)) (K.contents sink.old) (K.contents sink.new) result }
     ensures unread { result ≡ Err RunFault.Memory → (Q.told questions.new ≡ Q.told questions.old) × (Q.remaining questions.new ≡ Q.remaining questions.old) }
     ensures turned { Turned turns (turning (seen_by S.told S.remaining S.lent) script.old script.new ∷ turning (seen_by P.told P.remaining P.lent) policy.old policy.new ∷ turning (seen_by Q.told Q.remaining Q.lent) questions.old questions.new ∷ [])
         (seen_by K.told K.contents K.lent sink.old) (seen_by K.told K.contents K.lent sink.new) (stopped_by result) }
-    ensures heard_script { Hears S.hears script.old script.new }
-    ensures heard_policy { Hears P.hears policy.old policy.new }
-    ensures heard_questions { Hears Q.hears questions.old questions.new }
+    ensures heard_script { HearsWhere S.hears (HasTold Unwritten S.remaining (seen_by K.told K.contents K.lent sink.old)) script.old script.new }
+    ensures heard_policy { HearsWhere P.hears (HasTold (λ left. Begins form (S.remaining script.old)) P.remaining (seen_by K.told K.contents K.lent sink.old)) policy.old policy.new }
+    ensures heard_questions { HearsWhere Q.hears (HasTold (AnswersEnded form (S.remaining script.old) (P.remaining policy.old) (Q.remaining questions.old)) Q.remaining (seen_by K.told K.contents K.lent sink.old)) questions.old questions.new }
 {
     has_turns();
     one_asking();
@@ -97,18 +100,19 @@ fn open<S: Source, K: Sink>(
 ) -> Result<Asking, RunFault>
     requires source { (S.told source.old).failed ≡ false }
     requires sink { (K.told sink.old).failed ≡ false }
+    requires sent { (K.told sink.old).unsent ≡ false }
     requires turns { turns ≤ 2 ^ 32 }
     ensures ok { IfOk result (λ asking. Wrote (K.contents sink.old) (K.contents sink.new) (Opens form (S.remaining source.old) asking)) }
     ensures fault { OnErr result (WroteFront (K.contents sink.old) (K.contents sink.new) (MayOpen form (S.remaining source.old))) }
     ensures read { result ≡ Err RunFault.Read → Wrote (K.contents sink.old) (K.contents sink.new) (LoadsEnded (of_script form) (S.remaining source.old) (S.remaining source.new)) }
     ensures memory { result ≡ Err RunFault.Memory → Wrote (K.contents sink.old) (K.contents sink.new) (LoadsFront form (S.remaining source.old)) }
     ensures turned { Turned turns (turning (seen_by S.told S.remaining S.lent) source.old source.new ∷ []) (seen_by K.told K.contents K.lent sink.old) (seen_by K.told K.contents K.lent sink.new) (stopped_by result) }
-    ensures heard { Hears S.hears source.old source.new }
+    ensures heard { HearsWhere S.hears (HasTold Unwritten S.remaining (seen_by K.told K.contents K.lent sink.old)) source.old source.new }
 {
     has_load();
     one_load();
     states();
-    match read_script(alloc, source, turns) {
+    match read_script(alloc, source, sink, turns) {
         Err(_) => Err(RunFault::Memory),
         Ok(script) => match open_read(alloc, form, script, sink) {
             Err(fault) => Err(fault),

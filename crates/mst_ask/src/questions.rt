@@ -1,8 +1,8 @@
 ghost use Rattle.std.specs.Prelude.{◌≡◌, ◌≢◌, ◌≤◌, ◌<◌, ◌+◌, ◌^◌, ◌∷◌, [], false, Err, OnOk, OnErr};
 ghost use Rattle.mst_drive.specs.Turned.{Turned, turning};
-ghost use Rattle.mst_drive.specs.Words.{Wrote, WroteFront};
+ghost use Rattle.mst_drive.specs.Words.{HasTold, Wrote, WroteFront};
 ghost use Rattle.mst_engine.specs.Served.{IsFew};
-ghost use Rattle.mst_io.specs.Devices.{Hears, seen_by, stopped_by};
+ghost use Rattle.mst_io.specs.Devices.{HearsWhere, seen_by, stopped_by};
 ghost use Rattle.mst_ask.specs.Answering.{Answered, AnsweredEnded, PrintsAnswers};
 ghost use Rattle.mst_ask.specs.Kept.{IsKept};
 ghost use Rattle.mst_ask.specs.Questions.{counted_more, judged_by, none_counted};
@@ -133,7 +133,7 @@ pub(crate) fn serve_questions<Q: Source, K: Sink>(
     ensures read { result ≡ Err RunFault.Read → Wrote (K.contents sink.old) (K.contents sink.new) (AnsweredEnded asking.old.standing (Q.remaining questions.old) (Q.remaining questions.new)) }
     ensures memory { result ≢ Err RunFault.Memory }
     ensures turned { Turned turns (turning (seen_by Q.told Q.remaining Q.lent) questions.old questions.new ∷ []) (seen_by K.told K.contents K.lent sink.old) (seen_by K.told K.contents K.lent sink.new) (stopped_by result) }
-    ensures heard { Hears Q.hears questions.old questions.new }
+    ensures heard { HearsWhere Q.hears (HasTold (AnsweredEnded asking.old.standing (Q.remaining questions.old)) Q.remaining (seen_by K.told K.contents K.lent sink.old)) questions.old questions.new }
 {
     match drive(asking, questions, sink, turns) {
         Err(fault) => Err(fault),

@@ -1,9 +1,10 @@
 ghost use Rattle.std.specs.Prelude.{◌≡◌, ◌≤◌, ◌^◌, ◌<◌, ◌∷◌, [], false, length, MatchOption, IfOk, IfSome, OnErr};
-ghost use Rattle.mst_io.specs.Devices.{Hears, IsCalled};
+ghost use Rattle.mst_drive.specs.Words.{HasTold, Unwritten};
+ghost use Rattle.mst_io.specs.Devices.{HearsWhere, IsCalled, seen_by};
 ghost use Rattle.mst_ask.specs.Answering.{IsLeft, IsScript};
 ghost use Rattle.mst_ask.specs.Lines.{lines_in};
 
-use mst_io::{Source, without_cr};
+use mst_io::{Sink, Source, without_cr};
 use std::alloc::{AllocError, Global};
 
 /// What was read of a script.
@@ -14,26 +15,29 @@ pub(crate) struct Script {
     pub is_whole: bool,
 }
 
-/// Reads a script in so many turns. A turn is one call of the source, the one that finds the end included. `AllocError`: memory
-/// was wanted and refused, before all turns were used.
-pub(crate) fn read_script<S: Source>(
+/// Reads a script in so many turns. A turn is one call of the source, the one that finds the end included. Nothing is written to the
+/// sink, which holds nothing back. `AllocError`: memory was wanted and refused, before all turns were used.
+pub(crate) fn read_script<S: Source, K: Sink>(
     alloc: Global,
     source: &mut S,
+    sink: &K,
     turns: u64,
 ) -> Result<Script, AllocError>
     requires working { (S.told source.old).failed ≡ false }
+    requires sink { (K.told sink.now).failed ≡ false }
+    requires sent { (K.told sink.now).unsent ≡ false }
     requires turns { turns ≤ 2 ^ 32 }
     ensures ok { IfOk result (IsScript turns (S.remaining source.old) (S.remaining source.new) (S.told source.old) (S.told source.new)) }
     ensures err { OnErr result (IsLeft turns (S.told source.old) (S.told source.new)) }
     ensures calls { IsCalled turns (S.told source.old) (S.told source.new) }
     ensures lent { S.lent source.new ≡ S.lent source.old }
-    ensures heard { Hears S.hears source.old source.new }
+    ensures heard { HearsWhere S.hears (HasTold Unwritten S.remaining (seen_by K.told K.contents K.lent sink.now)) source.old source.new }
 {
     let mut bytes = Vec::new(alloc);
     let mut chunk = [0; 4096];
     'turns: for turn in 0..turns {
         bytes.reserve(4096)?;
-        match source.fill(&mut chunk) {
+        match source.fill(&mut chunk, sink) {
             Err(_) => {
                 return Ok(Script {
                     bytes,

@@ -2,25 +2,25 @@
 use Rattle.std.proofs.Common.{◌≡◌, ℕ, ◌+◌, ◌<◌, ◌≤◌, ◌^◌, false, List, [], ◌∷◌, ◌++◌, length, Option, None, Some, Ok, refl, sym, ap, subst, ◌∙◌, arith, append-nil, inl, inr}
 use Rattle.std.specs.Option.{unwrap_or}
 use Rattle.std.proofs.lemmas.Grind.{common_steps}
-use Rattle.std.specs.Io.KnownBytes.{Appends, Consumes, IsAtEnd}
+use Rattle.std.specs.Io.KnownBytes.{Appends, Consumes, IsAtEnd, Keeps}
 use Rattle.std.proofs.KnownBytes.{Appends-trans}
 use Rattle.mst_lang.specs.Lines.{last_line, no_line}
-use Rattle.mst_io.specs.Devices.{Told, called, IsRead, StopsAtZero, Works}
+use Rattle.mst_io.specs.Devices.{Seen, Told, called, IsRead, StopsAtZero, Works}
 use Rattle.mst_io.specs.Held.{ending, lines_held}
 use Rattle.mst_io.specs.declared.outcome.RunFault.{RunFault}
 use Rattle.mst_io.specs.declared.outcome.RunFault.TheVariants.{Read, Write, Memory}
 use Rattle.mst_io.proofs.Calls.{broken_after, stops_after, stops_working, works_both}
-use Rattle.mst_io.proofs.Known.{AppendsFront-after}
+use Rattle.mst_io.proofs.Known.{Appends-kept, AppendsFront-after}
 use Rattle.mst_io.proofs.ReadBytes.{Reads-all, Reads-rest}
-use Rattle.mst_drive.specs.Driving.{Driven, DrivenEnded, DrivenFront, DrivenLines, Halts}
+use Rattle.mst_drive.specs.Driving.{Driven, DrivenEnded, DrivenFront, DrivenLines, DrivenOn, Halts}
 use Rattle.mst_drive.specs.Feeding.{Breaks, EndsFront, Feeds, Leaves}
 
 -- ---- the devices
-works_then : (a b : Told) → Works a b → Works a (record b { failed = false })
+works_then : (a b : Told) → Works a b → Works a (record b { failed = false; unsent = false })
 works_then a b was = record { working = refl; taken = was.taken; each = was.each }
 
 -- a sink that worked, and sent on what it held back
-pub works_sent : (a b c : Told) → Works a b → c ≡ record b { failed = false } → Works a c
+pub works_sent : (a b c : Told) → Works a b → c ≡ record b { failed = false; unsent = false } → Works a c
 works_sent a b c was is = subst (Works a) (sym is) (works_then a b was)
 
 zero_counted : (b : Told) (count size : ℕ) → count ≡ 0 → 0 < size → (called b (Ok count) size).zeros ≡ b.zeros + 1
@@ -181,3 +181,12 @@ module _ {J : Type 0} (tells : J → ℕ → List (List ℕ) → List ℕ → J 
     ended = ended;
     printed = Appends-trans written mid now text said went then;
   }
+
+-- before a call of the source what was printed so far is sent on
+pub driven_on : {J S : Type 0} (tells : J → ℕ → List (List ℕ) → List ℕ → J → Type 0) (ends : J → ℕ → List ℕ → J → Type 0) (old : J) (reads : Option (List ℕ)) (remaining : S → Option (List ℕ)) (before : Seen) (source : S) (sink : Seen) (told : Told) (bytes : Option (List ℕ))
+    (text : List ℕ) (job : J) (number : ℕ) (read p : List ℕ) → tells job number [] [] job → Consumes reads (remaining source) read → Feeds tells old 1 [] read text job number p → Appends before.bytes bytes text → Works before.told told
+    → sink.told ≡ record told { failed = false; unsent = false } → Keeps bytes sink.bytes → sink.lent ≡ before.lent → DrivenOn tells old reads remaining before source sink
+driven_on tells ends old reads remaining before source sink told bytes text job number read p none consumed f went works sent kept lent = (
+  record { works = works_sent before.told told sink.told works sent; lent = lent; sent = ap (λ (t : Told). t.unsent) sent },
+  cut_lines tells ends old reads (remaining source) before.bytes sink.bytes text job number read p none consumed f (Appends-kept before.bytes bytes sink.bytes text went kept),
+)

@@ -1,5 +1,5 @@
 -- What was written of what a word tells.
-use Rattle.std.proofs.Common.{◌≡◌, ℕ, List, [], ◌∷◌, ◌++◌, Option, None, Result, Ok, Err, refl, sym, ap, subst, append-nil, arith, inl, inr}
+use Rattle.std.proofs.Common.{◌≡◌, ℕ, List, [], ◌∷◌, ◌++◌, Option, None, Result, Ok, Err, refl, sym, ap, subst, ◌∙◌, append-nil, arith, inl, inr}
 use Rattle.std.proofs.lemmas.Bool.{false≢true}
 use Rattle.std.specs.Prelude.{IsOk}
 use Rattle.std.specs.Io.KnownBytes.{Appends}
@@ -9,9 +9,11 @@ use Rattle.mst_io.specs.declared.outcome.Outcome.{Outcome}
 use Rattle.mst_io.specs.declared.outcome.RunFault.{RunFault}
 use Rattle.mst_io.specs.declared.outcome.RunFault.TheVariants.{Read, Write, Memory}
 use Rattle.mst_io.proofs.Known.{AppendsFront-after}
-use Rattle.mst_io.specs.Devices.{Seen, Told, IsCut, stopped_by}
+use Rattle.mst_io.specs.Devices.{HearsWhere, Seen, Told, IsCut, stopped_by}
+use Rattle.mst_io.proofs.Calls.{works_both}
+use Rattle.mst_io.proofs.Chains.{Hears-as}
 use Rattle.mst_drive.specs.Turned.{Turned, Turning}
-use Rattle.mst_drive.specs.Words.{AreRead, Ended, IsUnread, Inputs, MayTell, Telling, Wrote, WroteFront}
+use Rattle.mst_drive.specs.Words.{AreRead, Ended, HasTold, IsUnread, Inputs, MayTell, Telling, Wrote, WroteFront}
 
 -- ---- texts
 pub wrote_as : (written now : Option (List ℕ)) (these those : List ℕ → Type 0) → ((text : List ℕ) → these text → those text) → Wrote written now these → Wrote written now those
@@ -37,6 +39,21 @@ wrote_then written mid now a b texts is went then = (a ++ b, is, Appends-trans w
 
 pub front_then : (written mid now : Option (List ℕ)) (a b : List ℕ) (texts : List ℕ → Type 0) → texts (a ++ b) → Appends written mid a → AppendsFront mid now b → WroteFront written now texts
 front_then written mid now a b texts is went then = (a ++ b, is, AppendsFront-after written mid now a b went then)
+
+-- ---- what has gone out before each call of a source
+module _ {S : Type 0} (does : S → S → List ℕ → Seen → Type 0) (remaining : S → Option (List ℕ)) (before : Seen) (these those : Option (List ℕ) → List ℕ → Type 0) where
+  -- the same in other words
+  pub told_as : (from now : S) → ((left : Option (List ℕ)) (text : List ℕ) → these left text → those left text) → HearsWhere does (HasTold these remaining before) from now → HearsWhere does (HasTold those remaining before) from now
+  told_as from now are calls = Hears-as does (HasTold these remaining before) (HasTold those remaining before) (λ source sink h. (h.0, ((h.1).0, are (remaining source) (h.1).0 (h.1).1, (h.1).2))) from now calls
+
+  -- behind a text that went out
+  pub told_behind : (mid : Seen) (text : List ℕ) (from now : S) (turns : ℕ) (sources : List Turning) → Turned turns sources before mid None → Appends before.bytes mid.bytes text → ((left : Option (List ℕ)) (more : List ℕ) → these left more → those left (text ++ more))
+      → HearsWhere does (HasTold these remaining mid) from now → HearsWhere does (HasTold those remaining before) from now
+  told_behind mid text from now turns sources turned went are calls =
+      Hears-as does (HasTold these remaining mid) (HasTold those remaining before) (λ source sink h. (
+        record { works = works_both before.told mid.told sink.told (turned.works (λ e. cc)) (h.0).works; lent = (h.0).lent ∙ turned.lent_sink; sent = (h.0).sent },
+        (text ++ (h.1).0, are (remaining source) (h.1).0 (h.1).1, Appends-trans before.bytes mid.bytes sink.bytes text (h.1).0 went (h.1).2),
+      )) from now calls
 
 -- ---- how a word ends
 module _ (telling : Telling) (given left : Inputs) (written now : Option (List ℕ)) where

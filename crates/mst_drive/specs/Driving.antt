@@ -2,7 +2,7 @@
 use Rattle.std.specs.Prelude.{ℕ, ◌<◌, ◌^◌, ◌⊎◌, List, [], ◌++◌, Option, Some, None}
 use Rattle.std.specs.Io.KnownBytes.{Appends, Consumes}
 use Rattle.mst_lang.specs.Lines.{last_line, no_line}
-use Rattle.mst_io.specs.Devices.{Told, Works, IsBroken, IsCut, IsRead}
+use Rattle.mst_io.specs.Devices.{HoldsNothing, Seen, Told, Works, IsBroken, IsCut, IsRead}
 use Rattle.mst_io.specs.Held.{lines_held}
 use Rattle.mst_io.specs.Written.{AppendsFront, Reads}
 use Rattle.mst_io.specs.declared.outcome.RunFault.{RunFault}
@@ -48,6 +48,11 @@ pub record DrivenEnded {J : Type 0} (tells : J → ℕ → List (List ℕ) → L
   pub consumed : Consumes reads left read
   pub told : tells old 1 (lines_held no_line [] read) text job
   pub printed : Appends written now text
+
+-- how all stands before each call of the source: the whole of what the lines print that were complete has gone out, and nothing is held
+-- back
+abbrev pub DrivenOn : {J S : Type 0} → (J → ℕ → List (List ℕ) → List ℕ → J → Type 0) → J → Option (List ℕ) → (S → Option (List ℕ)) → Seen → S → Seen → Type 0
+DrivenOn tells old reads remaining before source sink = HoldsNothing before sink × DrivenEnded tells old reads (remaining source) before.bytes sink.bytes
 
 -- How both devices stand where an input was given to its end, or was stopped by this fault. For want of memory both work, and the source
 -- has ended

@@ -1,7 +1,7 @@
 -- What a word of the program tells of its inputs, and what is written of that.
-use Rattle.std.specs.Prelude.{ℕ, ◌<◌, ◌⊎◌, List, Option, None, Result, Ok, Err}
+use Rattle.std.specs.Prelude.{◌≡◌, ℕ, ◌<◌, ◌⊎◌, List, [], Option, None, Result, Ok, Err}
 use Rattle.std.specs.Io.KnownBytes.{Appends}
-use Rattle.mst_io.specs.Devices.{Told, IsCut, IsRead}
+use Rattle.mst_io.specs.Devices.{HoldsNothing, Seen, Told, IsCut, IsRead}
 use Rattle.mst_io.specs.Written.{AppendsFront}
 use Rattle.mst_io.specs.declared.outcome.Outcome.{Outcome}
 use Rattle.mst_io.specs.declared.outcome.RunFault.{RunFault}
@@ -24,13 +24,16 @@ abbrev pub two_inputs : Option (List ℕ) → Option (List ℕ) → Inputs
 two_inputs first second = inputs first second None
 
 -- What it tells, each by a text that it prints: of all that its inputs give, with what is counted of that; what it may print of them
--- where it is stopped before it has an answer; and all that it prints where an input can't be read on, by what is left of each, and
--- where there is no memory for the answer
+-- where it is stopped before it has an answer; all that it prints where an input can't be read on, by what is left of each, and
+-- where there is no memory for the answer; and all that it has printed whenever it asks for more of an input, by what that has left
 pub record Telling : Type 1 where
   pub tells : Inputs → List ℕ → Outcome → Type 0
   pub begins : Inputs → List ℕ → Type 0
   pub cut : Inputs → Inputs → List ℕ → Type 0
   pub starved : Inputs → List ℕ → Type 0
+  pub told_first : Inputs → Option (List ℕ) → List ℕ → Type 0
+  pub told_second : Inputs → Option (List ℕ) → List ℕ → Type 0
+  pub told_third : Inputs → Option (List ℕ) → List ℕ → Type 0
 
 -- one of these texts was written, or a front of one
 abbrev pub Wrote : Option (List ℕ) → Option (List ℕ) → (List ℕ → Type 0) → Type 0
@@ -38,6 +41,15 @@ Wrote written now texts = (text : List ℕ) × texts text × Appends written now
 
 abbrev pub WroteFront : Option (List ℕ) → Option (List ℕ) → (List ℕ → Type 0) → Type 0
 WroteFront written now texts = (text : List ℕ) × texts text × AppendsFront written now text
+
+-- How all stands before a call of a source: one of these texts, by what it has left, has gone out to the sink since that stood so, and
+-- nothing is held back
+abbrev pub HasTold : {S : Type 0} → (Option (List ℕ) → List ℕ → Type 0) → (S → Option (List ℕ)) → Seen → S → Seen → Type 0
+HasTold texts remaining before source sink = HoldsNothing before sink × Wrote before.bytes sink.bytes (texts (remaining source))
+
+-- nothing is told of an input while it is read
+abbrev pub Unwritten : Option (List ℕ) → List ℕ → Type 0
+Unwritten left text = text ≡ []
 
 -- what may have been printed a front of
 abbrev pub MayTell : Telling → Inputs → List ℕ → Type 0

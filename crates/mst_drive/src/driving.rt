@@ -1,6 +1,6 @@
 ghost use Rattle.std.specs.Prelude.{◌≡◌, ◌+◌, ◌<◌, ◌≤◌, ◌^◌, ◌∷◌, [], false, Err, OnOk, OnErr};
-ghost use Rattle.mst_io.specs.Devices.{Hears, IsCalled, StopsAtZero, seen_by, stopped_by};
-ghost use Rattle.mst_drive.specs.Driving.{Driven, DrivenEnded, DrivenFront, DrivenLines, Halts};
+ghost use Rattle.mst_io.specs.Devices.{HearsWhere, IsCalled, StopsAtZero, seen_by, stopped_by};
+ghost use Rattle.mst_drive.specs.Driving.{Driven, DrivenEnded, DrivenFront, DrivenLines, DrivenOn, Halts};
 ghost use Rattle.mst_drive.specs.Turned.{Turned, turning};
 
 use crate::feed::{end_input, feed, finish};
@@ -28,7 +28,7 @@ pub fn drive<J: Job, S: Source, K: Sink>(
     ensures read { result ≡ Err RunFault.Read → DrivenEnded J.tells job.old (S.remaining source.old) (S.remaining source.new) (K.contents sink.old) (K.contents sink.new) }
     ensures memory { result ≡ Err RunFault.Memory → J.lacks × DrivenLines J.tells job.old (S.remaining source.old) (K.contents sink.old) (K.contents sink.new) }
     ensures turned { Turned turns (turning (seen_by S.told S.remaining S.lent) source.old source.new ∷ []) (seen_by K.told K.contents K.lent sink.old) (seen_by K.told K.contents K.lent sink.new) (stopped_by result) }
-    ensures heard { Hears S.hears source.old source.new }
+    ensures heard { HearsWhere S.hears (DrivenOn J.tells job.old (S.remaining source.old) S.remaining (seen_by K.told K.contents K.lent sink.old)) source.old source.new }
 {
     drive_lines(job, source, sink, turns)
 }
@@ -54,7 +54,7 @@ fn drive_lines<J: Job, S: Source, K: Sink>(
     ensures sink_calls { StopsAtZero (K.told sink.old) (K.told sink.new) }
     ensures lent_source { S.lent source.new ≡ S.lent source.old }
     ensures lent_sink { K.lent sink.new ≡ K.lent sink.old }
-    ensures heard { Hears S.hears source.old source.new }
+    ensures heard { HearsWhere S.hears (DrivenOn J.tells job.old (S.remaining source.old) S.remaining (seen_by K.told K.contents K.lent sink.old)) source.old source.new }
 {
     let mut held = HeldLine::new();
     let mut number = 1;
@@ -65,7 +65,7 @@ fn drive_lines<J: Job, S: Source, K: Sink>(
             Err(_) => return Err(RunFault::Write),
             Ok(()) => {}
         }
-        let count = match source.fill(&mut chunk) {
+        let count = match source.fill(&mut chunk, sink) {
             Err(_) => return Err(RunFault::Read),
             Ok(count) => count,
         };

@@ -5,10 +5,12 @@ use Rattle.std.specs.Io.KnownBytes.{Appends}
 use Rattle.mst_report.specs.Planned.{planned_state}
 use Rattle.mst_report.specs.State.{State, IsState}
 use Rattle.mst_lang.specs.Lines.{last_line, no_line}
+use Rattle.mst_io.specs.Devices.{HearsWhere, Seen}
 use Rattle.mst_io.specs.Held.{lines_held}
 use Rattle.mst_io.specs.Written.{AppendsFront, Reads}
-use Rattle.mst_drive.specs.Driving.{Driven, DrivenEnded, DrivenFront}
-use Rattle.mst_drive.specs.Words.{Wrote, WroteFront}
+use Rattle.mst_io.proofs.Chains.{Hears-as}
+use Rattle.mst_drive.specs.Driving.{Driven, DrivenEnded, DrivenFront, DrivenOn}
+use Rattle.mst_drive.specs.Words.{HasTold, Wrote, WroteFront}
 use Rattle.mst_engine.specs.Engine.{IsCounted, Tally, RunsOn, begun, does, outcome_of, tally_of, tallied}
 use Rattle.mst_engine.specs.Served.{IsFew, Served, ServedEnded, Serves}
 use Rattle.mst_engine.specs.Serving.{Awaits, Ends, Tells}
@@ -126,3 +128,9 @@ module _ (old : Serving) (begins : tally_of old.engine ≡ begun (state_of old))
 
   pub served_few : (new : Serving) → Driven Awaits Tells Ends old new reads written now → IsFew (outcome_of (tally_of new.engine))
   served_few new d = subst (λ (j : Serving). IsFew (outcome_of (tally_of j.engine))) (sym (d.ended).1) (few_told d.job.engine d.number d.waits.counted d.waits.numbered d.few)
+
+-- what has gone out before each call of the source
+pub told_served_on : {S : Type 0} (does : S → S → List ℕ → Seen → Type 0) (remaining : S → Option (List ℕ)) (old : Serving) → tally_of old.engine ≡ begun (state_of old) → (reads : Option (List ℕ)) (before : Seen) (from now : S)
+    → HearsWhere does (DrivenOn Tells old reads remaining before) from now → HearsWhere does (HasTold (ServedEnded old.input (state_of old) reads) remaining before) from now
+told_served_on does remaining old begins reads before from now calls =
+    Hears-as does (DrivenOn Tells old reads remaining before) (HasTold (ServedEnded old.input (state_of old) reads) remaining before) (λ source sink h. (h.0, served_ended old begins reads (remaining source) before.bytes sink.bytes h.1)) from now calls

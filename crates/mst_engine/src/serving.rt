@@ -1,8 +1,8 @@
 ghost use Rattle.std.specs.Prelude.{◌≡◌, ◌≢◌, ◌≤◌, ◌^◌, ◌∷◌, [], false, Err, OnOk, OnErr};
 ghost use Rattle.mst_report.specs.Planned.{planned_state};
 ghost use Rattle.mst_drive.specs.Turned.{Turned, turning};
-ghost use Rattle.mst_drive.specs.Words.{Wrote, WroteFront};
-ghost use Rattle.mst_io.specs.Devices.{Hears, seen_by, stopped_by};
+ghost use Rattle.mst_drive.specs.Words.{HasTold, Wrote, WroteFront};
+ghost use Rattle.mst_io.specs.Devices.{HearsWhere, seen_by, stopped_by};
 ghost use Rattle.mst_engine.specs.Engine.{IsReady, begun, tally_of, outcome_of};
 ghost use Rattle.mst_engine.specs.Served.{IsFew, Served, ServedEnded, Serves};
 
@@ -93,7 +93,7 @@ pub fn serve_input<S: Source, K: Sink>(
     ensures read { result ≡ Err RunFault.Read → Wrote (K.contents sink.old) (K.contents sink.new) (ServedEnded serving.old.input (planned_state serving.old.engine.planner) (S.remaining source.old) (S.remaining source.new)) }
     ensures memory { result ≢ Err RunFault.Memory }
     ensures turned { Turned turns (turning (seen_by S.told S.remaining S.lent) source.old source.new ∷ []) (seen_by K.told K.contents K.lent sink.old) (seen_by K.told K.contents K.lent sink.new) (stopped_by result) }
-    ensures heard { Hears S.hears source.old source.new }
+    ensures heard { HearsWhere S.hears (HasTold (ServedEnded serving.old.input (planned_state serving.old.engine.planner) (S.remaining source.old)) S.remaining (seen_by K.told K.contents K.lent sink.old)) source.old source.new }
 {
     match drive(serving, source, sink, turns) {
         Err(fault) => Err(fault),

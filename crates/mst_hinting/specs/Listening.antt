@@ -86,9 +86,9 @@ abbrev pub Begins : {S E : Type 0} → (S → Seen) → (E → Seen) → Bool �
 Begins source_of errors_of wanted of source errors from =
     Stands wanted of (source_of source) (source_of from.source.now) (errors_of errors) (errors_of from.errors.now) [] from.telling.now
 
--- What a call does that gives these bytes: the references stay, those that the devices were lent too, and whatever began goes on
--- with the bytes that were read
-pub record Listens {S E : Type 0} (source_of : S → Seen) (errors_of : E → Seen) (old new : Hinting S E) (bytes : List ℕ) : Type 0 where
+-- What a call does that gives these bytes, whatever sink it is shown: the references stay, those that the devices were lent too, and
+-- whatever began goes on with the bytes that were read
+pub record Listens {S E : Type 0} (source_of : S → Seen) (errors_of : E → Seen) (old new : Hinting S E) (bytes : List ℕ) (shown : Seen) : Type 0 where
   pub source : new.source.ghost_name ≡ old.source.ghost_name
   pub errors : new.errors.ghost_name ≡ old.errors.ghost_name
   pub lent_source : (source_of new.source.now).lent ≡ (source_of old.source.now).lent

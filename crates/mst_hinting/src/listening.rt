@@ -73,9 +73,9 @@ impl<S: Source, E: Sink> Source for Hinting<'_, S, E> {
         self.source.failed()
     }
 
-    fn fill(&mut self, buffer: &mut [u8]) -> Result<usize, Failed> {
+    fn fill<K: Sink>(&mut self, buffer: &mut [u8], sink: &K) -> Result<usize, Failed> {
         self.telling.write(self.errors);
-        let answer = self.source.fill(buffer);
+        let answer = self.source.fill(buffer, sink);
         self.telling.hear(answer, buffer);
         answer
     }

@@ -7,14 +7,15 @@ use Rattle.mst_io.specs.declared.outcome.RunFault.{RunFault}
 use Rattle.mst_io.specs.declared.outcome.RunFault.TheVariants.{Read, Write, Memory}
 
 -- What a device tells: whether it has failed; how many calls it has answered, one with an error included; how many bytes
--- went through in them; how many of these answered 0 though there was a byte to take, or room for one; and whether the last
--- one did
+-- went through in them; how many of these answered 0 though there was a byte to take, or room for one; whether the last
+-- one did; and whether one came since it was last flushed, so that it may hold back some of what it took
 pub record Told : Type 0 where
   pub failed : Bool
   pub calls : ℕ
   pub bytes : ℕ
   pub zeros : ℕ
   pub at_zero : Bool
+  pub unsent : Bool
 
 -- what a device tells of its calls; its bytes, as far as it tells them: those that it will give, or those that it holds; and the
 -- reference that it was lent
@@ -28,7 +29,7 @@ seen_by told bytes lent device = record { told = told device; bytes = bytes devi
 
 -- a device that was not called yet
 abbrev pub uncalled : Told
-uncalled = record { failed = false; calls = 0; bytes = 0; zeros = 0; at_zero = false }
+uncalled = record { failed = false; calls = 0; bytes = 0; zeros = 0; at_zero = false; unsent = false }
 
 -- how many bytes went through in a call
 abbrev pub bytes_of : Result ℕ Failed → ℕ
@@ -53,21 +54,28 @@ called old result size = record {
   bytes = old.bytes + bytes_of result;
   zeros = old.zeros + (if is_zero result size then 1 else 0);
   at_zero = is_zero result size;
+  unsent = true;
 }
 
 -- after what a sink held back was sent on: that is no call
 abbrev pub flushed : {A : Type 0} → Told → Result A Failed → Told
-flushed old result = record old { failed = is_err result }
+flushed old result = record old { failed = is_err result; unsent = is_err result }
 
 -- what a count tells
 abbrev pub told_by : Count → Told
-told_by c = record { failed = c.is_broken || c.calls == 2 ^ 64 - 1; calls = c.calls; bytes = c.bytes; zeros = c.zeros; at_zero = c.at_zero }
+told_by c = record { failed = c.is_broken || c.calls == 2 ^ 64 - 1; calls = c.calls; bytes = c.bytes; zeros = c.zeros; at_zero = c.at_zero; unsent = c.unsent }
 
 -- the sink hasn't failed, and took some of each part: so in each call a byte went through
 pub record Works (old new : Told) : Type 0 where
   pub working : new.failed ≡ false
   pub taken : new.zeros ≡ old.zeros
   pub each : new.calls + old.bytes ≤ old.calls + new.bytes
+
+-- a sink that stood so before works, writes through the same reference, and holds nothing back
+pub record HoldsNothing (before now : Seen) : Type 0 where
+  pub works : Works before.told now.told
+  pub lent : now.lent ≡ before.lent
+  pub sent : now.told.unsent ≡ false
 
 -- the sink failed, or took nothing of a part that had a byte
 abbrev pub IsBroken : Told → Told → Type 0
@@ -114,11 +122,15 @@ Stops turns source source_now sink sink_now (Some Write) = IsBroken sink sink_no
 Stops turns source source_now sink sink_now (Some Memory) = (source_now ≡ source) × (sink_now ≡ sink)
 
 -- ---- what a source hears
--- calls one after another, by what each of them does, which gives one chunk
-abbrev pub Chain : {S : Type 0} → (S → S → List ℕ → Type 0) → S → S → List (List ℕ) → Type 0
-Chain does from now [] = now ≡ from
-Chain does from now (chunk ∷ chunks) = (next : _) × does from next chunk × Chain does next now chunks
+-- Calls of a source, one after another, by what each of them does, which gives one chunk. Before each of them the source and the sink
+-- stand so
+abbrev pub Chain : {S : Type 0} → (S → S → List ℕ → Seen → Type 0) → (S → Seen → Type 0) → S → S → List (List ℕ) → Type 0
+Chain does stand from now [] = now ≡ from
+Chain does stand from now (chunk ∷ chunks) = (next : _) × (sink : Seen) × stand from sink × does from next chunk sink × Chain does stand next now chunks
 
--- some calls, one after another
-abbrev pub Hears : {S : Type 0} → (S → S → List ℕ → Type 0) → S → S → Type 0
-Hears does from now = (chunks : List (List ℕ)) × Chain does from now chunks
+-- some calls, one after another, each where these stand so; and whatever stands
+abbrev pub HearsWhere : {S : Type 0} → (S → S → List ℕ → Seen → Type 0) → (S → Seen → Type 0) → S → S → Type 0
+HearsWhere does stand from now = (chunks : List (List ℕ)) × Chain does stand from now chunks
+
+abbrev pub Hears : {S : Type 0} → (S → S → List ℕ → Seen → Type 0) → S → S → Type 0
+Hears does from now = HearsWhere does (λ source sink. Unit {0}) from now

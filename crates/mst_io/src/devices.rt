@@ -2,7 +2,7 @@ ghost use Rattle.std.specs.Prelude.{◌≡◌, ℕ, false, List, length, Option,
 ghost use Rattle.std.specs.Borrow.{GName};
 ghost use Rattle.std.specs.Io.{ReadsAtMost, WritesAtMost};
 ghost use Rattle.std.specs.Io.KnownBytes.{Keeps, ReadConsumes, WriteAppends};
-ghost use Rattle.mst_io.specs.Devices.{Told, called, flushed, given};
+ghost use Rattle.mst_io.specs.Devices.{Seen, Told, called, flushed, given, seen_by};
 
 /// The device has failed. It isn't called again.
 #[derive(Clone, Copy, Debug, PartialEq, Eq)]
@@ -21,21 +21,24 @@ pub trait Source {
     /// done with it.
     ghost lent: { Self → Option GName } = { λ _. None };
 
-    /// What else a call does, which gives these bytes: a source may listen to what goes through it.
-    ghost hears: { Self → Self → List ℕ → Type 0 } = { λ _ _ _. ⊤ };
+    /// What else a call does, which gives these bytes and is shown this sink: a source may listen to what goes through it, and note
+    /// what had gone out by then.
+    ghost hears: { Self → Self → List ℕ → Seen → Type 0 } = { λ _ _ _ _. ⊤ };
 
     /// Whether it has failed.
     fn failed(&self) -> bool
         ensures { result ≡ (told self.now).failed };
 
-    /// Gives bytes, at the front of the buffer. None, where there is room, are the end.
-    fn fill(&mut self, buffer: &mut [u8]) -> Result<usize, Failed>
+    /// Gives bytes, at the front of the buffer. None, where there is room, are the end. It is shown the sink that what is told of the
+    /// bytes goes to, and is called only where that holds nothing back: who waits for what was told before it gives more has got it.
+    fn fill<K: Sink>(&mut self, buffer: &mut [u8], sink: &K) -> Result<usize, Failed>
         requires working { (told self.old).failed ≡ false }
+        requires sent { (K.told sink.now).unsent ≡ false }
         ensures bound { ReadsAtMost result buffer.new }
         ensures bytes { ReadConsumes (remaining self.old) (remaining self.new) result buffer.new }
         ensures told { told self.new ≡ called (told self.old) result (length buffer.old) }
         ensures lent { lent self.new ≡ lent self.old }
-        ensures heard { hears self.old self.new (given result buffer.new) };
+        ensures heard { hears self.old self.new (given result buffer.new) (seen_by K.told K.contents K.lent sink.now) };
 }
 
 /// What a text is written to, a call at a time, until it fails. [`ToWrite`](crate::ToWrite) makes one of a writer.

@@ -16,6 +16,8 @@ struct Count {
     zeros: u64,
     /// Whether the last one did.
     at_zero: bool,
+    /// Whether a call came since it was last flushed.
+    unsent: bool,
     ghost few: { zeros ≤ calls },
 }
 
@@ -33,6 +35,7 @@ impl Count {
             bytes: 0,
             zeros: 0,
             at_zero: false,
+            unsent: false,
         }
     }
 
@@ -70,6 +73,7 @@ impl Count {
             },
             zeros: if at_zero { self.zeros + 1 } else { self.zeros },
             at_zero,
+            unsent: true,
         };
     }
 
@@ -79,6 +83,7 @@ impl Count {
         ensures { told_by self.new ≡ flushed (told_by self.old) answer }
     {
         self.is_broken = answer.is_err();
+        self.unsent = self.is_broken;
     }
 }
 
@@ -122,7 +127,7 @@ impl<R: Read> Source for FromRead<'_, R> {
         self.count.failed()
     }
 
-    fn fill(&mut self, buffer: &mut [u8]) -> Result<usize, Failed> {
+    fn fill<K: Sink>(&mut self, buffer: &mut [u8], _sink: &K) -> Result<usize, Failed> {
         let answer = if self.count.is_spent(buffer.len()) {
             Err(Failed)
         } else {

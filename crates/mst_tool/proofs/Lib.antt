@@ -12,3 +12,4 @@ pub mod EarlyRefusals
 pub mod WholeDiff
 pub mod WholeVerify
 pub mod WholeAlter
+pub mod HasTold

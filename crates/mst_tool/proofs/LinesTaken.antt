@@ -3,8 +3,11 @@ use Rattle.std.proofs.Common.{◌≡◌, ℕ, ◌+◌, Bool, true, false, List, 
 use Rattle.std.specs.Prelude.{◌⊎◌}
 use Rattle.std.specs.Global.{Global}
 use Rattle.std.specs.Io.KnownBytes.{Appends}
-use Rattle.mst_drive.specs.Driving.{Driven, DrivenFront}
+use Rattle.mst_drive.specs.Driving.{Driven, DrivenFront, DrivenOn}
+use Rattle.mst_drive.specs.Words.{HasTold, Unwritten}
+use Rattle.mst_io.specs.Devices.{HearsWhere, Seen}
 use Rattle.mst_io.specs.Held.{lines_held}
+use Rattle.mst_io.proofs.Chains.{Hears-as}
 use Rattle.mst_io.specs.Written.{AppendsFront}
 use Rattle.mst_lang.specs.Lines.{last_line}
 use Rattle.mst_tool.specs.Lines.{AreTaken, AwaitsCounted, EndsReading, TakesOn}
@@ -74,3 +77,9 @@ module _ {L : Type 0} (with_lines : L → ℕ → List (List ℕ) → L) where
         by : AppendsFront written now d.text ⊎ ((number : ℕ) × (said : List ℕ) × (after : Reading L) × EndsReading d.job number said after × AppendsFront written now (d.text ++ said)) → Appends written now []
         by (inl front) = nothing_front d.text (d.told).nothing front
         by (inr h) = nothing_front (d.text ++ h.1) (ap (λ s. d.text ++ s) (h.3).0 ∙ append-nil d.text ∙ (d.told).nothing) h.4
+
+-- of lines that are taken nothing is told
+pub none_told : {L S : Type 0} (does : S → S → List ℕ → Seen → Type 0) (remaining : S → Option (List ℕ)) (with_lines : L → ℕ → List (List ℕ) → L) (old : Reading L) (reads : Option (List ℕ)) (before : Seen) (from now : S)
+    → HearsWhere does (DrivenOn (TakesOn with_lines) old reads remaining before) from now → HearsWhere does (HasTold Unwritten remaining before) from now
+none_told does remaining with_lines old reads before from now calls =
+    Hears-as does (DrivenOn (TakesOn with_lines) old reads remaining before) (HasTold Unwritten remaining before) (λ source sink h. (h.0, ((h.1).text, ((h.1).told).nothing, (h.1).printed))) from now calls

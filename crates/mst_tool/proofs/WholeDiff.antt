@@ -4,12 +4,13 @@ use Rattle.std.specs.Io.KnownBytes.{Appends}
 use Rattle.std.specs.Option.{unwrap_or}
 use Rattle.std.proofs.KnownBytes.{Appends-trans}
 use Rattle.mst_engine.specs.diff.declared.diff.Differing.{Differing}
-use Rattle.mst_lang.specs.Lines.{lines_of, ended_lines}
+use Rattle.mst_lang.specs.Lines.{lines_of}
 use Rattle.mst_net.specs.Tables.{Net, IsNetwork}
 use Rattle.mst_engine.specs.report.Differing.{Differs}
 use Rattle.mst_engine.specs.report.Editing.{EditsTo}
 use Rattle.mst_engine.specs.report.State.{IsState, State, empty_state}
-use Rattle.mst_tool.specs.Diff.{CountsOf, LoadsBoth, old_net, new_net, TellsDifference, Diffs, DiffsScripts, counted_both, differing, differs_by}
+use Rattle.mst_tool.specs.Diff.{CountsOf, LoadsBoth, LoadsNewEnded, old_net, new_net, TellsDifference, Diffs, DiffsScripts, counted_both, differing, differs_by}
+use Rattle.mst_tool.specs.Load.{LoadsEnded}
 use Rattle.mst_tool.specs.declared.diffs.Between.{Between}
 use Rattle.mst_tool.specs.declared.diffs.Between.TheVariants.{Plans, Settings}
 use Rattle.mst_engine.specs.Engine.{Tally, outcome_of}
@@ -28,7 +29,7 @@ use Rattle.mst_rows.specs.Rows.{Row}
 use Rattle.mst_tool.specs.Shown.{diff_row, edits_row}
 use Rattle.mst_tool.proofs.Shown.{one_shown}
 use Rattle.mst_tool.proofs.WholeCheck.{counted_of, reads_all}
-use Rattle.mst_tool.proofs.WholeLoad.{OneLoad, LoadsStates}
+use Rattle.mst_tool.proofs.WholeLoad.{OneLoad, LoadsStates, loads_ended}
 
 -- the network of every script can be loaded without want of memory
 abbrev pub HasLoad : Type 0
@@ -131,6 +132,22 @@ loaded has shape reads =
     let more = has shape bytes in
     (texts_of more.0, counted_of (left_by empty_state more.0) more.0, record { bytes = bytes; steps = more.0; read = reads_all reads; runs = more.1; printed = refl; state = refl; memory = refl; refused = refl; differing = refl; answered = refl })
 
+-- an old script was served, and what was read of a new one
+pub new_loads_ended : OneLoad → (form : Form) (olds news left : Option (List ℕ)) (a b : List ℕ) (t : Tally) → Served (Network (of_old form)) empty_state olds a t → LoadsEnded (of_new form) news left b → LoadsNewEnded form olds news left (a ++ b)
+new_loads_ended one form olds news left a b t s r = record {
+  old = s.bytes;
+  read = r.read;
+  old_steps = s.steps;
+  new_steps = r.steps;
+  old_read = s.read;
+  consumed = r.consumed;
+  old_loads = s.runs;
+  new_loads = r.loads;
+  printed = λ i. s.printed i ++ r.printed i;
+  only_old = λ others loads. one (of_old form) (lines_of s.bytes) others s.steps loads s.runs;
+  only_new = r.only;
+}
+
 module _ (laws : Laws) (one : OneLoad) (states : LoadsStates) (between : Between) (form : Form) (given left : Inputs) (written now : Option (List ℕ)) where
   -- one that was stopped in the old script
   pub front_in_old : HasLoad → WroteFront written now (Serves (Network (of_old form)) empty_state given.first) → WroteFront written now (MayTell (differing between form) given)
@@ -148,23 +165,7 @@ module _ (laws : Laws) (one : OneLoad) (states : LoadsStates) (between : Between
 
     -- and there by its reader
     pub new_ended : Wrote mid now (ServedEnded (Network (of_new form)) empty_state given.second left.second) → Wrote written now ((differing between form).cut given left)
-    new_ended (b, r, went) = (
-      old.0 ++ b,
-      inr (record {
-        old = (old.1).bytes;
-        read = r.read;
-        old_steps = (old.1).steps;
-        new_steps = r.steps;
-        old_read = (old.1).read;
-        consumed = r.consumed;
-        old_loads = (old.1).runs;
-        new_loads = r.runs;
-        printed = λ i. (old.1).printed i ++ r.printed i;
-        only_old = λ others loads. one (of_old form) (lines_of (old.1).bytes) others (old.1).steps loads (old.1).runs;
-        only_new = λ others loads. one (of_new form) (ended_lines r.read) others r.steps loads r.runs;
-      }),
-      Appends-trans written mid now old.0 b old.2 went,
-    )
+    new_ended (b, r, went) = (old.0 ++ b, inr (new_loads_ended one form given.first given.second left.second old.0 b t old.1 (loads_ended one (of_new form) given.second left.second b r)), Appends-trans written mid now old.0 b old.2 went)
 
     module _ (end : Option (List ℕ)) (u : Tally) (new : Wrote mid end (λ text. Served (Network (of_new form)) empty_state given.second text u)) where
       both_printed : Appends written end (old.0 ++ new.0)

@@ -15,7 +15,7 @@ use Rattle.mst_io.specs.declared.outcome.Outcome.{Outcome}
 use Rattle.mst_print.specs.Shape.{of_script}
 use Rattle.mst_print.specs.declared.form.Form.{Form}
 use Rattle.mst_tool.specs.Lines.{AreLines, AreSteps}
-use Rattle.mst_tool.specs.Load.{LoadsOrEnded, LoadsScript}
+use Rattle.mst_tool.specs.Load.{LoadsEnded, LoadsOrEnded, LoadsScript}
 use Rattle.mst_tool.specs.Shown.{IsShown, steps_row}
 use Rattle.mst_tool.specs.declared.alters.Stepping.{Stepping}
 
@@ -76,4 +76,7 @@ altering form judged = record {
   begins = λ given text. LoadsScript (of_script form) given.first text;
   cut = λ given left text. LoadsOrEnded (of_script form) given.first left.first text;
   starved = λ given text. LoadsScript (of_script form) given.first text;
+  told_first = λ given. LoadsEnded (of_script form) given.first;
+  told_second = λ given left. LoadsScript (of_script form) given.first;
+  told_third = λ given left. LoadsScript (of_script form) given.first;
 }

@@ -219,6 +219,9 @@ asking form question = record {
   begins = λ given text. LoadsScript (of_script form) given.first text;
   cut = λ given left text. LoadsEnded (of_script form) given.first left.first text;
   starved = λ given text. LoadsScript (of_script form) given.first text;
+  told_first = λ given. LoadsEnded (of_script form) given.first;
+  told_second = λ given left text. ⊥;
+  told_third = λ given left text. ⊥;
 }
 
 -- what an answer prints, and what it counts

@@ -112,4 +112,7 @@ differing between form = record {
   begins = λ given text. ⊥;
   cut = λ given left text. LoadsEnded (of_old form) given.first left.first text ⊎ LoadsNewEnded form given.first given.second left.second text;
   starved = λ given text. DiffsScripts form given.first given.second text;
+  told_first = λ given. LoadsEnded (of_old form) given.first;
+  told_second = λ given. LoadsNewEnded form given.first given.second;
+  told_third = λ given left text. ⊥;
 }

@@ -13,7 +13,7 @@ use Rattle.mst_io.specs.Written.{Reads}
 use Rattle.mst_io.specs.declared.outcome.Outcome.{Outcome}
 use Rattle.mst_print.specs.Shape.{of_script}
 use Rattle.mst_print.specs.declared.form.Form.{Form}
-use Rattle.mst_tool.specs.Load.{LoadsOrEnded, LoadsScript}
+use Rattle.mst_tool.specs.Load.{LoadsEnded, LoadsOrEnded, LoadsScript}
 use Rattle.mst_tool.specs.Lines.{AreLines}
 use Rattle.mst_tool.specs.Shown.{IsShown, verify_row}
 use Rattle.mst_tool.specs.declared.verifies.Verification.{Verification}
@@ -59,4 +59,7 @@ verifying form = record {
   begins = λ given text. LoadsScript (of_script form) given.first text;
   cut = λ given left text. LoadsOrEnded (of_script form) given.first left.first text;
   starved = λ given text. LoadsScript (of_script form) given.first text;
+  told_first = λ given. LoadsEnded (of_script form) given.first;
+  told_second = λ given left. LoadsScript (of_script form) given.first;
+  told_third = λ given left text. ⊥;
 }

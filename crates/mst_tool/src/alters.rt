@@ -2,10 +2,12 @@ ghost use Rattle.std.specs.Prelude.{◌≡◌, ◌+◌, ◌≤◌, ◌<◌, ◌�
 ghost use Rattle.std.specs.Io.KnownBytes.{Appends};
 ghost use Rattle.mst_change.specs.Steps.{all_lines};
 ghost use Rattle.mst_drive.specs.Turned.{Turned, turning};
-ghost use Rattle.mst_drive.specs.Words.{Ended, Inputs, inputs};
+ghost use Rattle.mst_drive.specs.Words.{Ended, HasTold, Inputs, Unwritten, inputs};
 ghost use Rattle.mst_engine.specs.Served.{IsFew};
 ghost use Rattle.mst_engine.specs.report.Planned.{planned_state};
-ghost use Rattle.mst_io.specs.Devices.{Hears, seen_by, stopped_by};
+ghost use Rattle.mst_io.specs.Devices.{HearsWhere, seen_by, stopped_by};
+ghost use Rattle.mst_print.specs.Shape.{of_script};
+ghost use Rattle.mst_tool.specs.Load.{LoadsEnded, LoadsScript};
 ghost use Rattle.mst_tool.specs.Alter.{TellsSteps, altering, counted_along, course_of, policy_if};
 ghost use Rattle.mst_tool.specs.Lines.{AreLines, AreSteps};
 
@@ -94,9 +96,9 @@ pub fn steps_within<S: Source, C: Source, P: Source, K: Sink>(
     ensures lent_change { C.lent change.new ≡ C.lent change.old }
     ensures lent_policy { P.lent policy.new ≡ P.lent policy.old }
     ensures lent_sink { K.lent sink.new ≡ K.lent sink.old }
-    ensures heard_script { Hears S.hears script.old script.new }
-    ensures heard_change { Hears C.hears change.old change.new }
-    ensures heard_policy { Hears P.hears policy.old policy.new }
+    ensures heard_script { HearsWhere S.hears (HasTold (LoadsEnded (of_script form) (S.remaining script.old)) S.remaining (seen_by K.told K.contents K.lent sink.old)) script.old script.new }
+    ensures heard_change { HearsWhere C.hears (HasTold (λ left. LoadsScript (of_script form) (S.remaining script.old)) C.remaining (seen_by K.told K.contents K.lent sink.old)) change.old change.new }
+    ensures heard_policy { HearsWhere P.hears (HasTold (λ left. LoadsScript (of_script form) (S.remaining script.old)) P.remaining (seen_by K.told K.contents K.lent sink.old)) policy.old policy.new }
 {
     one_load();
     let shape = Shape {
@@ -184,8 +186,8 @@ fn read_both<C: Source, P: Source, K: Sink>(
     ensures few_policy { IfOk result (λ both. length both.policy < 2 ^ 60) }
     ensures unwritten { Appends (K.contents sink.old) (K.contents sink.new) [] }
     ensures turned { Turned turns (turning (seen_by C.told C.remaining C.lent) change.old change.new ∷ turning (seen_by P.told P.remaining P.lent) policy.old policy.new ∷ []) (seen_by K.told K.contents K.lent sink.old) (seen_by K.told K.contents K.lent sink.new) (stopped_by result) }
-    ensures heard_change { Hears C.hears change.old change.new }
-    ensures heard_policy { Hears P.hears policy.old policy.new }
+    ensures heard_change { HearsWhere C.hears (HasTold Unwritten C.remaining (seen_by K.told K.contents K.lent sink.old)) change.old change.new }
+    ensures heard_policy { HearsWhere P.hears (HasTold Unwritten P.remaining (seen_by K.told K.contents K.lent sink.old)) policy.old policy.new }
 {
     match read_change(alloc, change, sink, turns) {
         Err(fault) => Err(fault),

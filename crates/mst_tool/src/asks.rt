@@ -1,12 +1,14 @@
 ghost use Rattle.std.specs.Prelude.{◌≡◌, ◌≤◌, ◌∷◌, [], ◌^◌, ℕ, false, true, List, Option, None, IfOk, OnOk, OnErr};
 ghost use Rattle.std.specs.Io.KnownBytes.{Appends};
 ghost use Rattle.mst_drive.specs.Turned.{Turned, turning};
-ghost use Rattle.mst_drive.specs.Words.{Ended, one_input};
+ghost use Rattle.mst_drive.specs.Words.{Ended, HasTold, one_input};
 ghost use Rattle.mst_engine.specs.Served.{IsFew};
 ghost use Rattle.mst_engine.specs.report.Picturing.{Depicts, DepictsVlan};
 ghost use Rattle.mst_engine.specs.report.Planned.{planned_state};
-ghost use Rattle.mst_io.specs.Devices.{Hears, Works, IsStopped, seen_by, stopped_by};
+ghost use Rattle.mst_io.specs.Devices.{HearsWhere, Works, IsStopped, seen_by, stopped_by};
 ghost use Rattle.mst_io.specs.Written.{AppendsFront};
+ghost use Rattle.mst_print.specs.Shape.{of_script};
+ghost use Rattle.mst_tool.specs.Load.{LoadsEnded};
 ghost use Rattle.mst_tool.specs.Ask.{IsAnswer, answer_text, asking, counted_with, is_nothing as none_advised, is_refused, keeps, told_of, unadvised_early, unexplained_early};
 ghost use Rattle.mst_tool.specs.declared.asked.Question.TheVariants.{Advice, Explain};
 
@@ -116,7 +118,7 @@ pub fn ask_within<S: Source, K: Sink>(
     ensures turned { Turned turns (turning (seen_by S.told S.remaining S.lent) source.old source.new ∷ []) (seen_by K.told K.contents K.lent sink.old) (seen_by K.told K.contents K.lent sink.new) (stopped_by result) }
     ensures lent_source { S.lent source.new ≡ S.lent source.old }
     ensures lent_sink { K.lent sink.new ≡ K.lent sink.old }
-    ensures heard { Hears S.hears source.old source.new }
+    ensures heard { HearsWhere S.hears (HasTold (LoadsEnded (of_script form) (S.remaining source.old)) S.remaining (seen_by K.told K.contents K.lent sink.old)) source.old source.new }
 {
     states();
     one_load();

@@ -1,15 +1,16 @@
 ghost use Rattle.std.specs.Prelude.{◌≡◌, ◌≢◌, ◌+◌, ◌∷◌, [], ◌^◌, ◌<◌, ◌≤◌, false, true, Err, OnOk, OnErr};
 ghost use Rattle.std.specs.Io.KnownBytes.{Appends};
 ghost use Rattle.mst_drive.specs.Turned.{Turned, turning};
-ghost use Rattle.mst_drive.specs.Words.{Ended, Inputs, Wrote, WroteFront, two_inputs};
+ghost use Rattle.mst_drive.specs.Words.{Ended, HasTold, Inputs, Wrote, WroteFront, two_inputs};
 ghost use Rattle.mst_engine.specs.Engine.{tally_of, outcome_of};
 ghost use Rattle.mst_engine.specs.Served.{IsFew, Served, ServedEnded, Serves, both};
 ghost use Rattle.mst_engine.specs.declared.engine.Input.TheVariants.{Captures};
 ghost use Rattle.mst_engine.specs.report.Planned.{planned_state};
-ghost use Rattle.mst_io.specs.Devices.{Hears, Works, IsStopped, seen_by, stopped_by};
+ghost use Rattle.mst_io.specs.Devices.{HearsWhere, Works, IsStopped, seen_by, stopped_by};
 ghost use Rattle.mst_io.specs.Written.{AppendsFront};
 ghost use Rattle.mst_print.specs.Shape.{listed};
-ghost use Rattle.mst_tool.specs.Check.{checking, counted_captures, idle_text, is_idle as is_idle_by, none_row};
+ghost use Rattle.mst_tool.specs.Run.{PrintsEnded};
+ghost use Rattle.mst_tool.specs.Check.{ComparesEnded, checking, counted_captures, idle_text, is_idle as is_idle_by, none_row};
 
 use crate::served::serve_first;
 use mst_drive::Word;
@@ -93,8 +94,8 @@ pub fn check_within<S: Source, C: Source, K: Sink>(
     ensures lent_script { S.lent script.new ≡ S.lent script.old }
     ensures lent_captures { C.lent captures.new ≡ C.lent captures.old }
     ensures lent_sink { K.lent sink.new ≡ K.lent sink.old }
-    ensures heard_script { Hears S.hears script.old script.new }
-    ensures heard_captures { Hears C.hears captures.old captures.new }
+    ensures heard_script { HearsWhere S.hears (HasTold (PrintsEnded form (S.remaining script.old)) S.remaining (seen_by K.told K.contents K.lent sink.old)) script.old script.new }
+    ensures heard_captures { HearsWhere C.hears (HasTold (ComparesEnded form (S.remaining script.old) (C.remaining captures.old)) C.remaining (seen_by K.told K.contents K.lent sink.old)) captures.old captures.new }
 {
     has_steps();
     states();
@@ -136,7 +137,7 @@ fn serve_captures<C: Source, K: Sink>(
     ensures read { result ≡ Err RunFault.Read → Wrote (K.contents sink.old) (K.contents sink.new) (ServedEnded (Captures form) (planned_state serving.old.engine.planner) (C.remaining captures.old) (C.remaining captures.new)) }
     ensures memory { result ≢ Err RunFault.Memory }
     ensures turned { Turned turns (turning (seen_by C.told C.remaining C.lent) captures.old captures.new ∷ []) (seen_by K.told K.contents K.lent sink.old) (seen_by K.told K.contents K.lent sink.new) (stopped_by result) }
-    ensures heard { Hears C.hears captures.old captures.new }
+    ensures heard { HearsWhere C.hears (HasTold (ServedEnded (Captures form) (planned_state serving.old.engine.planner) (C.remaining captures.old)) C.remaining (seen_by K.told K.contents K.lent sink.old)) captures.old captures.new }
 {
     serving.engine.restart();
     serving.input = Input::Captures(form);

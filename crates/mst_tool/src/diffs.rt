@@ -1,10 +1,12 @@
 ghost use Rattle.std.specs.Prelude.{◌≡◌, ◌≤◌, ◌∷◌, [], ◌^◌, false, IfOk};
 ghost use Rattle.mst_drive.specs.Turned.{Turned, turning};
-ghost use Rattle.mst_drive.specs.Words.{Ended, Inputs, two_inputs};
+ghost use Rattle.mst_drive.specs.Words.{Ended, HasTold, Inputs, two_inputs};
 ghost use Rattle.mst_engine.specs.Served.{IsFew};
 ghost use Rattle.mst_engine.specs.report.Planned.{planned_state};
-ghost use Rattle.mst_io.specs.Devices.{Hears, seen_by, stopped_by};
-ghost use Rattle.mst_tool.specs.Diff.{CountsOf, TellsDifference, counted_both, differing, differs_by};
+ghost use Rattle.mst_io.specs.Devices.{HearsWhere, seen_by, stopped_by};
+ghost use Rattle.mst_print.specs.Shape.{of_old};
+ghost use Rattle.mst_tool.specs.Load.{LoadsEnded};
+ghost use Rattle.mst_tool.specs.Diff.{CountsOf, LoadsNewEnded, TellsDifference, counted_both, differing, differs_by};
 
 use crate::opened::open_question;
 use crate::served::serve_first;
@@ -119,8 +121,8 @@ pub fn diff_within<O: Source, N: Source, K: Sink>(
     ensures lent_old { O.lent old.new ≡ O.lent old.old }
     ensures lent_new { N.lent new.new ≡ N.lent new.old }
     ensures lent_sink { K.lent sink.new ≡ K.lent sink.old }
-    ensures heard_old { Hears O.hears old.old old.new }
-    ensures heard_new { Hears N.hears new.old new.new }
+    ensures heard_old { HearsWhere O.hears (HasTold (LoadsEnded (of_old form) (O.remaining old.old)) O.remaining (seen_by K.told K.contents K.lent sink.old)) old.old old.new }
+    ensures heard_new { HearsWhere N.hears (HasTold (LoadsNewEnded form (O.remaining old.old) (N.remaining new.old)) N.remaining (seen_by K.told K.contents K.lent sink.old)) new.old new.new }
 {
     has_load();
     states();

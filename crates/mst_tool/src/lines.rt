@@ -1,7 +1,8 @@
 ghost use Rattle.std.specs.Prelude.{◌≡◌, ◌≤◌, ◌^◌, ◌∷◌, ◌+◌, [], ℕ, List, false, IfOk, OnOk};
 ghost use Rattle.std.specs.Io.KnownBytes.{Appends};
 ghost use Rattle.mst_drive.specs.Turned.{Turned, turning};
-ghost use Rattle.mst_io.specs.Devices.{Hears, seen_by, stopped_by};
+ghost use Rattle.mst_drive.specs.Words.{HasTold, Unwritten};
+ghost use Rattle.mst_io.specs.Devices.{HearsWhere, seen_by, stopped_by};
 ghost use Rattle.mst_tool.specs.Lines.{AreTaken};
 
 use mst_drive::{Job, Said, drive};
@@ -78,7 +79,7 @@ pub(crate) fn read_lines<S: Source, L: TakesLines + Drop, K: Sink>(
     ensures ok { IfOk result (AreTaken L.with_lines lines (S.remaining source.old)) }
     ensures unwritten { Appends (K.contents sink.old) (K.contents sink.new) [] }
     ensures turned { Turned turns (turning (seen_by S.told S.remaining S.lent) source.old source.new ∷ []) (seen_by K.told K.contents K.lent sink.old) (seen_by K.told K.contents K.lent sink.new) (stopped_by result) }
-    ensures heard { Hears S.hears source.old source.new }
+    ensures heard { HearsWhere S.hears (HasTold Unwritten S.remaining (seen_by K.told K.contents K.lent sink.old)) source.old source.new }
 {
     let mut reading = Reading {
         alloc,

@@ -1,7 +1,8 @@
 ghost use Rattle.std.specs.Prelude.{◌≡◌, ◌≤◌, ◌<◌, ◌^◌, ◌∷◌, [], false, length, IfOk};
 ghost use Rattle.std.specs.Io.KnownBytes.{Appends};
 ghost use Rattle.mst_drive.specs.Turned.{Turned, turning};
-ghost use Rattle.mst_io.specs.Devices.{Hears, seen_by, stopped_by};
+ghost use Rattle.mst_drive.specs.Words.{HasTold, Unwritten};
+ghost use Rattle.mst_io.specs.Devices.{HearsWhere, seen_by, stopped_by};
 ghost use Rattle.mst_change.specs.Steps.{all_lines};
 ghost use Rattle.mst_tool.specs.Lines.{AreLines, AreSteps};
 
@@ -49,7 +50,7 @@ pub fn read_policy<S: Source, K: Sink>(
     ensures few { IfOk result (λ policy. length policy < 2 ^ 60) }
     ensures unwritten { Appends (K.contents sink.old) (K.contents sink.new) [] }
     ensures turned { Turned turns (turning (seen_by S.told S.remaining S.lent) source.old source.new ∷ []) (seen_by K.told K.contents K.lent sink.old) (seen_by K.told K.contents K.lent sink.new) (stopped_by result) }
-    ensures heard { Hears S.hears source.old source.new }
+    ensures heard { HearsWhere S.hears (HasTold Unwritten S.remaining (seen_by K.told K.contents K.lent sink.old)) source.old source.new }
 {
     read_lines(alloc, Policy::new(alloc), source, sink, turns)
 }
@@ -68,7 +69,7 @@ pub(crate) fn read_change<S: Source, K: Sink>(
     ensures few { IfOk result (λ change. length (all_lines change.ended) < 2 ^ 60) }
     ensures unwritten { Appends (K.contents sink.old) (K.contents sink.new) [] }
     ensures turned { Turned turns (turning (seen_by S.told S.remaining S.lent) source.old source.new ∷ []) (seen_by K.told K.contents K.lent sink.old) (seen_by K.told K.contents K.lent sink.new) (stopped_by result) }
-    ensures heard { Hears S.hears source.old source.new }
+    ensures heard { HearsWhere S.hears (HasTold Unwritten S.remaining (seen_by K.told K.contents K.lent sink.old)) source.old source.new }
 {
     match read_lines(alloc, Change::new(alloc), source, sink, turns) {
         Err(fault) => Err(fault),

@@ -1,8 +1,8 @@
 ghost use Rattle.std.specs.Prelude.{◌≡◌, ◌≤◌, ◌∷◌, [], ◌^◌, ℕ, false, List, Option};
 ghost use Rattle.mst_drive.specs.Turned.{Turned, turning};
-ghost use Rattle.mst_drive.specs.Words.{Ended, one_input};
-ghost use Rattle.mst_io.specs.Devices.{Hears, seen_by, stopped_by};
-ghost use Rattle.mst_tool.specs.Run.{running, status_of};
+ghost use Rattle.mst_drive.specs.Words.{Ended, HasTold, one_input};
+ghost use Rattle.mst_io.specs.Devices.{HearsWhere, seen_by, stopped_by};
+ghost use Rattle.mst_tool.specs.Run.{PrintsEnded, running, status_of};
 
 use crate::served::serve_first;
 use mst_drive::Word;
@@ -75,7 +75,7 @@ pub fn run_within<S: Source, K: Sink>(
     ensures turned { Turned turns (turning (seen_by S.told S.remaining S.lent) source.old source.new ∷ []) (seen_by K.told K.contents K.lent sink.old) (seen_by K.told K.contents K.lent sink.new) (stopped_by result) }
     ensures lent_source { S.lent source.new ≡ S.lent source.old }
     ensures lent_sink { K.lent sink.new ≡ K.lent sink.old }
-    ensures heard { Hears S.hears source.old source.new }
+    ensures heard { HearsWhere S.hears (HasTold (PrintsEnded form (S.remaining source.old)) S.remaining (seen_by K.told K.contents K.lent sink.old)) source.old source.new }
 {
     one_run();
     match serve_first(alloc, Input::Script(form), source, sink, turns) {

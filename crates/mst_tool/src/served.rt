@@ -1,13 +1,15 @@
 ghost use Rattle.std.specs.Prelude.{◌≡◌, ◌≢◌, ◌≤◌, ◌∷◌, [], ◌^◌, false, Err, IfOk, OnErr};
 ghost use Rattle.mst_drive.specs.Turned.{Turned, turning};
-ghost use Rattle.mst_drive.specs.Words.{Wrote, WroteFront};
+ghost use Rattle.mst_drive.specs.Words.{HasTold, Wrote, WroteFront};
 ghost use Rattle.mst_engine.specs.Engine.{outcome_of, tally_of};
 ghost use Rattle.mst_engine.specs.Served.{IsFew, Served, ServedEnded, Serves};
 ghost use Rattle.mst_engine.specs.declared.engine.Input.TheVariants.{Captures};
 ghost use Rattle.mst_engine.specs.report.State.{empty_state};
-ghost use Rattle.mst_io.specs.Devices.{Hears, seen_by, stopped_by};
+ghost use Rattle.mst_io.specs.Devices.{HearsWhere, seen_by, stopped_by};
 ghost use Rattle.mst_print.specs.declared.form.Form.{Form};
+ghost use Rattle.mst_tool.specs.Load.{ScriptEnded};
 
+use mst_engine::laws::{one_load, one_run};
 use mst_engine::{Engine, Input, Serving, serve_input};
 use mst_io::{RunFault, Sink, Source};
 use std::alloc::Global;
@@ -31,8 +33,10 @@ pub(crate) fn serve_first<S: Source, K: Sink>(
     ensures read { result ≡ Err RunFault.Read → Wrote (K.contents sink.old) (K.contents sink.new) (ServedEnded input empty_state (S.remaining source.old) (S.remaining source.new)) }
     ensures memory { result ≢ Err RunFault.Memory }
     ensures turned { Turned turns (turning (seen_by S.told S.remaining S.lent) source.old source.new ∷ []) (seen_by K.told K.contents K.lent sink.old) (seen_by K.told K.contents K.lent sink.new) (stopped_by result) }
-    ensures heard { Hears S.hears source.old source.new }
+    ensures heard { HearsWhere S.hears (HasTold (ScriptEnded input (S.remaining source.old)) S.remaining (seen_by K.told K.contents K.lent sink.old)) source.old source.new }
 {
+    one_run();
+    one_load();
     let mut serving = Serving {
         input,
         engine: Engine::new(alloc),

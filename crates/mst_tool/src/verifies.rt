@@ -1,9 +1,11 @@
 ghost use Rattle.std.specs.Prelude.{◌≡◌, ◌+◌, ◌≤◌, ◌∷◌, [], ◌^◌, false, length, IfOk};
 ghost use Rattle.mst_drive.specs.Turned.{Turned, turning};
-ghost use Rattle.mst_drive.specs.Words.{Ended, Inputs, two_inputs};
+ghost use Rattle.mst_drive.specs.Words.{Ended, HasTold, Inputs, two_inputs};
 ghost use Rattle.mst_engine.specs.Served.{IsFew};
 ghost use Rattle.mst_engine.specs.report.Planned.{planned_state};
-ghost use Rattle.mst_io.specs.Devices.{Hears, seen_by, stopped_by};
+ghost use Rattle.mst_io.specs.Devices.{HearsWhere, seen_by, stopped_by};
+ghost use Rattle.mst_print.specs.Shape.{of_script};
+ghost use Rattle.mst_tool.specs.Load.{LoadsEnded, LoadsScript};
 ghost use Rattle.mst_tool.specs.Verify.{TellsVerification, counted_with, counts_of, verifying};
 
 use crate::opened::open_question;
@@ -76,8 +78,8 @@ pub fn verify_within<S: Source, P: Source, K: Sink>(
     ensures lent_script { S.lent script.new ≡ S.lent script.old }
     ensures lent_policy { P.lent policy.new ≡ P.lent policy.old }
     ensures lent_sink { K.lent sink.new ≡ K.lent sink.old }
-    ensures heard_script { Hears S.hears script.old script.new }
-    ensures heard_policy { Hears P.hears policy.old policy.new }
+    ensures heard_script { HearsWhere S.hears (HasTold (LoadsEnded (of_script form) (S.remaining script.old)) S.remaining (seen_by K.told K.contents K.lent sink.old)) script.old script.new }
+    ensures heard_policy { HearsWhere P.hears (HasTold (λ left. LoadsScript (of_script form) (S.remaining script.old)) P.remaining (seen_by K.told K.contents K.lent sink.old)) policy.old policy.new }
 {
     one_load();
     let shape = Shape {

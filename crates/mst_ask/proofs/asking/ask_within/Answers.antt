@@ -6,7 +6,7 @@ use Rattle.mst_drive.proofs.Turned.{turned_stopped, turned_then}
 use Rattle.mst_drive.proofs.Words.{ended_fault, front_as, wrote_as, wrote_front, wrote_still}
 use Rattle.mst_ask.specs.Asking.{standing}
 use Rattle.mst_ask.proofs.Opened.{one_fault, opened_with}
-use Rattle.mst_ask.proofs.Stand.{ask_ways, asked_all, asked_ended, asked_front, may_tell}
+use Rattle.mst_ask.proofs.Stand.{ask_ways, asked_all, asked_ended, asked_front, may_tell, policy_told, questions_told}
 use Rattle.mst_ask.proofs.asking.ask_within.Goals as goal
 
 -- ---- stopped in the script
@@ -99,3 +99,39 @@ returns-clause-turned g c =
     let questions = turning (seen_by g.Q.Source.told g.Q.Source.remaining g.Q.Source.lent) c.args.questions.now c.serve_questions.new.questions in
     turned_then c.args.turns source (policy ∷ questions ∷ []) _ _ _ None c.in-Ok.ensures.turned
     (turned_then c.args.turns policy (questions ∷ []) _ _ _ None c.in-Ok-read_policy.ensures.turned c.in-Ok-serve_questions.ensures.turned)
+
+pub returns-in-Err-read_policy-clause-heard_policy : goal.returns-in-Err-read_policy-clause-heard_policy
+returns-in-Err-read_policy-clause-heard_policy g c =
+    let look = seen_by g.K.Sink.told g.K.Sink.contents g.K.Sink.lent in
+    let given = inputs (g.S.Source.remaining c.args.script.now) (g.Q.Source.remaining c.args.questions.now) (g.P.Source.remaining c.args.policy.now) in
+    policy_told g.P.Source.hears g.P.Source.remaining c.args.form given (look c.args.sink.now) (look c.open.new.sink) c.in-Ok.opened c.in-Ok.ensures.ok c.args.turns _ c.in-Ok.ensures.turned c.args.policy.now c.read_policy.new.source c.read_policy.ensures.heard
+
+pub returns-in-Err-serve_questions-clause-heard_policy : goal.returns-in-Err-serve_questions-clause-heard_policy
+returns-in-Err-serve_questions-clause-heard_policy g c =
+    let look = seen_by g.K.Sink.told g.K.Sink.contents g.K.Sink.lent in
+    let given = inputs (g.S.Source.remaining c.args.script.now) (g.Q.Source.remaining c.args.questions.now) (g.P.Source.remaining c.args.policy.now) in
+    policy_told g.P.Source.hears g.P.Source.remaining c.args.form given (look c.args.sink.now) (look c.open.new.sink) c.in-Ok.opened c.in-Ok.ensures.ok c.args.turns _ c.in-Ok.ensures.turned c.args.policy.now c.read_policy.new.source c.read_policy.ensures.heard
+
+pub returns-clause-heard_policy : goal.returns-clause-heard_policy
+returns-clause-heard_policy g c =
+    let look = seen_by g.K.Sink.told g.K.Sink.contents g.K.Sink.lent in
+    let given = inputs (g.S.Source.remaining c.args.script.now) (g.Q.Source.remaining c.args.questions.now) (g.P.Source.remaining c.args.policy.now) in
+    policy_told g.P.Source.hears g.P.Source.remaining c.args.form given (look c.args.sink.now) (look c.open.new.sink) c.in-Ok.opened c.in-Ok.ensures.ok c.args.turns _ c.in-Ok.ensures.turned c.args.policy.now c.read_policy.new.source c.read_policy.ensures.heard
+
+pub returns-in-Err-serve_questions-clause-heard_questions : goal.returns-in-Err-serve_questions-clause-heard_questions
+returns-in-Err-serve_questions-clause-heard_questions g c =
+    let look = seen_by g.K.Sink.told g.K.Sink.contents g.K.Sink.lent in
+    let given = inputs (g.S.Source.remaining c.args.script.now) (g.Q.Source.remaining c.args.questions.now) (g.P.Source.remaining c.args.policy.now) in
+    let ways = ask_ways c.has_turns.ensures c.one_asking.ensures c.standings.ensures.loaded in
+    let asking = c.with_policy-asking in
+    questions_told g.Q.Source.hears g.Q.Source.remaining c.args.form given (look c.args.sink.now) (look c.open.new.sink) c.in-Ok.opened c.in-Ok.ensures.ok c.args.turns ways (look c.read_policy.new.sink) asking.result c.in-Ok-read_policy.lines c.read_policy.ensures.unwritten c.in-Ok-read_policy.ensures.ok asking.ensures _
+    (turned_then c.args.turns _ _ _ _ _ _ c.in-Ok.ensures.turned c.in-Ok-read_policy.ensures.turned) c.args.questions.now c.serve_questions.new.questions c.serve_questions.ensures.heard
+
+pub returns-clause-heard_questions : goal.returns-clause-heard_questions
+returns-clause-heard_questions g c =
+    let look = seen_by g.K.Sink.told g.K.Sink.contents g.K.Sink.lent in
+    let given = inputs (g.S.Source.remaining c.args.script.now) (g.Q.Source.remaining c.args.questions.now) (g.P.Source.remaining c.args.policy.now) in
+    let ways = ask_ways c.has_turns.ensures c.one_asking.ensures c.standings.ensures.loaded in
+    let asking = c.with_policy-asking in
+    questions_told g.Q.Source.hears g.Q.Source.remaining c.args.form given (look c.args.sink.now) (look c.open.new.sink) c.in-Ok.opened c.in-Ok.ensures.ok c.args.turns ways (look c.read_policy.new.sink) asking.result c.in-Ok-read_policy.lines c.read_policy.ensures.unwritten c.in-Ok-read_policy.ensures.ok asking.ensures _
+    (turned_then c.args.turns _ _ _ _ _ _ c.in-Ok.ensures.turned c.in-Ok-read_policy.ensures.turned) c.args.questions.now c.serve_questions.new.questions c.serve_questions.ensures.heard

@@ -1,4 +1,5 @@
-use Rattle.mst_ask.proofs.AskedBy.{answered_all, answered_ended, answered_few, answered_front, answered_loaded, begins_counted}
+use Rattle.mst_io.specs.Devices.{seen_by}
+use Rattle.mst_ask.proofs.AskedBy.{answered_all, answered_ended, answered_few, answered_front, answered_loaded, answered_told, begins_counted}
 use Rattle.mst_ask.proofs.questions.serve_questions.Goals as goal
 
 pub drive-requires-clause-awaits : goal.drive-requires-clause-awaits
@@ -18,3 +19,9 @@ returns-in-Ok-clause-few g c = answered_few c.args.asking.now c.requires.begins 
 
 pub returns-in-Ok-clause-loaded : goal.returns-in-Ok-clause-loaded
 returns-in-Ok-clause-loaded g c = answered_loaded c.args.asking.now c.requires.begins _ (g.Q.Source.remaining c.drive.new.source) _ _ c.drive.new.job c.in-Ok.ensures.ok
+
+pub returns-in-Err-clause-heard : goal.returns-in-Err-clause-heard
+returns-in-Err-clause-heard g c = answered_told g.Q.Source.hears g.Q.Source.remaining c.args.asking.now c.requires.begins (g.Q.Source.remaining c.args.questions.now) (seen_by g.K.Sink.told g.K.Sink.contents g.K.Sink.lent c.args.sink.now) c.args.questions.now c.drive.new.source c.drive.ensures.heard
+
+pub returns-in-Ok-clause-heard : goal.returns-in-Ok-clause-heard
+returns-in-Ok-clause-heard g c = answered_told g.Q.Source.hears g.Q.Source.remaining c.args.asking.now c.requires.begins (g.Q.Source.remaining c.args.questions.now) (seen_by g.K.Sink.told g.K.Sink.contents g.K.Sink.lent c.args.sink.now) c.args.questions.now c.drive.new.source c.drive.ensures.heard

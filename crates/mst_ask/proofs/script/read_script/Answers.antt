@@ -1,17 +1,23 @@
-use Rattle.std.proofs.Common.{◌≡◌, ◌∙◌, ◌≤◌, ◌+◌, ◌*◌, ◌++◌, ℕ, Bool, true, false, not, cond, is_ok, List, arith, refl, sym, ap, subst, take, length}
+use Rattle.std.proofs.Common.{◌≡◌, ◌∙◌, ◌≤◌, ◌+◌, ◌*◌, ◌++◌, ℕ, Bool, true, false, not, cond, is_ok, List, [], arith, refl, sym, ap, subst, take, length}
 use Rattle.std.specs.Io.KnownBytes.{Consumes}
-use Rattle.std.proofs.KnownBytes.{Consumes-nil, Consumes-trans}
+use Rattle.std.proofs.KnownBytes.{Appends-nil, Consumes-nil, Consumes-trans}
+use Rattle.mst_drive.specs.Words.{Unwritten, Wrote}
+use Rattle.mst_io.specs.Devices.{HoldsNothing, Seen, seen_by}
 use Rattle.mst_io.proofs.Calls.{works_on}
 use Rattle.mst_io.proofs.Chains.{Hears-none, Hears-more}
 use Rattle.mst_io.proofs.ReadBytes.{few_more}
 use Rattle.mst_ask.proofs.script.read_script.Goals as goal
+
+-- nothing was written
+none_told : (sink : Seen) → sink.told.failed ≡ false → sink.told.unsent ≡ false → HoldsNothing sink sink × Wrote sink.bytes sink.bytes (Unwritten sink.bytes)
+none_told sink working sent = (record { works = record { working = working; taken = refl; each = omega arith }; lent = refl; sent = sent }, ([], refl, Appends-nil sink.bytes))
 
 pub turns-init : goal.turns-init
 turns-init g c = record {
   consumed = subst (Consumes (g.S.Source.remaining c.args.source.now) (g.S.Source.remaining c.args.source.now)) (sym c.new-bytes.ensures.items) (Consumes-nil _);
   reading = record { working = c.requires.working; taken = refl; each = omega arith };
   calls = omega arith;
-  heard = Hears-none g.S.Source.hears c.args.source.now;
+  heard = Hears-none g.S.Source.hears _ c.args.source.now;
   lent = refl;
   few = omega (arith, ap length c.new-bytes.ensures.items);
 }
@@ -32,13 +38,13 @@ turns-preserved g c =
       consumed = subst (Consumes (g.S.Source.remaining c.args.source.now) (g.S.Source.remaining c.fill.new.self)) (sym more) (Consumes-trans _ _ _ old chunk was.consumed c.in-Ok.ensures.bytes.0);
       reading = works_on _ _ _ c.in-Ok.count _ was.reading c.in-Ok.ensures.told c.if-count-eq0.false;
       calls = ap (λ t. t.calls) c.in-Ok.ensures.told ∙ omega (arith, was.calls);
-      heard = Hears-more g.S.Source.hears c.args.source.now c.turns.source c.fill.new.self chunk was.heard c.in-Ok.ensures.heard;
+      heard = Hears-more g.S.Source.hears _ c.args.source.now c.turns.source c.fill.new.self chunk _ was.heard (none_told (seen_by g.K.Sink.told g.K.Sink.contents g.K.Sink.lent c.args.sink.now) c.requires.sink c.requires.sent) c.in-Ok.ensures.heard;
       lent = c.in-Ok.ensures.lent ∙ was.lent;
       few = subst (λ l. length l ≤ 4096 * (c.turns.turn + 1)) (sym more) (few_more old c.fill.new.buffer c.in-Ok.count c.turns.turn was.few c.in-Ok.ensures.bound.0 (omega arith));
     }
 
 pub returns-in-Err-clause-heard : goal.returns-in-Err-clause-heard
-returns-in-Err-clause-heard g c = Hears-more g.S.Source.hears c.args.source.now c.turns.source c.fill.new.self _ c.turns.invariant.heard c.in-Err.ensures.heard
+returns-in-Err-clause-heard g c = Hears-more g.S.Source.hears _ c.args.source.now c.turns.source c.fill.new.self _ _ c.turns.invariant.heard (none_told (seen_by g.K.Sink.told g.K.Sink.contents g.K.Sink.lent c.args.sink.now) c.requires.sink c.requires.sent) c.in-Err.ensures.heard
 
 pub returns-then-count-eq0-clause-heard : goal.returns-then-count-eq0-clause-heard
-returns-then-count-eq0-clause-heard g c = Hears-more g.S.Source.hears c.args.source.now c.turns.source c.fill.new.self _ c.turns.invariant.heard c.in-Ok.ensures.heard
+returns-then-count-eq0-clause-heard g c = Hears-more g.S.Source.hears _ c.args.source.now c.turns.source c.fill.new.self _ _ c.turns.invariant.heard (none_told (seen_by g.K.Sink.told g.K.Sink.contents g.K.Sink.lent c.args.sink.now) c.requires.sink c.requires.sent) c.in-Ok.ensures.heard

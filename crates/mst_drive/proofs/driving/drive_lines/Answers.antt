@@ -1,6 +1,7 @@
 use Rattle.std.proofs.Common.{◌≡◌, ◌++◌, [], Result, Err, Some, arith, take, refl, sym, ap, subst, ◌∙◌}
 use Rattle.std.proofs.KnownBytes.{Consumes-nil, Appends-nil, Appends-trans, Consumes-trans}
 use Rattle.mst_io.proofs.Calls.{broken_after, stops_after, works_on, works_both}
+use Rattle.mst_io.specs.Devices.{seen_by}
 use Rattle.mst_io.proofs.Chains.{Hears-none, Hears-more}
 use Rattle.mst_io.proofs.Known.{Appends-kept}
 use Rattle.mst_io.proofs.ReadBytes.{few_more, Consumes-kept, Consumes-none}
@@ -8,7 +9,7 @@ use Rattle.mst_io.specs.declared.outcome.RunFault.{RunFault}
 use Rattle.mst_io.specs.declared.outcome.RunFault.TheVariants.{Memory, Read}
 use Rattle.mst_drive.specs.Feeding.{Feeds}
 use Rattle.mst_drive.proofs.Feeds.{Breaks-after, Feeds-join, Feeds-nil}
-use Rattle.mst_drive.proofs.Drives.{works_sent, read_end, halts_end, stops_left, no_read, lacks_of, all_told, few_lines, cut, cut_lines, broken, broken_last, broken_end, starved_end, driven}
+use Rattle.mst_drive.proofs.Drives.{driven_on, works_sent, read_end, halts_end, stops_left, no_read, lacks_of, all_told, few_lines, cut, cut_lines, broken, broken_last, broken_end, starved_end, driven}
 use Rattle.mst_drive.proofs.driving.drive_lines.Goals as goal
 
 one_fault : {T : Type 0} (r : Result T RunFault) (a b : RunFault) → r ≡ Err a → r ≡ Err b → a ≡ b
@@ -26,7 +27,7 @@ turns-init g c =
       reading = record { working = c.requires.source; taken = refl; each = omega arith };
       calls = omega arith;
       works = record { working = c.requires.sink; taken = refl; each = omega arith };
-      heard = Hears-none g.S.Source.hears c.args.source.now;
+      heard = Hears-none g.S.Source.hears _ c.args.source.now;
       lent_source = refl;
       lent_sink = refl;
       written = Appends-nil _;
@@ -48,7 +49,8 @@ turns-preserved g c =
       reading = works_on _ _ _ c.in-Ok-fill.count _ was.reading c.in-Ok-fill.ensures.told c.if-count-eq0.false;
       calls = ap (λ t. t.calls) c.in-Ok-fill.ensures.told ∙ omega (arith, was.calls);
       works = works_both _ _ _ (works_sent _ _ _ was.works c.in-Ok.ensures.told) c.in-Ok-feed.ensures.works;
-      heard = Hears-more g.S.Source.hears c.args.source.now c.turns.source c.fill.new.self chunk was.heard c.in-Ok-fill.ensures.heard;
+      heard = Hears-more g.S.Source.hears _ c.args.source.now c.turns.source c.fill.new.self chunk _ was.heard (driven_on g.J.Job.tells g.J.Job.ends c.args.job.now (g.S.Source.remaining c.args.source.now) g.S.Source.remaining (seen_by g.K.Sink.told g.K.Sink.contents g.K.Sink.lent c.args.sink.now) c.turns.source (seen_by g.K.Sink.told g.K.Sink.contents g.K.Sink.lent c.flush.new.self)
+          (g.K.Sink.told c.turns.sink) (g.K.Sink.contents c.turns.sink) was.text c.turns.job c.turns.number was.read c.turns.held c.goes_on.ensures.nothing was.consumed was.feeds was.written was.works c.in-Ok.ensures.told c.in-Ok.ensures.bytes (c.in-Ok.ensures.lent ∙ was.lent_sink)) c.in-Ok-fill.ensures.heard;
       lent_source = c.in-Ok-fill.ensures.lent ∙ was.lent_source;
       lent_sink = c.feed.ensures.lent ∙ c.in-Ok.ensures.lent ∙ was.lent_sink;
       written = Appends-trans _ _ _ was.text new.0 (Appends-kept _ _ _ _ was.written c.in-Ok.ensures.bytes) new.2;
@@ -176,16 +178,36 @@ returns-in-Ok-end_input-clause-halts g c =
 
 -- ---- what the source hears
 pub returns-in-Err-fill-clause-heard : goal.returns-in-Err-fill-clause-heard
-returns-in-Err-fill-clause-heard g c = Hears-more g.S.Source.hears c.args.source.now c.turns.source c.fill.new.self _ c.turns.invariant.heard c.in-Err-fill.ensures.heard
+returns-in-Err-fill-clause-heard g c =
+    let was = c.turns.invariant in
+    Hears-more g.S.Source.hears _ c.args.source.now c.turns.source c.fill.new.self _ _ was.heard
+    (driven_on g.J.Job.tells g.J.Job.ends c.args.job.now (g.S.Source.remaining c.args.source.now) g.S.Source.remaining (seen_by g.K.Sink.told g.K.Sink.contents g.K.Sink.lent c.args.sink.now) c.turns.source (seen_by g.K.Sink.told g.K.Sink.contents g.K.Sink.lent c.flush.new.self)
+    (g.K.Sink.told c.turns.sink) (g.K.Sink.contents c.turns.sink) was.text c.turns.job c.turns.number was.read c.turns.held c.goes_on.ensures.nothing was.consumed was.feeds was.written was.works c.in-Ok.ensures.told c.in-Ok.ensures.bytes (c.in-Ok.ensures.lent ∙ was.lent_sink)) c.in-Err-fill.ensures.heard
 
 pub returns-in-Err-finish-clause-heard : goal.returns-in-Err-finish-clause-heard
-returns-in-Err-finish-clause-heard g c = Hears-more g.S.Source.hears c.args.source.now c.turns.source c.fill.new.self _ c.turns.invariant.heard c.in-Ok-fill.ensures.heard
+returns-in-Err-finish-clause-heard g c =
+    let was = c.turns.invariant in
+    Hears-more g.S.Source.hears _ c.args.source.now c.turns.source c.fill.new.self _ _ was.heard
+    (driven_on g.J.Job.tells g.J.Job.ends c.args.job.now (g.S.Source.remaining c.args.source.now) g.S.Source.remaining (seen_by g.K.Sink.told g.K.Sink.contents g.K.Sink.lent c.args.sink.now) c.turns.source (seen_by g.K.Sink.told g.K.Sink.contents g.K.Sink.lent c.flush.new.self)
+    (g.K.Sink.told c.turns.sink) (g.K.Sink.contents c.turns.sink) was.text c.turns.job c.turns.number was.read c.turns.held c.goes_on.ensures.nothing was.consumed was.feeds was.written was.works c.in-Ok.ensures.told c.in-Ok.ensures.bytes (c.in-Ok.ensures.lent ∙ was.lent_sink)) c.in-Ok-fill.ensures.heard
 
 pub returns-in-Err-end_input-clause-heard : goal.returns-in-Err-end_input-clause-heard
-returns-in-Err-end_input-clause-heard g c = Hears-more g.S.Source.hears c.args.source.now c.turns.source c.fill.new.self _ c.turns.invariant.heard c.in-Ok-fill.ensures.heard
+returns-in-Err-end_input-clause-heard g c =
+    let was = c.turns.invariant in
+    Hears-more g.S.Source.hears _ c.args.source.now c.turns.source c.fill.new.self _ _ was.heard
+    (driven_on g.J.Job.tells g.J.Job.ends c.args.job.now (g.S.Source.remaining c.args.source.now) g.S.Source.remaining (seen_by g.K.Sink.told g.K.Sink.contents g.K.Sink.lent c.args.sink.now) c.turns.source (seen_by g.K.Sink.told g.K.Sink.contents g.K.Sink.lent c.flush.new.self)
+    (g.K.Sink.told c.turns.sink) (g.K.Sink.contents c.turns.sink) was.text c.turns.job c.turns.number was.read c.turns.held c.goes_on.ensures.nothing was.consumed was.feeds was.written was.works c.in-Ok.ensures.told c.in-Ok.ensures.bytes (c.in-Ok.ensures.lent ∙ was.lent_sink)) c.in-Ok-fill.ensures.heard
 
 pub returns-in-Ok-end_input-clause-heard : goal.returns-in-Ok-end_input-clause-heard
-returns-in-Ok-end_input-clause-heard g c = Hears-more g.S.Source.hears c.args.source.now c.turns.source c.fill.new.self _ c.turns.invariant.heard c.in-Ok-fill.ensures.heard
+returns-in-Ok-end_input-clause-heard g c =
+    let was = c.turns.invariant in
+    Hears-more g.S.Source.hears _ c.args.source.now c.turns.source c.fill.new.self _ _ was.heard
+    (driven_on g.J.Job.tells g.J.Job.ends c.args.job.now (g.S.Source.remaining c.args.source.now) g.S.Source.remaining (seen_by g.K.Sink.told g.K.Sink.contents g.K.Sink.lent c.args.sink.now) c.turns.source (seen_by g.K.Sink.told g.K.Sink.contents g.K.Sink.lent c.flush.new.self)
+    (g.K.Sink.told c.turns.sink) (g.K.Sink.contents c.turns.sink) was.text c.turns.job c.turns.number was.read c.turns.held c.goes_on.ensures.nothing was.consumed was.feeds was.written was.works c.in-Ok.ensures.told c.in-Ok.ensures.bytes (c.in-Ok.ensures.lent ∙ was.lent_sink)) c.in-Ok-fill.ensures.heard
 
 pub returns-in-Err-feed-clause-heard : goal.returns-in-Err-feed-clause-heard
-returns-in-Err-feed-clause-heard g c = Hears-more g.S.Source.hears c.args.source.now c.turns.source c.fill.new.self _ c.turns.invariant.heard c.in-Ok-fill.ensures.heard
+returns-in-Err-feed-clause-heard g c =
+    let was = c.turns.invariant in
+    Hears-more g.S.Source.hears _ c.args.source.now c.turns.source c.fill.new.self _ _ was.heard
+    (driven_on g.J.Job.tells g.J.Job.ends c.args.job.now (g.S.Source.remaining c.args.source.now) g.S.Source.remaining (seen_by g.K.Sink.told g.K.Sink.contents g.K.Sink.lent c.args.sink.now) c.turns.source (seen_by g.K.Sink.told g.K.Sink.contents g.K.Sink.lent c.flush.new.self)
+    (g.K.Sink.told c.turns.sink) (g.K.Sink.contents c.turns.sink) was.text c.turns.job c.turns.number was.read c.turns.held c.goes_on.ensures.nothing was.consumed was.feeds was.written was.works c.in-Ok.ensures.told c.in-Ok.ensures.bytes (c.in-Ok.ensures.lent ∙ was.lent_sink)) c.in-Ok-fill.ensures.heard

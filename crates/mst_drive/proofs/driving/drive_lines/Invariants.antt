@@ -1,6 +1,7 @@
 use Rattle.std.proofs.Common.{◌≡◌, ℕ, ◌+◌, List, [], length, ◌≤◌, ◌*◌}
 use Rattle.std.specs.Io.KnownBytes.{Appends, Consumes}
-use Rattle.mst_io.specs.Devices.{Hears, Works}
+use Rattle.mst_io.specs.Devices.{HearsWhere, Works, seen_by}
+use Rattle.mst_drive.specs.Driving.{DrivenOn}
 use Rattle.mst_drive.specs.Feeding.{Feeds}
 use Rattle.mst_drive.proofs.driving.drive_lines.Given as goal
 
@@ -14,7 +15,7 @@ invariant-turns g l = record {
   reading : Works (g.S.Source.told l.fn.source) (g.S.Source.told l.source);
   calls : (g.S.Source.told l.source).calls ≡ (g.S.Source.told l.fn.source).calls + l.turn;
   works : Works (g.K.Sink.told l.fn.sink) (g.K.Sink.told l.sink);
-  heard : Hears g.S.Source.hears l.fn.source l.source;
+  heard : HearsWhere g.S.Source.hears (DrivenOn g.J.Job.tells l.fn.job (g.S.Source.remaining l.fn.source) g.S.Source.remaining (seen_by g.K.Sink.told g.K.Sink.contents g.K.Sink.lent l.fn.sink)) l.fn.source l.source;
   lent_source : g.S.Source.lent l.source ≡ g.S.Source.lent l.fn.source;
   lent_sink : g.K.Sink.lent l.sink ≡ g.K.Sink.lent l.fn.sink;
   written : Appends (g.K.Sink.contents l.fn.sink) (g.K.Sink.contents l.sink) text;

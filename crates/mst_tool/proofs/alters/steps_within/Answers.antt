@@ -1,6 +1,7 @@
 use Rattle.std.proofs.Common.{refl, sym, subst, ◌∙◌, inl, inr}
 use Rattle.std.specs.Io.KnownBytes.{Appends}
 use Rattle.mst_engine.specs.Engine.{outcome_of, tally_of}
+use Rattle.mst_io.specs.Devices.{seen_by}
 use Rattle.mst_io.specs.Written.{AppendsFront}
 use Rattle.mst_io.specs.declared.outcome.Outcome.{Outcome}
 use Rattle.mst_io.proofs.Chains.{Hears-none}
@@ -10,6 +11,7 @@ use Rattle.mst_drive.proofs.Turned.{turned_broken, turned_lacking, turned_on, tu
 use Rattle.mst_drive.proofs.Words.{front_of_all, front_then, wrote_still, wrote_then}
 use Rattle.mst_tool.specs.Alter.{Alters, altering, counted_along, course_of}
 use Rattle.mst_tool.proofs.Faults.{err_of}
+use Rattle.mst_tool.proofs.HasTold.{none_behind}
 use Rattle.mst_tool.proofs.WholeAlter.{alters}
 use Rattle.mst_tool.proofs.WholeLoad.{lacked_behind, stopped_behind, stopped_loading}
 use Rattle.mst_tool.proofs.alters.steps_within.Goals as goal
@@ -25,10 +27,10 @@ pub returns-in-Err-clause-turned : goal.returns-in-Err-clause-turned
 returns-in-Err-clause-turned g c = turned_stopped c.args.turns _ _ _ _ _ c.in-Err.ensures.turned (λ e. cc) (refl, c.requires.change, (refl, c.requires.policy, tt))
 
 pub returns-in-Err-clause-heard_change : goal.returns-in-Err-clause-heard_change
-returns-in-Err-clause-heard_change g c = Hears-none g.C.Source.hears c.args.change.now
+returns-in-Err-clause-heard_change g c = Hears-none g.C.Source.hears _ c.args.change.now
 
 pub returns-in-Err-clause-heard_policy : goal.returns-in-Err-clause-heard_policy
-returns-in-Err-clause-heard_policy g c = Hears-none g.P.Source.hears c.args.policy.now
+returns-in-Err-clause-heard_policy g c = Hears-none g.P.Source.hears _ c.args.policy.now
 
 -- ---- the change and the policy
 pub returns-in-Err-read_both-clause-ended : goal.returns-in-Err-read_both-clause-ended
@@ -100,3 +102,43 @@ returns-clause-ended g c =
     (wrote_then written mid now went.0 found.text.items (λ text. Alters form judged scripts changes policies text outcome)
     (alters c.one_load.ensures.same form judged scripts changes policies went.0 t both.change.ended both.policy (course_of found) found.text.items c.in-Ok-read_both.ensures.ok_change c.in-Ok-read_both.ensures.ok_policy c.in-Ok-stepped.ensures.told went.1)
     went.2 (subst (Appends mid now) c.as_slice.ensures.value c.in-Ok-put.ensures.ok))
+
+pub returns-in-Err-read_both-clause-heard_change : goal.returns-in-Err-read_both-clause-heard_change
+returns-in-Err-read_both-clause-heard_change g c =
+    let look = seen_by g.K.Sink.told g.K.Sink.contents g.K.Sink.lent in
+    none_behind g.C.Source.hears g.C.Source.remaining (look c.args.sink.now) (look c.serve_first.new.sink) c.args.turns _ c.in-Ok.ensures.turned (tally_of c.in-Ok.serving.engine) c.one_load.ensures.same (of_script c.args.form) (g.S.Source.remaining c.args.script.now) c.args.change.now c.read_both.new.change c.in-Ok.ensures.ok c.read_both.ensures.heard_change
+
+pub returns-in-Err-read_both-clause-heard_policy : goal.returns-in-Err-read_both-clause-heard_policy
+returns-in-Err-read_both-clause-heard_policy g c =
+    let look = seen_by g.K.Sink.told g.K.Sink.contents g.K.Sink.lent in
+    none_behind g.P.Source.hears g.P.Source.remaining (look c.args.sink.now) (look c.serve_first.new.sink) c.args.turns _ c.in-Ok.ensures.turned (tally_of c.in-Ok.serving.engine) c.one_load.ensures.same (of_script c.args.form) (g.S.Source.remaining c.args.script.now) c.args.policy.now c.read_both.new.policy c.in-Ok.ensures.ok c.read_both.ensures.heard_policy
+
+pub returns-in-Err-stepped-clause-heard_change : goal.returns-in-Err-stepped-clause-heard_change
+returns-in-Err-stepped-clause-heard_change g c =
+    let look = seen_by g.K.Sink.told g.K.Sink.contents g.K.Sink.lent in
+    none_behind g.C.Source.hears g.C.Source.remaining (look c.args.sink.now) (look c.serve_first.new.sink) c.args.turns _ c.in-Ok.ensures.turned (tally_of c.in-Ok.serving.engine) c.one_load.ensures.same (of_script c.args.form) (g.S.Source.remaining c.args.script.now) c.args.change.now c.read_both.new.change c.in-Ok.ensures.ok c.read_both.ensures.heard_change
+
+pub returns-in-Err-stepped-clause-heard_policy : goal.returns-in-Err-stepped-clause-heard_policy
+returns-in-Err-stepped-clause-heard_policy g c =
+    let look = seen_by g.K.Sink.told g.K.Sink.contents g.K.Sink.lent in
+    none_behind g.P.Source.hears g.P.Source.remaining (look c.args.sink.now) (look c.serve_first.new.sink) c.args.turns _ c.in-Ok.ensures.turned (tally_of c.in-Ok.serving.engine) c.one_load.ensures.same (of_script c.args.form) (g.S.Source.remaining c.args.script.now) c.args.policy.now c.read_both.new.policy c.in-Ok.ensures.ok c.read_both.ensures.heard_policy
+
+pub returns-in-Err-put-clause-heard_change : goal.returns-in-Err-put-clause-heard_change
+returns-in-Err-put-clause-heard_change g c =
+    let look = seen_by g.K.Sink.told g.K.Sink.contents g.K.Sink.lent in
+    none_behind g.C.Source.hears g.C.Source.remaining (look c.args.sink.now) (look c.serve_first.new.sink) c.args.turns _ c.in-Ok.ensures.turned (tally_of c.in-Ok.serving.engine) c.one_load.ensures.same (of_script c.args.form) (g.S.Source.remaining c.args.script.now) c.args.change.now c.read_both.new.change c.in-Ok.ensures.ok c.read_both.ensures.heard_change
+
+pub returns-in-Err-put-clause-heard_policy : goal.returns-in-Err-put-clause-heard_policy
+returns-in-Err-put-clause-heard_policy g c =
+    let look = seen_by g.K.Sink.told g.K.Sink.contents g.K.Sink.lent in
+    none_behind g.P.Source.hears g.P.Source.remaining (look c.args.sink.now) (look c.serve_first.new.sink) c.args.turns _ c.in-Ok.ensures.turned (tally_of c.in-Ok.serving.engine) c.one_load.ensures.same (of_script c.args.form) (g.S.Source.remaining c.args.script.now) c.args.policy.now c.read_both.new.policy c.in-Ok.ensures.ok c.read_both.ensures.heard_policy
+
+pub returns-clause-heard_change : goal.returns-clause-heard_change
+returns-clause-heard_change g c =
+    let look = seen_by g.K.Sink.told g.K.Sink.contents g.K.Sink.lent in
+    none_behind g.C.Source.hears g.C.Source.remaining (look c.args.sink.now) (look c.serve_first.new.sink) c.args.turns _ c.in-Ok.ensures.turned (tally_of c.in-Ok.serving.engine) c.one_load.ensures.same (of_script c.args.form) (g.S.Source.remaining c.args.script.now) c.args.change.now c.read_both.new.change c.in-Ok.ensures.ok c.read_both.ensures.heard_change
+
+pub returns-clause-heard_policy : goal.returns-clause-heard_policy
+returns-clause-heard_policy g c =
+    let look = seen_by g.K.Sink.told g.K.Sink.contents g.K.Sink.lent in
+    none_behind g.P.Source.hears g.P.Source.remaining (look c.args.sink.now) (look c.serve_first.new.sink) c.args.turns _ c.in-Ok.ensures.turned (tally_of c.in-Ok.serving.engine) c.one_load.ensures.same (of_script c.args.form) (g.S.Source.remaining c.args.script.now) c.args.policy.now c.read_both.new.policy c.in-Ok.ensures.ok c.read_both.ensures.heard_policy

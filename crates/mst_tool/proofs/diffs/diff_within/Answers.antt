@@ -1,6 +1,7 @@
 use Rattle.std.proofs.Common.{refl, sym, subst, ◌∙◌, inl}
 use Rattle.std.specs.Io.KnownBytes.{Appends}
 use Rattle.mst_engine.specs.Engine.{tally_of}
+use Rattle.mst_io.specs.Devices.{seen_by}
 use Rattle.mst_io.specs.Written.{AppendsFront}
 use Rattle.mst_io.specs.declared.outcome.Outcome.{Outcome}
 use Rattle.mst_io.proofs.Chains.{Hears-none}
@@ -10,6 +11,7 @@ use Rattle.mst_drive.proofs.Words.{ended_fault, wrote_as}
 use Rattle.mst_print.specs.Shape.{of_old}
 use Rattle.mst_tool.specs.Diff.{Diffs, counted_both, differing}
 use Rattle.mst_tool.proofs.Faults.{err_of}
+use Rattle.mst_tool.proofs.HasTold.{new_behind}
 use Rattle.mst_tool.proofs.WholeDiff.{Laws, both_front, both_scripts, diffs_front, diffs_whole, front_in_new, front_in_old, new_ended}
 use Rattle.mst_tool.proofs.WholeLoad.{loads_ended}
 use Rattle.mst_tool.proofs.diffs.diff_within.Goals as goal
@@ -33,7 +35,7 @@ pub returns-in-Err-clause-turned : goal.returns-in-Err-clause-turned
 returns-in-Err-clause-turned g c = turned_stopped c.args.turns _ _ _ _ _ c.in-Err.ensures.turned (λ e. cc) (refl, c.requires.new, tt)
 
 pub returns-in-Err-clause-heard_new : goal.returns-in-Err-clause-heard_new
-returns-in-Err-clause-heard_new g c = Hears-none g.N.Source.hears c.args.new.now
+returns-in-Err-clause-heard_new g c = Hears-none g.N.Source.hears _ c.args.new.now
 
 -- ---- the new script
 pub returns-in-Err-serve_first-clause-ended : goal.returns-in-Err-serve_first-clause-ended
@@ -119,3 +121,23 @@ returns-clause-ended g c =
     subst (λ (outcome : Outcome). Wrote written now (λ text. Diffs between form given.first given.second text outcome)) (sym (c.with_difference.ensures ∙ (λ i. counted_both (c.outcome-old_served.ensures i) (c.outcome-new_served.ensures i) found.differs)))
     (diffs_whole laws c.one_load.ensures.same c.states.ensures.network between form given left written now mid t c.in-Ok.ensures.ok end u c.in-Ok-serve_first.ensures.ok is.0 found.text.items found.differs is.2 is.1
     (subst (Appends end now) c.as_slice.ensures.value c.in-Ok-put.ensures.ok))
+
+pub returns-in-Err-serve_first-clause-heard_new : goal.returns-in-Err-serve_first-clause-heard_new
+returns-in-Err-serve_first-clause-heard_new g c =
+    let look = seen_by g.K.Sink.told g.K.Sink.contents g.K.Sink.lent in
+    new_behind g.N.Source.hears g.N.Source.remaining (look c.args.sink.now) (look c.serve_first.new.sink) c.args.turns _ c.in-Ok.ensures.turned (tally_of c.in-Ok.before.engine) c.one_load.ensures.same c.args.form (g.O.Source.remaining c.args.old.now) (g.N.Source.remaining c.args.new.now) c.args.new.now c.serve_first-in-Ok.new.source c.in-Ok.ensures.ok c.serve_first-in-Ok.ensures.heard
+
+pub returns-in-Err-what_differs-clause-heard_new : goal.returns-in-Err-what_differs-clause-heard_new
+returns-in-Err-what_differs-clause-heard_new g c =
+    let look = seen_by g.K.Sink.told g.K.Sink.contents g.K.Sink.lent in
+    new_behind g.N.Source.hears g.N.Source.remaining (look c.args.sink.now) (look c.serve_first.new.sink) c.args.turns _ c.in-Ok.ensures.turned (tally_of c.in-Ok.before.engine) c.one_load.ensures.same c.args.form (g.O.Source.remaining c.args.old.now) (g.N.Source.remaining c.args.new.now) c.args.new.now c.serve_first-in-Ok.new.source c.in-Ok.ensures.ok c.serve_first-in-Ok.ensures.heard
+
+pub returns-in-Err-put-clause-heard_new : goal.returns-in-Err-put-clause-heard_new
+returns-in-Err-put-clause-heard_new g c =
+    let look = seen_by g.K.Sink.told g.K.Sink.contents g.K.Sink.lent in
+    new_behind g.N.Source.hears g.N.Source.remaining (look c.args.sink.now) (look c.serve_first.new.sink) c.args.turns _ c.in-Ok.ensures.turned (tally_of c.in-Ok.before.engine) c.one_load.ensures.same c.args.form (g.O.Source.remaining c.args.old.now) (g.N.Source.remaining c.args.new.now) c.args.new.now c.serve_first-in-Ok.new.source c.in-Ok.ensures.ok c.serve_first-in-Ok.ensures.heard
+
+pub returns-clause-heard_new : goal.returns-clause-heard_new
+returns-clause-heard_new g c =
+    let look = seen_by g.K.Sink.told g.K.Sink.contents g.K.Sink.lent in
+    new_behind g.N.Source.hears g.N.Source.remaining (look c.args.sink.now) (look c.serve_first.new.sink) c.args.turns _ c.in-Ok.ensures.turned (tally_of c.in-Ok.before.engine) c.one_load.ensures.same c.args.form (g.O.Source.remaining c.args.old.now) (g.N.Source.remaining c.args.new.now) c.args.new.now c.serve_first-in-Ok.new.source c.in-Ok.ensures.ok c.serve_first-in-Ok.ensures.heard

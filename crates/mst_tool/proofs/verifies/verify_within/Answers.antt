@@ -1,6 +1,7 @@
 use Rattle.std.proofs.Common.{refl, sym, subst, ◌∙◌, inl, inr}
 use Rattle.std.specs.Io.KnownBytes.{Appends}
 use Rattle.mst_engine.specs.Engine.{outcome_of, tally_of}
+use Rattle.mst_io.specs.Devices.{seen_by}
 use Rattle.mst_io.specs.Written.{AppendsFront}
 use Rattle.mst_io.specs.declared.outcome.Outcome.{Outcome}
 use Rattle.mst_io.proofs.Chains.{Hears-none}
@@ -10,6 +11,7 @@ use Rattle.mst_drive.proofs.Turned.{turned_broken, turned_lacking, turned_on, tu
 use Rattle.mst_drive.proofs.Words.{front_of_all, front_then, wrote_still, wrote_then}
 use Rattle.mst_tool.specs.Verify.{Verifies, counted_with, counts_of, verifying}
 use Rattle.mst_tool.proofs.Faults.{err_of}
+use Rattle.mst_tool.proofs.HasTold.{none_behind}
 use Rattle.mst_tool.proofs.WholeLoad.{lacked_behind, stopped_behind, stopped_loading}
 use Rattle.mst_tool.proofs.WholeVerify.{verifies}
 use Rattle.mst_tool.proofs.verifies.verify_within.Goals as goal
@@ -26,7 +28,7 @@ pub returns-in-Err-clause-turned : goal.returns-in-Err-clause-turned
 returns-in-Err-clause-turned g c = turned_stopped c.args.turns _ _ _ _ _ c.in-Err.ensures.turned (λ e. cc) (refl, c.requires.policy, tt)
 
 pub returns-in-Err-clause-heard_policy : goal.returns-in-Err-clause-heard_policy
-returns-in-Err-clause-heard_policy g c = Hears-none g.P.Source.hears c.args.policy.now
+returns-in-Err-clause-heard_policy g c = Hears-none g.P.Source.hears _ c.args.policy.now
 
 -- ---- the policy
 pub returns-in-Err-read_policy-clause-ended : goal.returns-in-Err-read_policy-clause-ended
@@ -90,3 +92,23 @@ returns-clause-ended g c =
     (wrote_then written mid now went.0 found.text.items (λ text. Verifies form scripts policies text outcome)
     (verifies c.one_load.ensures.same form scripts policies went.0 t c.in-Ok-read_policy.lines (counts_of found) found.text.items c.in-Ok-read_policy.ensures.ok c.in-Ok-verified.ensures.told went.1)
     went.2 (subst (Appends mid now) c.as_slice.ensures.value c.in-Ok-put.ensures.ok))
+
+pub returns-in-Err-read_policy-clause-heard_policy : goal.returns-in-Err-read_policy-clause-heard_policy
+returns-in-Err-read_policy-clause-heard_policy g c =
+    let look = seen_by g.K.Sink.told g.K.Sink.contents g.K.Sink.lent in
+    none_behind g.P.Source.hears g.P.Source.remaining (look c.args.sink.now) (look c.serve_first.new.sink) c.args.turns _ c.in-Ok.ensures.turned (tally_of c.in-Ok.serving.engine) c.one_load.ensures.same (of_script c.args.form) (g.S.Source.remaining c.args.script.now) c.args.policy.now c.read_policy.new.source c.in-Ok.ensures.ok c.read_policy.ensures.heard
+
+pub returns-in-Err-verified-clause-heard_policy : goal.returns-in-Err-verified-clause-heard_policy
+returns-in-Err-verified-clause-heard_policy g c =
+    let look = seen_by g.K.Sink.told g.K.Sink.contents g.K.Sink.lent in
+    none_behind g.P.Source.hears g.P.Source.remaining (look c.args.sink.now) (look c.serve_first.new.sink) c.args.turns _ c.in-Ok.ensures.turned (tally_of c.in-Ok.serving.engine) c.one_load.ensures.same (of_script c.args.form) (g.S.Source.remaining c.args.script.now) c.args.policy.now c.read_policy.new.source c.in-Ok.ensures.ok c.read_policy.ensures.heard
+
+pub returns-in-Err-put-clause-heard_policy : goal.returns-in-Err-put-clause-heard_policy
+returns-in-Err-put-clause-heard_policy g c =
+    let look = seen_by g.K.Sink.told g.K.Sink.contents g.K.Sink.lent in
+    none_behind g.P.Source.hears g.P.Source.remaining (look c.args.sink.now) (look c.serve_first.new.sink) c.args.turns _ c.in-Ok.ensures.turned (tally_of c.in-Ok.serving.engine) c.one_load.ensures.same (of_script c.args.form) (g.S.Source.remaining c.args.script.now) c.args.policy.now c.read_policy.new.source c.in-Ok.ensures.ok c.read_policy.ensures.heard
+
+pub returns-clause-heard_policy : goal.returns-clause-heard_policy
+returns-clause-heard_policy g c =
+    let look = seen_by g.K.Sink.told g.K.Sink.contents g.K.Sink.lent in
+    none_behind g.P.Source.hears g.P.Source.remaining (look c.args.sink.now) (look c.serve_first.new.sink) c.args.turns _ c.in-Ok.ensures.turned (tally_of c.in-Ok.serving.engine) c.one_load.ensures.same (of_script c.args.form) (g.S.Source.remaining c.args.script.now) c.args.policy.now c.read_policy.new.source c.in-Ok.ensures.ok c.read_policy.ensures.heard
