@@ -8,12 +8,12 @@ use Rattle.mst_lag.specs.View.{LogicalPort, view_ports}
 use Rattle.mst_policy.specs.Items as policy
 use Rattle.mst_policy.specs.declared.expectation.Expectation.TheVariants as expect
 use Rattle.mst_net.specs.Tables.{Net, port_eq}
-use Rattle.mst_roles.specs.Roles.{forwards, role_in}
-use Rattle.mst_roles.specs.declared.kind.Role.{Role}
-use Rattle.mst_roles.specs.declared.kind.Role.TheVariants as role
+use Rattle.mst_trees.specs.Roles.{forwards, role_in}
+use Rattle.mst_trees.specs.declared.kind.Role.{Role}
+use Rattle.mst_trees.specs.declared.kind.Role.TheVariants as role
 use Rattle.mst_trees.specs.Outcome.{Outcome}
 use Rattle.mst_trees.specs.Settled.{SettledNet, IsSettledNet, outcome_of}
-use Rattle.mst_roles.proofs.Named.{port_found, port_is, port_same}
+use Rattle.mst_trees.proofs.Named.{port_found, port_is, port_same}
 use Rattle.mst_trees.proofs.Lists.{no_some, some_is}
 use Rattle.mst_trees.proofs.Looking.{first_found}
 use Rattle.mst_trees.proofs.Seen.{port_there}

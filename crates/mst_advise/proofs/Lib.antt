@@ -1,3 +1,4 @@
+pub use Rattle.mst_verify.proofs as verify_lemmas
 pub mod ContestRows
 pub mod PortsNamed
 pub mod ForwardingPort
@@ -6,3 +7,5 @@ pub mod GreatestUpto
 pub mod OthersSeen
 pub mod OneCandidates
 pub mod Beside
+pub mod Tried
+pub mod OneAdvice

@@ -3,11 +3,11 @@ use Rattle.std.proofs.Common.{◌≡◌, ℕ, List, map, Option, Some, None, sym
 use Rattle.mst_lag.specs.View.{LogicalPort}
 use Rattle.mst_rows.specs.Rows.{Row}
 use Rattle.mst_net.specs.Tables.{Net}
-use Rattle.mst_roles.specs.Roles.{role_in}
-use Rattle.mst_roles.specs.declared.kind.Role.{Role}
+use Rattle.mst_trees.specs.Roles.{role_in}
+use Rattle.mst_trees.specs.declared.kind.Role.{Role}
 use Rattle.mst_trees.specs.Outcome.{Outcome}
 use Rattle.mst_explain.specs.Explained.{IsExplained}
-use Rattle.mst_summary.specs.diff.Roots.{each_once}
+use Rattle.mst_verify.specs.diff.Roots.{each_once}
 use Rattle.mst_advise.specs.Candidates.{AreCandidates}
 use Rattle.mst_advise.specs.Contests.{contests_in, lost_by}
 use Rattle.mst_advise.specs.Costs.{contested, port_named}

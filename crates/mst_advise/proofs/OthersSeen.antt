@@ -15,8 +15,8 @@ use Rattle.mst_trees.proofs.Entries.{all_weaker}
 use Rattle.mst_trees.proofs.Lists.{all_contained, all_there, filter_mapped, mapped_twice}
 use Rattle.mst_trees.proofs.Looking.{filter_alike}
 use Rattle.mst_trees.proofs.Views.{bridges_are}
-use Rattle.mst_summary.specs.declared.roots.Follower.{Follower}
-use Rattle.mst_summary.proofs.Lists.{all_mapped}
+use Rattle.mst_verify.specs.summary.declared.roots.Follower.{Follower}
+use Rattle.mst_verify.proofs.summary_lemmas.Lists.{all_mapped}
 use Rattle.mst_verify.specs.Roots.{identifier}
 use Rattle.mst_verify.specs.Seen.{concerned_followers}
 use Rattle.mst_verify.proofs.RootsTold.{follows, names_are}

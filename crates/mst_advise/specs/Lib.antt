@@ -1,3 +1,4 @@
+pub use Rattle.mst_verify.specs as verify
 pub mod Goals
 pub mod Settings
 pub mod Contests
@@ -10,3 +11,4 @@ pub mod Made
 pub mod Hindrances
 pub mod Told
 pub mod Seen
+pub mod Advising

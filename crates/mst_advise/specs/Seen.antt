@@ -3,7 +3,7 @@ use Rattle.std.specs.Prelude.{ℕ, ◌==◌, not, Bool, List, Option, None, Some
 use Rattle.std.specs.List.{list_all}
 use Rattle.mst_ids.specs.Identifiers.{bridge_id}
 use Rattle.mst_lag.specs.Aggregation.{same_name}
-use Rattle.mst_summary.specs.declared.roots.Follower.{Follower}
+use Rattle.mst_verify.specs.summary.declared.roots.Follower.{Follower}
 use Rattle.mst_net.specs.Tables.{Net}
 use Rattle.mst_trees.specs.Outcome.{Outcome}
 use Rattle.mst_verify.specs.Seen.{concerned_followers}

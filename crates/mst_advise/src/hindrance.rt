@@ -15,9 +15,8 @@ use crate::goal::Goal;
 use crate::named::port_named;
 use mst_ids::{BridgeId, Name, PortName, Tree};
 use mst_lag::{BridgeInView, PortInView};
-use mst_summary::Follower;
 use mst_trees::{Settled, bridge_id};
-use mst_verify::{bridge_named, followers};
+use mst_verify::{Follower, bridge_named, followers};
 use std::alloc::{AllocError, Global};
 
 /// What is in the way of a goal, whatever is set.

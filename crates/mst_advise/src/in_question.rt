@@ -2,7 +2,7 @@ ghost use Rattle.std.specs.Prelude.{◌≡◌, ◌==◌, ◌||◌, ◌++◌, [],
 ghost use Rattle.std.specs.List.{Contains};
 ghost use Rattle.std.specs.Option.{option_map_or};
 ghost use Rattle.mst_lag.specs.Viewed.{named_port};
-ghost use Rattle.mst_roles.specs.Roles.{role_in};
+ghost use Rattle.mst_trees.specs.Roles.{role_in};
 ghost use Rattle.mst_trees.specs.Msti.{has_msti};
 ghost use Rattle.mst_trees.specs.Settled.{name_of_port, outcome_of};
 ghost use Rattle.mst_advise.specs.Costs.{against, greatest_cost, port_named as port_of_name};
@@ -18,8 +18,7 @@ use mst_explain::laws::some_explained;
 use mst_explain::put_explanation;
 use mst_ids::{PortName, PortNo, Tree};
 use mst_lag::PortInView;
-use mst_roles::role_of;
-use mst_trees::Settled;
+use mst_trees::{Settled, role_of};
 use std::alloc::{AllocError, Global};
 
 /// The name of the port of this number.

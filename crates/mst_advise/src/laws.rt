@@ -5,6 +5,9 @@ ghost use Rattle.mst_trees.specs.Outcome.{Outcome, IsOutcome};
 ghost use Rattle.mst_advise.specs.Candidates.{AreCandidates};
 ghost use Rattle.mst_advise.specs.declared.goal.Goal.{Goal as GoalOf};
 ghost use Rattle.mst_advise.specs.declared.setting.Setting.{Setting as SettingOf};
+ghost use Rattle.mst_rows.specs.Rows.{Row};
+ghost use Rattle.mst_advise.specs.Advising.{Advises};
+ghost use Rattle.mst_advise.specs.declared.advising.Advised.{Advised as AdvisedOf};
 
 use mst_explain::laws::one_explained;
 use mst_trees::laws::one_outcome;
@@ -16,4 +19,13 @@ pub fn one_candidates()
 {
     one_outcome();
     one_explained();
+}
+
+/// A network has one advice for a goal, which the network alone settles.
+pub fn one_advice()
+    ensures { (net : Net) (goal : GoalOf) (a b : AdvisedOf) (rows other : List Row) → IsNetwork net → Advises net goal a rows → Advises net goal b other → (a ≡ b) × (rows ≡ other) }
+{
+    one_outcome();
+    one_candidates();
+    mst_sweeping::laws::one_step();
 }

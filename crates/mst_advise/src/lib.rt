@@ -1,8 +1,8 @@
 //! Which settings may bring about what is wanted of a network, whether a network has it, and why it may never have.
 //!
 //! A [`Goal`] is that a bridge is the root of a tree, or that a port forwards in it; [`holds`] says whether a settled network has it. The
-//! candidates are settings ([`edit_of`]). They are only likely: who advises makes one after the other and asks whether the goal holds
-//! then, and puts the rows of the first after which it does.
+//! candidates are settings ([`edit_of`]). They are only likely: [`advise_network`] makes one after the other, each by a plan of its own, asks whether the goal holds then, and puts the
+//! rows of the first after which it does.
 //!
 //! For a root there is one candidate, of some settings that are made together ([`root_settings`]). For a port each candidate is one setting
 //! ([`port_settings`]). They go by the row `root W over P` of its explanation: the port's cost is lowered by as much as the component that
@@ -10,6 +10,7 @@
 //! much; and by the designated port of its LAN.
 #![tactic(auto)]
 
+mod advising;
 mod contests;
 mod costs;
 mod goal;
@@ -23,6 +24,7 @@ mod priorities;
 mod setting;
 mod told;
 
+pub use advising::{Advised, advise_network};
 pub use goal::Goal;
 pub use hindrance::{Hindrance, apart, hindered_by};
 pub use holding::holds;

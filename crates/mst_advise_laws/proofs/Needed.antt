@@ -15,9 +15,9 @@ use Rattle.mst_rows.specs.Rows.{Row}
 use Rattle.mst_trees.specs.Outcome.{Outcome, IsOutcome}
 use Rattle.mst_trees.proofs.Lists.{no_some}
 use Rattle.mst_trees.proofs.Views.{same_mac}
-use Rattle.mst_verify.specs.Holds.{IsOneRoot}
-use Rattle.mst_verify.specs.Roots.{concerned, identifier, is_concerned}
-use Rattle.mst_verify.proofs.Keys.{keys_once}
+use Rattle.mst_advise.specs.verify.Holds.{IsOneRoot}
+use Rattle.mst_advise.specs.verify.Roots.{concerned, identifier, is_concerned}
+use Rattle.mst_advise.proofs.verify_lemmas.Keys.{keys_once}
 use Rattle.mst_advise.specs.Candidates.{AreCandidates}
 use Rattle.mst_advise.specs.Made.{Has, Make}
 use Rattle.mst_advise.specs.Priorities.{before_best, comes_first, greatest_priority, others, priorities, root_settings}
@@ -27,9 +27,9 @@ use Rattle.mst_advise.specs.declared.goal.Goal.{Goal}
 use Rattle.mst_advise.specs.declared.goal.Goal.TheVariants.{Root, Forward}
 use Rattle.mst_advise.specs.declared.setting.Setting.{Setting}
 use Rattle.mst_advise.specs.declared.setting.Setting.TheVariants.{Priority}
-use Rattle.mst_advising.specs.Advising.{Tells}
-use Rattle.mst_advising.specs.declared.advising.Advised.TheVariants as advised
-use Rattle.mst_advising.proofs.OneAdvice.{OneOutcome}
+use Rattle.mst_advise.specs.Advising.{Tells}
+use Rattle.mst_advise.specs.declared.advising.Advised.TheVariants as advised
+use Rattle.mst_advise.proofs.OneAdvice.{OneOutcome}
 use Rattle.mst_advise_laws.specs.Needed.{AreNeeded, TellNeeded}
 use Rattle.mst_advise_laws.proofs.Failing.{above_fails, one_fails}
 use Rattle.mst_advise_laws.proofs.NoGreater.{Asked, asked, not_first}

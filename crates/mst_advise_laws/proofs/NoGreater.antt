@@ -20,9 +20,9 @@ use Rattle.mst_trees.specs.Outcome.{Outcome, IsOutcome}
 use Rattle.mst_trees.proofs.Lists.{all_contained, some_is}
 use Rattle.mst_trees.proofs.Views.{bridges_are, same_mac}
 use Rattle.mst_diff.specs.Roots.{named_by, root_of}
-use Rattle.mst_verify.specs.Holds.{IsOneRoot}
-use Rattle.mst_verify.specs.Roots.{concerned, identifier, is_concerned}
-use Rattle.mst_verify.proofs.Keys.{key_there}
+use Rattle.mst_advise.specs.verify.Holds.{IsOneRoot}
+use Rattle.mst_advise.specs.verify.Roots.{concerned, identifier, is_concerned}
+use Rattle.mst_advise.proofs.verify_lemmas.Keys.{key_there}
 use Rattle.mst_trees.proofs.Sights.{changed_from}
 use Rattle.mst_advise.specs.Made.{Has}
 use Rattle.mst_advise.specs.Priorities.{comes_first, greatest_priority, others, priorities}

@@ -4,8 +4,8 @@ ghost use Rattle.mst_net.specs.Tables.{Net, IsNetwork};
 ghost use Rattle.mst_rows.specs.Rows.{Row};
 ghost use Rattle.mst_trees.specs.Outcome.{Outcome, IsOutcome};
 ghost use Rattle.mst_advise.specs.declared.goal.Goal.{Goal as GoalOf};
-ghost use Rattle.mst_advising.specs.Advising.{Advises};
-ghost use Rattle.mst_advising.specs.declared.advising.Advised.TheVariants as advised;
+ghost use Rattle.mst_advise.specs.Advising.{Advises};
+ghost use Rattle.mst_advise.specs.declared.advising.Advised.TheVariants as advised;
 ghost use Rattle.mst_advise_laws.specs.Greater.{IsAdvised, NoGreaterSuffices};
 ghost use Rattle.mst_advise_laws.specs.Needed.{TellNeeded};
 

@@ -10,14 +10,14 @@ use Rattle.mst_lang.specs.declared.line.Line.TheVariants.{Blank, Mark, Edit as e
 use Rattle.mst_lang.specs.declared.line.Query.{Query}
 use Rattle.mst_lang.specs.declared.line.Version.{Version}
 use Rattle.mst_net.specs.After.{after}
-use Rattle.mst_judging.specs.Verifying.{Verifies}
+use Rattle.mst_tool.specs.verdict.Verifying.{Verifies}
 use Rattle.mst_net.specs.Tables.{Net, IsNetwork}
 use Rattle.mst_net.specs.declared.refusal.Refusal.{Refusal}
-use Rattle.mst_engine.specs.Script.{ServesRead, answered as answered_by, marked}
-use Rattle.mst_engine.specs.Steps.{Step, silent}
-use Rattle.mst_engine.specs.report.Answers.{Answers}
-use Rattle.mst_engine.specs.report.State.{State, IsState}
-use Rattle.mst_engine.proofs.OneRun.{Laws, answered_keeps}
+use Rattle.mst_tool.specs.engine.Script.{ServesRead, answered as answered_by, marked}
+use Rattle.mst_tool.specs.engine.Steps.{Step, silent}
+use Rattle.mst_tool.specs.report.Answers.{Answers}
+use Rattle.mst_tool.specs.report.State.{State, IsState}
+use Rattle.mst_tool.proofs.engine_lemmas.OneRun.{Laws, answered_keeps}
 use Rattle.mst_policy.specs.declared.policy.PolicyLine.{PolicyLine}
 use Rattle.mst_print.specs.Shape.{of_script}
 use Rattle.mst_print.specs.declared.form.Form.{Form}
@@ -28,7 +28,7 @@ use Rattle.mst_tool.specs.Shown.{verify_row}
 use Rattle.mst_tool.proofs.EarlyRefusals.{refused_answer}
 use Rattle.mst_tool.proofs.Shown.{one_shown}
 use Rattle.mst_tool.proofs.WholeLoad.{OneOfEach, one_answer}
-use Rattle.mst_verdict.specs.Verified.{Counts}
+use Rattle.mst_tool.specs.verdict.Verified.{Counts}
 use Rattle.mst_ask.specs.Requests.{request_of}
 use Rattle.mst_ask.specs.Standing.{Made, Standing, Turn, Asks, AsksBy, AsksLine, IsStanding, answered, back, declined, edited, lacking_of, left_after, passed, starved, stepped, undone, verified}
 use Rattle.mst_ask.specs.declared.request.Request.{Request}

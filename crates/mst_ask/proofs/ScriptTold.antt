@@ -17,10 +17,10 @@ use Rattle.mst_io.proofs.Calls.{stops_working, works_unbroken}
 use Rattle.mst_io.proofs.Known.{AppendsFront-longer}
 use Rattle.mst_io.proofs.ReadBytes.{Reads-rest, Reads-all}
 use Rattle.mst_lang.specs.Lines.{lines_of, ended_lines}
-use Rattle.mst_engine.specs.Script.{Loads, LoadsAll, version_of}
-use Rattle.mst_engine.specs.Steps.{Step, RunsBy, left_by, lacking_of, lacks_of, texts_of}
-use Rattle.mst_engine.specs.report.State.{IsState, empty_state}
-use Rattle.mst_engine.proofs.Steps.{runs-none}
+use Rattle.mst_tool.specs.engine.Script.{Loads, LoadsAll, version_of}
+use Rattle.mst_tool.specs.engine.Steps.{Step, RunsBy, left_by, lacking_of, lacks_of, texts_of}
+use Rattle.mst_tool.specs.report.State.{IsState, empty_state}
+use Rattle.mst_tool.proofs.engine_lemmas.Steps.{runs-none}
 use Rattle.mst_print.specs.Shape.{of_script}
 use Rattle.mst_print.specs.declared.form.Form.{Form}
 use Rattle.mst_print.specs.declared.form.Shape.{Shape}

@@ -14,9 +14,9 @@ use Rattle.mst_io.specs.declared.outcome.RunFault.TheVariants.{Read}
 use Rattle.mst_io.proofs.Known.{AppendsFront-longer}
 use Rattle.mst_lang.specs.Lines.{lines_of, ended_lines}
 use Rattle.mst_lang.specs.declared.line.Version.{Version}
-use Rattle.mst_engine.specs.Script.{LoadsAll, version_of}
-use Rattle.mst_engine.specs.Steps as steps
-use Rattle.mst_engine.specs.Steps.{Step}
+use Rattle.mst_tool.specs.engine.Script.{LoadsAll, version_of}
+use Rattle.mst_tool.specs.engine.Steps as steps
+use Rattle.mst_tool.specs.engine.Steps.{Step}
 use Rattle.mst_policy.specs.Lines.{policy_from}
 use Rattle.mst_policy.specs.declared.policy.PolicyLine.{PolicyLine}
 use Rattle.mst_print.specs.Shape.{of_script}

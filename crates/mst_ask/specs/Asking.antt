@@ -3,10 +3,10 @@ use Rattle.std.specs.Prelude.{◌≡◌, ◌+◌, ◌++◌, ◌⊎◌, ◌==◌,
 use Rattle.std.specs.Io.KnownBytes.{Consumes}
 use Rattle.mst_drive.specs.Words.{Telling, Unwritten}
 use Rattle.mst_lang.specs.Lines.{lines_of, ended_lines}
-use Rattle.mst_engine.specs.Script.{LoadsAll, version_of}
-use Rattle.mst_engine.specs.Steps as steps
-use Rattle.mst_engine.specs.Steps.{Step, left_by, texts_of}
-use Rattle.mst_engine.specs.report.State.{empty_state}
+use Rattle.mst_tool.specs.engine.Script.{LoadsAll, version_of}
+use Rattle.mst_tool.specs.engine.Steps as steps
+use Rattle.mst_tool.specs.engine.Steps.{Step, left_by, texts_of}
+use Rattle.mst_tool.specs.report.State.{empty_state}
 use Rattle.mst_io.specs.Written.{Reads}
 use Rattle.mst_io.specs.declared.outcome.Outcome.{Outcome}
 use Rattle.mst_policy.specs.declared.policy.PolicyLine.{PolicyLine}

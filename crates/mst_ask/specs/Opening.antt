@@ -2,8 +2,8 @@
 use Rattle.std.specs.Prelude.{◌≡◌, ◌⊎◌, ◌<◌, ◌^◌, ℕ, true, false, List, [], Option, Some, None}
 use Rattle.mst_drive.specs.Words.{Wrote, WroteFront}
 use Rattle.mst_lang.specs.Lines.{lines_of}
-use Rattle.mst_engine.specs.Script.{LoadsAll, version_of}
-use Rattle.mst_engine.specs.Steps.{Step, lacks_of, refusals_of}
+use Rattle.mst_tool.specs.engine.Script.{LoadsAll, version_of}
+use Rattle.mst_tool.specs.engine.Steps.{Step, lacks_of, refusals_of}
 use Rattle.mst_io.specs.Devices.{Told, Works, IsStopped}
 use Rattle.mst_io.specs.declared.outcome.RunFault.{RunFault}
 use Rattle.mst_io.specs.declared.outcome.RunFault.TheVariants.{Read, Write, Memory}

@@ -1,7 +1,7 @@
 -- What replies print, and the turns that they give.
 use Rattle.std.specs.Prelude.{ℕ, ◌==◌, false, not, List, [], ◌++◌}
-use Rattle.mst_engine.specs.Engine as engine
-use Rattle.mst_engine.specs.declared.engine.Reply.{Reply as LineReply}
+use Rattle.mst_tool.specs.engine.Engine as engine
+use Rattle.mst_tool.specs.engine.declared.engine.Reply.{Reply as LineReply}
 use Rattle.mst_print.specs.Shape.{of_script}
 use Rattle.mst_print.specs.declared.form.Form.{Form}
 use Rattle.mst_tool.specs.Ask.{answer_text, told_of}

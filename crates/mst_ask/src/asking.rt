@@ -12,9 +12,9 @@ use crate::questions::{Asking, serve_questions};
 use crate::reply::{Verdict, put_done};
 use crate::script::{Script, read_script};
 use crate::standing::{Standing, load};
-use mst_engine::laws::{has_load, one_load, states};
 use mst_io::{Outcome, RunFault, Sink, Source};
 use mst_print::Form;
+use mst_tool::laws::{has_load, one_load, states};
 use mst_tool::read_policy;
 use std::alloc::Global;
 

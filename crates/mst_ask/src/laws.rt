@@ -2,26 +2,26 @@
 ghost use Rattle.std.specs.Prelude.{◌≡◌, ◌++◌, ℕ, List};
 ghost use Rattle.mst_lang.specs.Lines.{lines_of};
 ghost use Rattle.mst_lang.specs.declared.line.Version.{Version};
-ghost use Rattle.mst_engine.specs.Script.{LoadsAll, version_of};
-ghost use Rattle.mst_engine.specs.Steps.{Step, left_by};
-ghost use Rattle.mst_engine.specs.Steps as steps;
-ghost use Rattle.mst_engine.specs.report.State.{empty_state};
+ghost use Rattle.mst_tool.specs.engine.Script.{LoadsAll, version_of};
+ghost use Rattle.mst_tool.specs.engine.Steps.{Step, left_by};
+ghost use Rattle.mst_tool.specs.engine.Steps as steps;
+ghost use Rattle.mst_tool.specs.report.State.{empty_state};
 ghost use Rattle.mst_policy.specs.declared.policy.PolicyLine.{PolicyLine as LineOf};
 ghost use Rattle.mst_print.specs.Shape.{of_script};
 ghost use Rattle.mst_print.specs.declared.form.Form.{Form};
 ghost use Rattle.mst_ask.specs.Asking.{loaded_by};
 ghost use Rattle.mst_ask.specs.Standing.{AsksBy, IsStanding, Standing, Turn, edits_of, lacking_of, left_after};
 
-use mst_advising::laws::one_advice;
-use mst_engine::laws::states;
-use mst_engine::report_laws::{
+use mst_lang::laws::edits_in_range;
+use mst_net::laws::networks;
+use mst_tool::advise_laws::one_advice;
+use mst_tool::laws::states;
+use mst_tool::report_laws::{
     entries_of_network, has_answer, one_answer, one_explanation, one_picture, one_summary,
     one_vlan_picture,
 };
-use mst_judging::laws::one_verification;
-use mst_lang::laws::edits_in_range;
-use mst_net::laws::networks;
-use mst_sweeping::laws::{pair_parts, sweep_parts};
+use mst_tool::sweeping_laws::{pair_parts, sweep_parts};
+use mst_tool::verdict_laws::one_verification;
 
 /// Any lines can be asked, the first of any number, whatever network stands.
 pub fn has_turns()

@@ -7,10 +7,9 @@ ghost use Rattle.mst_ask.specs.Standing.{done};
 
 use itoa::Buffer;
 use mst_drive::Says;
-use mst_engine::{Input, Reply as LineReply, print};
 use mst_io::{Sink, WriteFailed, put, put_parts};
 use mst_print::Form;
-use mst_tool::{Answer, Verification, put_answer};
+use mst_tool::{Answer, Input, Reply as LineReply, Verification, print, put_answer};
 
 /// What a question is answered by.
 #[derive(Drop)]

@@ -5,11 +5,11 @@ ghost use Rattle.mst_lang.specs.Lines.{lines_of};
 ghost use Rattle.mst_lang.specs.Reading.{reading_as};
 ghost use Rattle.mst_lang.specs.declared.line.Line.TheVariants as lines;
 ghost use Rattle.mst_net.specs.After.{after};
-ghost use Rattle.mst_engine.specs.Engine.{IsCounted, IsReady, does, tally_of, tallied, version_from};
-ghost use Rattle.mst_engine.specs.Script.{version_of};
-ghost use Rattle.mst_engine.specs.Steps.{Step};
-ghost use Rattle.mst_engine.specs.report.Planned.{planned_state};
-ghost use Rattle.mst_engine.specs.report.State.{IsState};
+ghost use Rattle.mst_tool.specs.engine.Engine.{IsCounted, IsReady, does, tally_of, tallied, version_from};
+ghost use Rattle.mst_tool.specs.engine.Script.{version_of};
+ghost use Rattle.mst_tool.specs.engine.Steps.{Step};
+ghost use Rattle.mst_tool.specs.report.Planned.{planned_state};
+ghost use Rattle.mst_tool.specs.report.State.{IsState};
 ghost use Rattle.mst_io.specs.Devices.{Works, IsStopped};
 ghost use Rattle.mst_io.specs.Written.{AppendsFront};
 ghost use Rattle.mst_print.specs.Shape.{listed, of_script};
@@ -25,8 +25,6 @@ use crate::reply::Reply;
 use crate::request::{Request, read_request};
 use crate::script::{Script, next_line};
 use crate::undone::undone_text;
-use mst_engine::laws::has_load;
-use mst_engine::{Engine, Input, Planner, Reply as LineReply, print, serve};
 use mst_io::{Sink, WriteFailed};
 use mst_lang::laws::edits_in_range;
 use mst_lang::{Edit, Fault, Line, Version, parse_line_as};
@@ -34,7 +32,10 @@ use mst_net::Refusal;
 use mst_net::laws::networks;
 use mst_policy::Policy;
 use mst_print::{Form, Shape, Side};
-use mst_tool::{Question, answer_to, verified};
+use mst_tool::laws::has_load;
+use mst_tool::{
+    Engine, Input, Planner, Question, Reply as LineReply, answer_to, print, serve, verified,
+};
 use std::alloc::{AllocError, Global};
 
 /// A planner with the network of a script, a policy by which it is judged, and the edits that were made in it since, of which the last

@@ -7,10 +7,10 @@ use Rattle.std.proofs.lemmas.List.{take_more, flat_map_more}
 use Rattle.std.proofs.lemmas.List.Elements.{filter-append}
 use Rattle.mst_ids.specs.declared.name.PortName.{PortName}
 use Rattle.mst_net.specs.Tables.{Net}
-use Rattle.mst_roles.specs.declared.kind.Role.{Role}
-use Rattle.mst_roles.specs.trees.Outcome.{Outcome}
-use Rattle.mst_roles.proofs.trees_lemmas.Lists.{some_is, no_some, all_kept}
-use Rattle.mst_roles.proofs.trees_lemmas.Entries.{all_weaker}
+use Rattle.mst_trees.specs.declared.kind.Role.{Role}
+use Rattle.mst_trees.specs.Outcome.{Outcome}
+use Rattle.mst_trees.proofs.Lists.{some_is, no_some, all_kept}
+use Rattle.mst_trees.proofs.Entries.{all_weaker}
 use Rattle.mst_changes.specs.declared.subject.Item.{Item}
 use Rattle.mst_changes.specs.declared.subject.Item.TheVariants.{Port}
 use Rattle.mst_changes.specs.declared.subject.Subject.{Subject}

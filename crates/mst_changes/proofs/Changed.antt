@@ -14,12 +14,12 @@ use Rattle.mst_net.proofs.Keyed.{flipped}
 use Rattle.mst_net.proofs.Keys.{names, ports}
 use Rattle.mst_lag.specs.Trees.{mstis_of, is_among}
 use Rattle.mst_lag.specs.View.{LogicalPort, view_ports}
-use Rattle.mst_roles.specs.trees.Apart.{Apart}
-use Rattle.mst_roles.specs.trees.Msti.{has_msti}
-use Rattle.mst_roles.specs.trees.Outcome.{Outcome}
-use Rattle.mst_roles.proofs.trees_lemmas.Lists.{apart_mapped}
-use Rattle.mst_roles.proofs.trees_lemmas.Views.{bridges_rise, ports_rise}
-use Rattle.mst_roles.specs.Roles.{role_in}
+use Rattle.mst_trees.specs.Apart.{Apart}
+use Rattle.mst_trees.specs.Msti.{has_msti}
+use Rattle.mst_trees.specs.Outcome.{Outcome}
+use Rattle.mst_trees.proofs.Lists.{apart_mapped}
+use Rattle.mst_trees.proofs.Views.{bridges_rise, ports_rise}
+use Rattle.mst_trees.specs.Roles.{role_in}
 use Rattle.mst_changes.specs.declared.subject.Item.TheVariants.{Bridge, Port}
 use Rattle.mst_changes.specs.declared.subject.Subject.{Subject}
 use Rattle.mst_changes.specs.declared.value.VectorOrRole.{VectorOrRole}

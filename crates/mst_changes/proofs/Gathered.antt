@@ -7,26 +7,26 @@ use Rattle.std.specs.FinMap as fin
 use Rattle.std.proofs.lemmas.List.{take_more, flat_map_more}
 use Rattle.std.proofs.lemmas.List.Elements.{filter_map-append}
 use Rattle.mst_ids.specs.declared.name.PortName.{PortName}
-use Rattle.mst_roles.specs.settle.Assignment.{vector_of}
+use Rattle.mst_trees.specs.settle.Assignment.{vector_of}
 use Rattle.mst_net.specs.Tables.{Net, Numbers, BridgeRow}
 use Rattle.mst_lag.specs.Trees.{is_among}
 use Rattle.mst_lag.specs.View.{LogicalPort, view_ports}
 use Rattle.mst_lag.specs.Viewed.{Viewed, named_bridge, named_port}
 use Rattle.mst_lag.specs.declared.in_view.BridgeInView.{BridgeInView}
 use Rattle.mst_lag.specs.declared.in_view.PortInView.{PortInView}
-use Rattle.mst_roles.specs.trees.Agrees.{AreOf}
-use Rattle.mst_roles.specs.trees.Forest.{Forest, IsForest, msti_vector}
-use Rattle.mst_roles.specs.trees.InUse.{is_in_use}
-use Rattle.mst_roles.specs.trees.Msti.{has_msti}
-use Rattle.mst_roles.specs.trees.Seen.{trees_at}
-use Rattle.mst_roles.proofs.trees_lemmas.Lists.{kept_same, all_there}
-use Rattle.mst_roles.proofs.trees_lemmas.Entries.{all_weaker}
-use Rattle.mst_roles.proofs.trees_lemmas.Seen.{SeenBridge, bridges_seen}
-use Rattle.mst_roles.proofs.trees_lemmas.Looking.{has_tree_at}
-use Rattle.mst_roles.specs.Roles.{role_of, role_in, cist_role, msti_role}
-use Rattle.mst_roles.specs.Seen.{seen_role}
-use Rattle.mst_roles.specs.declared.kind.Role.{Role}
-use Rattle.mst_roles.proofs.Named.{own_role}
+use Rattle.mst_trees.specs.Agrees.{AreOf}
+use Rattle.mst_trees.specs.Forest.{Forest, IsForest, msti_vector}
+use Rattle.mst_trees.specs.InUse.{is_in_use}
+use Rattle.mst_trees.specs.Msti.{has_msti}
+use Rattle.mst_trees.specs.Seen.{trees_at}
+use Rattle.mst_trees.proofs.Lists.{kept_same, all_there}
+use Rattle.mst_trees.proofs.Entries.{all_weaker}
+use Rattle.mst_trees.proofs.Seen.{SeenBridge, bridges_seen}
+use Rattle.mst_trees.proofs.Looking.{has_tree_at}
+use Rattle.mst_trees.specs.Roles.{role_of, role_in, cist_role, msti_role}
+use Rattle.mst_trees.specs.SeenRoles.{seen_role}
+use Rattle.mst_trees.specs.declared.kind.Role.{Role}
+use Rattle.mst_trees.proofs.Named.{own_role}
 use Rattle.mst_changes.specs.declared.subject.Item.TheVariants.{Bridge, Port}
 use Rattle.mst_changes.specs.declared.subject.Subject.{Subject}
 use Rattle.mst_changes.specs.declared.value.VectorOrRole.{VectorOrRole}

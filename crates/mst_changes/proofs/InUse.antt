@@ -8,13 +8,13 @@ use Rattle.mst_net.specs.Tables.{Net, Numbers, BridgeRow}
 use Rattle.mst_lag.specs.Trees.{is_among, mstis_of}
 use Rattle.mst_lag.specs.Viewed.{Viewed}
 use Rattle.mst_lag.specs.declared.in_view.BridgeInView.{BridgeInView}
-use Rattle.mst_roles.specs.trees.Agrees.{AreOf}
-use Rattle.mst_roles.specs.trees.InUse.{is_in_use}
-use Rattle.mst_roles.specs.trees.Msti.{has_msti}
-use Rattle.mst_roles.specs.trees.Seen.{trees_at}
-use Rattle.mst_roles.proofs.trees_lemmas.Lists.{all_contained}
-use Rattle.mst_roles.proofs.trees_lemmas.Seen.{bridge_seen, bridge_there}
-use Rattle.mst_roles.proofs.trees_lemmas.Looking.{has_tree_at}
+use Rattle.mst_trees.specs.Agrees.{AreOf}
+use Rattle.mst_trees.specs.InUse.{is_in_use}
+use Rattle.mst_trees.specs.Msti.{has_msti}
+use Rattle.mst_trees.specs.Seen.{trees_at}
+use Rattle.mst_trees.proofs.Lists.{all_contained}
+use Rattle.mst_trees.proofs.Seen.{bridge_seen, bridge_there}
+use Rattle.mst_trees.proofs.Looking.{has_tree_at}
 
 none_pass : {A : Type 0} (test : A → Bool) (xs : List A) → list_any test xs ≡ false → AllByRecursion (λ x. test x ≡ false) xs
 none_pass test [] e = tt

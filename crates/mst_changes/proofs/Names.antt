@@ -9,9 +9,9 @@ use Rattle.std.specs.FinMap as fin
 use Rattle.std.specs.FinMap.{FinMap, IsAntisymmetric, find, is_sorted, entries, entries_sorted, get-entries, from_entries, get-from_entries}
 use Rattle.std.specs.FinMap.Entries.{below_all, where_key, same_entries, is_sorted-where_key, find-where_key}
 use Rattle.std.proofs.lemmas.List.Folds.{list_any-append}
-use Rattle.mst_roles.specs.trees.Apart.{Apart}
-use Rattle.mst_roles.proofs.trees_lemmas.Entries.{entries_apart}
-use Rattle.mst_roles.proofs.trees_lemmas.Lists.{apart_mapped}
+use Rattle.mst_trees.specs.Apart.{Apart}
+use Rattle.mst_trees.proofs.Entries.{entries_apart}
+use Rattle.mst_trees.proofs.Lists.{apart_mapped}
 use Rattle.mst_changes.specs.Subjects.{names_of_either}
 use Rattle.mst_changes.proofs.Lists.{filter_map-map, kept_passing}
 

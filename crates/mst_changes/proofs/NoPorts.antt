@@ -3,9 +3,9 @@ use Rattle.std.proofs.Common.{◌≡◌, ℕ, ◌==◌, ◌||◌, false, List, [
 use Rattle.std.specs.List.{flat_map}
 use Rattle.mst_ids.specs.Names.{port_cmp}
 use Rattle.mst_ids.specs.declared.name.PortName.{PortName}
-use Rattle.mst_roles.specs.trees.InUse.{is_in_use}
-use Rattle.mst_roles.specs.trees.Settled.{SettledNet, outcome_of, IsSettledNet}
-use Rattle.mst_roles.proofs.trees_lemmas.SettledNet.{forest_of}
+use Rattle.mst_trees.specs.InUse.{is_in_use}
+use Rattle.mst_trees.specs.Settled.{SettledNet, outcome_of, IsSettledNet}
+use Rattle.mst_trees.proofs.SettledNet.{forest_of}
 use Rattle.mst_changes.specs.declared.subject.Subject.{Subject}
 use Rattle.mst_changes.specs.declared.value.VectorOrRole.{VectorOrRole}
 use Rattle.mst_changes.specs.Subjects.{port_in, names_of_either, port_names}

@@ -6,10 +6,10 @@ use Rattle.std.specs.Cmp.{tied_itself, nat_cmp_total, nat_cmp_is, then_flip}
 use Rattle.std.specs.Cmp.Lexicographic.{nat_list_cmp_total}
 use Rattle.mst_ids.specs.Names.{name_cmp, port_cmp}
 use Rattle.mst_ids.specs.declared.name.PortName.{PortName}
-use Rattle.mst_roles.specs.trees.Apart.{Apart}
-use Rattle.mst_roles.proofs.trees_lemmas.Lists.{all_mapped, apart_mapped}
-use Rattle.mst_roles.proofs.trees_lemmas.Entries.{all_weaker}
-use Rattle.mst_roles.proofs.trees_lemmas.Views.{ports_total}
+use Rattle.mst_trees.specs.Apart.{Apart}
+use Rattle.mst_trees.proofs.Lists.{all_mapped, apart_mapped}
+use Rattle.mst_trees.proofs.Entries.{all_weaker}
+use Rattle.mst_trees.proofs.Views.{ports_total}
 use Rattle.mst_changes.specs.declared.subject.Item.{Item}
 use Rattle.mst_changes.specs.declared.subject.Item.TheVariants.{Bridge, Port}
 use Rattle.mst_changes.specs.declared.subject.Subject.{Subject}

@@ -1,14 +1,14 @@
 -- The entries of a view, under the numbers of records.
 use Rattle.std.specs.Prelude.{ℕ, ◌==◌, Option, None, if◌then◌else◌}
 use Rattle.std.specs.Option.{option_map}
-use Rattle.mst_roles.specs.settle.Assignment.{vector_of}
+use Rattle.mst_trees.specs.settle.Assignment.{vector_of}
 use Rattle.mst_lag.specs.Trees.{is_among}
 use Rattle.mst_lag.specs.Viewed.{Viewed}
 use Rattle.mst_lag.specs.declared.in_view.BridgeInView.{BridgeInView}
 use Rattle.mst_lag.specs.declared.in_view.PortInView.{PortInView}
-use Rattle.mst_roles.specs.trees.Seen.{trees_at}
-use Rattle.mst_roles.specs.trees.Forest.{Forest, msti_vector}
-use Rattle.mst_roles.specs.Seen.{seen_role}
+use Rattle.mst_trees.specs.Seen.{trees_at}
+use Rattle.mst_trees.specs.Forest.{Forest, msti_vector}
+use Rattle.mst_trees.specs.SeenRoles.{seen_role}
 use Rattle.mst_changes.specs.declared.subject.Item.TheVariants.{Bridge, Port}
 use Rattle.mst_changes.specs.declared.value.VectorOrRole.{VectorOrRole}
 use Rattle.mst_changes.specs.declared.value.VectorOrRole.TheVariants.{InCist, InMsti, HasRole}

@@ -5,11 +5,11 @@ use Rattle.std.specs.FinMap as fin
 use Rattle.mst_vector.specs.declared.cist.CistVector.{CistVector}
 use Rattle.mst_vector.specs.declared.msti.MstiVector.{MstiVector}
 use Rattle.mst_net.specs.Tables.{Net}
-use Rattle.mst_roles.specs.trees.Msti.{has_msti}
-use Rattle.mst_roles.specs.trees.Outcome.{Outcome}
-use Rattle.mst_roles.specs.Roles.{role_of}
-use Rattle.mst_roles.specs.declared.kind.Role.{Role}
-use Rattle.mst_roles.specs.declared.kind.Role.TheVariants.{Root, Designated, Alternate, Backup, Master, Disabled}
+use Rattle.mst_trees.specs.Msti.{has_msti}
+use Rattle.mst_trees.specs.Outcome.{Outcome}
+use Rattle.mst_trees.specs.Roles.{role_of}
+use Rattle.mst_trees.specs.declared.kind.Role.{Role}
+use Rattle.mst_trees.specs.declared.kind.Role.TheVariants.{Root, Designated, Alternate, Backup, Master, Disabled}
 use Rattle.mst_changes.specs.declared.subject.Item.{Item}
 use Rattle.mst_changes.specs.declared.subject.Item.TheVariants.{Bridge, Port}
 use Rattle.mst_changes.specs.declared.subject.Subject.{Subject}

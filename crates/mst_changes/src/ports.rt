@@ -1,14 +1,14 @@
 ghost use Rattle.std.specs.Prelude.{◌≡◌, ◌++◌, List, IfOk};
 ghost use Rattle.mst_rows.specs.Rows.{Row};
-ghost use Rattle.mst_roles.specs.trees.Settled.{outcome_of};
+ghost use Rattle.mst_trees.specs.Settled.{outcome_of};
 ghost use Rattle.mst_changes.specs.PortChanges.{counted, port_change_rows};
 
 use crate::merge::put_merged;
 use crate::rows::push_ports;
 use mst_ids::Tree;
 use mst_lag::View;
-use mst_roles::{Forest, Settled};
 use mst_rows::Rows;
+use mst_trees::{Forest, Settled};
 use std::alloc::{AllocError, Global};
 
 /// A network's view and its settled trees.

@@ -5,3 +5,5 @@ pub mod Split
 pub mod Told
 pub mod Pairing
 pub mod Firsts
+mod VidLists
+pub mod VidPlaces

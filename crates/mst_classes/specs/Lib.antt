@@ -1,3 +1,4 @@
+pub mod AllVids
 pub mod Alike
 pub mod Classes
 pub mod Pairs

@@ -1,10 +1,12 @@
-//! Classes of VIDs that nothing in a network tells apart: no table of a bridge, and no set of VLANs of a port.
+//! Classes of VIDs that nothing in a network tells apart: no table of a bridge, and no set of VLANs of a port. And all VIDs, in a list or a set.
 #![tactic(auto)]
 
 mod alike;
+mod all;
 mod by_table;
 mod classes;
 mod distinct;
 mod splitting;
 
+pub use all::{set_of, vids};
 pub use classes::{classes_by_tables, classes_of_both, classes_of_vids};

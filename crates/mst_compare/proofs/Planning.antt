@@ -29,9 +29,9 @@ use Rattle.mst_trees.proofs.Lists.{some_is, kept_in, all_contained}
 use Rattle.mst_trees.proofs.Views.{IsPort, IsOn, ports_are, row_on, entry_there}
 use Rattle.mst_trees.proofs.Seen.{SeenBridge, SeenPort, bridge_seen, port_seen, port_of_net}
 use Rattle.mst_trees.proofs.Looking.{IsFirst, first_found}
-use Rattle.mst_roles.specs.Roles.{cist_role, role_in, role_of}
-use Rattle.mst_roles.specs.Seen.{seen_role}
-use Rattle.mst_roles.proofs.Named.{own_role, port_same}
+use Rattle.mst_trees.specs.Roles.{cist_role, role_in, role_of}
+use Rattle.mst_trees.specs.SeenRoles.{seen_role}
+use Rattle.mst_trees.proofs.Named.{own_role, port_same}
 use Rattle.mst_bpdu.specs.Differences.{differences_of}
 use Rattle.mst_bpdu.specs.declared.bpdu.Bpdu.{Bpdu}
 use Rattle.mst_bpdu.specs.declared.difference.Difference.{Difference}

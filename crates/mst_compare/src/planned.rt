@@ -13,8 +13,7 @@ use mst_bpdu::{ConfigurationId, Planned, PlannedCist, PlannedMsti, PlannedMstis,
 use mst_ids::{BridgeId, PortId, PortName, Tree, padded};
 use mst_lag::{PortInView, View};
 use mst_net::{Bridge, TreeSettings};
-use mst_roles::{Role, port_role};
-use mst_trees::Forest;
+use mst_trees::{Forest, Role, port_role};
 use mst_vector::{CistVector, MstiVector};
 use std::alloc::{AllocError, Global};
 

@@ -1,5 +1,4 @@
 pub use Rattle.mst_changes.proofs as changes_lemmas
-pub use Rattle.mst_plan_text.proofs as plan_text_lemmas
 pub mod Lists
 pub mod Named
 pub mod Shared

@@ -17,9 +17,9 @@ use Rattle.mst_vlan.proofs.trees_lemmas.Lists.{all_there}
 use Rattle.mst_vlan.specs.Reach.{bridges_on, lans_up, vid_links, AreReached}
 use Rattle.mst_vlan.specs.declared.island.Island.{Island as IslandNos}
 use Rattle.mst_vlan.proofs.Renumbered.{bridge_listed}
-use Rattle.mst_plan_text.specs.text.VlanSeen.{seen_bridge}
-use Rattle.mst_plan_text.proofs.text_lemmas.VlanListed.{by_number}
-use Rattle.mst_plan_text.proofs.text_lemmas.VlanNamed.{bridge_named}
+use Rattle.mst_vlan.specs.Seen.{seen_bridge}
+use Rattle.mst_vlan.proofs.ByNumber.{by_number}
+use Rattle.mst_vlan.proofs.NamedInView.{bridge_named}
 use Rattle.mst_diff.specs.Reach.{has_any, island_bridges, same_names, without}
 use Rattle.mst_diff.specs.Seen.{seen_groups, one_group, apart_group}
 

@@ -16,15 +16,15 @@ use Rattle.mst_vlan.specs.trees.Settled.{SettledNet, outcome_of, IsSettledNet}
 use Rattle.mst_vlan.proofs.trees_lemmas.Lists.{filter_mapped, mapped_twice}
 use Rattle.mst_vlan.proofs.trees_lemmas.Seen.{ports_seen}
 use Rattle.mst_vlan.proofs.trees_lemmas.SettledNet.{forest_of}
-use Rattle.mst_vlan.proofs.roles_lemmas.Forwarded.{each_forwards}
+use Rattle.mst_vlan.proofs.trees_lemmas.Forwarded.{each_forwards}
 use Rattle.mst_vlan.proofs.trees_lemmas.Entries.{all_weaker}
 use Rattle.mst_vlan.proofs.trees_lemmas.Looking.{filter_alike}
-use Rattle.mst_vlan.specs.roles.Roles.{forwards_for}
-use Rattle.mst_vlan.specs.roles.Seen.{seen_forwards}
+use Rattle.mst_vlan.specs.trees.Roles.{forwards_for}
+use Rattle.mst_vlan.specs.trees.SeenRoles.{seen_forwards}
 use Rattle.mst_vlan.specs.Active.{active_ports}
 use Rattle.mst_vlan.specs.Reach.{AreIslandsOf, bridges_on, is_member, lans_up, link_of, vid_links}
 use Rattle.mst_vlan.specs.Seen.{seen_active, seen_member}
-use Rattle.mst_carried.specs.Carried.{CarryAlike, names_of, seen_carried}
+use Rattle.mst_vlan.specs.Carried.{CarryAlike, names_of, seen_carried}
 use Rattle.mst_diff.specs.Reach.{island_bridges, no_sides}
 use Rattle.mst_diff.specs.Seen.{with_trees, seen_names_on, seen_names_up, AreSidesOf, HaveSameEnds}
 use Rattle.mst_diff.proofs.Alike.{no_sides as none_between}

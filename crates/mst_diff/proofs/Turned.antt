@@ -23,10 +23,10 @@ use Rattle.mst_vlan.specs.trees.Outcome.{Outcome}
 use Rattle.mst_vlan.proofs.trees_lemmas.Entries.{all_weaker, entries_found}
 use Rattle.mst_vlan.proofs.trees_lemmas.Lists.{apart_mapped}
 use Rattle.mst_vlan.proofs.trees_lemmas.Views.{bridges_rise}
-use Rattle.mst_vlan.specs.roles.Roles.{role_of}
-use Rattle.mst_vlan.specs.roles.declared.kind.Role.{Role}
-use Rattle.mst_plan_text.specs.PlanText.{all_vids}
-use Rattle.mst_plan_text.proofs.OnePlan.{is_vid_there}
+use Rattle.mst_vlan.specs.trees.Roles.{role_of}
+use Rattle.mst_vlan.specs.trees.declared.kind.Role.{Role}
+use Rattle.mst_classes.specs.AllVids.{all_vids}
+use Rattle.mst_classes.proofs.VidPlaces.{is_vid_there}
 use Rattle.mst_changes.specs.declared.value.VectorOrRole.TheVariants.{HasRole}
 use Rattle.mst_changes.specs.Subjects.{all_trees, bridge_names, port_in, port_names, names_of_either}
 use Rattle.mst_changes.specs.PortChanges.{port_change_rows}

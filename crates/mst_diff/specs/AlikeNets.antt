@@ -8,7 +8,7 @@ use Rattle.mst_graph.specs.Islands.{Island}
 use Rattle.mst_net.specs.Tables.{Net, BridgeRow}
 use Rattle.mst_config.specs.Regions.{first_of_region}
 use Rattle.mst_vlan.specs.trees.Outcome.{Outcome}
-use Rattle.mst_vlan.specs.roles.Roles.{role_of}
+use Rattle.mst_vlan.specs.trees.Roles.{role_of}
 use Rattle.mst_vlan.specs.Reach.{AreIslandsOf}
 use Rattle.mst_diff.specs.Regions.{same_told}
 use Rattle.mst_diff.specs.Roots.{root_name}

@@ -1,6 +1,4 @@
 pub use Rattle.mst_changes.specs as changes
-pub use Rattle.mst_plan_text.specs.text as text
-pub use Rattle.mst_plan_text.specs as plan_text
 pub mod Regions
 pub mod Roots
 pub mod Ports

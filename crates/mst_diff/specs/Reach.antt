@@ -14,7 +14,7 @@ use Rattle.mst_rows.specs.Cells as cells
 use Rattle.mst_rows.specs.Rows.{Row, row_of}
 use Rattle.mst_vlan.specs.trees.Outcome.{Outcome}
 use Rattle.mst_vlan.specs.Reach.{AreIslandsOf}
-use Rattle.mst_plan_text.specs.PlanText.{all_vids}
+use Rattle.mst_classes.specs.AllVids.{all_vids}
 
 -- there is something in a list
 abbrev pub has_any : {A : Type 0} → List A → Bool

@@ -17,7 +17,7 @@ use Rattle.mst_vlan.specs.trees.InUse.{id_in}
 use Rattle.mst_vlan.specs.trees.Seen.{trees_at}
 use Rattle.mst_vlan.specs.trees.Settled.{SettledNet, outcome_of}
 use Rattle.mst_vlan.specs.declared.island.Island.{Island}
-use Rattle.mst_plan_text.specs.text.VlanSeen.{seen_bridge}
+use Rattle.mst_vlan.specs.Seen.{seen_bridge}
 use Rattle.mst_changes.specs.PortChanges.{port_change_rows}
 use Rattle.mst_kinds.specs.declared.change_line.ChangeLine.TheVariants as change_line
 use Rattle.mst_kinds.specs.declared.kind.Kind.TheVariants as kind
@@ -32,7 +32,7 @@ use Rattle.mst_diff.specs.declared.regions.RegionChange.{RegionChange}
 use Rattle.mst_diff.specs.DiffText.{AreDiffRowsOf}
 use Rattle.mst_diff.specs.Regions.{region_unless}
 use Rattle.mst_diff.specs.Roots.{root_pair, root_row, same_pair, with_new, tree_roots}
-use Rattle.mst_carried.specs.Carried.{ViewWithTrees}
+use Rattle.mst_vlan.specs.Carried.{ViewWithTrees}
 use Rattle.mst_diff.specs.Reach.{has_any, no_sides, same_names, AreSides, Sides}
 use Rattle.mst_diff.specs.declared.sides.Sides.{Sides as KeptSides}
 

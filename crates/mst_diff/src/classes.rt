@@ -1,5 +1,5 @@
 ghost use Rattle.std.specs.Prelude.{◌≡◌, IfOk, filter, length};
-ghost use Rattle.mst_plan_text.specs.Bodies.{NumberEach};
+ghost use Rattle.mst_classes.specs.AllVids.{NumberEach};
 ghost use Rattle.mst_diff.specs.Classes.{flag_at};
 
 use mst_ids::Vid;

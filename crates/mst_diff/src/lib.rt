@@ -19,6 +19,5 @@ pub use both::{Both, bridges_of_both};
 pub use classes::flagged;
 pub use diff::{Differing, put_diff};
 pub use mst_changes::Planned;
-pub use mst_plan_text::{set_of, vids};
 pub use roots::{root, root_of};
 pub use sides::has_bridge;

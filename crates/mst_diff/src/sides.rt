@@ -8,11 +8,9 @@ ghost use Rattle.mst_diff.specs.Seen.{apart_group, one_group, seen_groups, seen_
 
 use crate::carriages::Carriages;
 use indexmap::IndexSet;
-use mst_carried::Carriage;
 use mst_ids::{Name, Vid};
 use mst_lag::View;
-use mst_plan_text::bridge_names;
-use mst_vlan::{Island, Settled};
+use mst_vlan::{Carriage, Island, Settled, bridge_names};
 use std::alloc::{AllocError, Global};
 
 /// The islands of a VID before that aren't there afterwards, and those afterwards that weren't there before, each by its

@@ -3,9 +3,9 @@ ghost use Rattle.std.specs.List.{All};
 ghost use Rattle.mst_diff.specs.Seen.{seen_names_on, seen_names_up, HaveSameEnds, TellUnlike};
 
 use crate::carriages::Carriages;
-use mst_carried::differing;
 use mst_ids::Name;
 use mst_lag::View;
+use mst_vlan::differing;
 use mst_vlan::laws::islands_of_vid;
 use std::alloc::{AllocError, Global};
 

@@ -25,7 +25,7 @@ use Rattle.mst_trees.proofs.Lists.{some_is}
 use Rattle.mst_trees.proofs.Sights.{has_port_ids}
 use Rattle.mst_trees.proofs.CistTopology.{cist_is_sight, cist_topology}
 use Rattle.mst_trees.proofs.MstiTopology.{msti_is_sight, msti_topology}
-use Rattle.mst_roles.specs.Roles.{cist_role}
+use Rattle.mst_trees.specs.Roles.{cist_role}
 use Rattle.mst_rows.specs.Rows.{Row}
 use Rattle.mst_explain.specs.declared.lines.Contest.{Contest}
 use Rattle.mst_explain.specs.Contest.{IsFirst, IsRival, IsAlone, IsDesignatedVectorOn, Gives}

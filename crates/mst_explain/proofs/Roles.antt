@@ -29,10 +29,10 @@ use Rattle.mst_trees.proofs.Views.{IsPort, ports_are}
 use Rattle.mst_trees.proofs.Sights.{IsSight, bridge_in, port_in, port_from, is_topology, has_port_ids}
 use Rattle.mst_trees.proofs.CistTopology.{cist_is_sight}
 use Rattle.mst_trees.proofs.MstiTopology.{msti_is_sight}
-use Rattle.mst_roles.specs.Roles.{beside, role_by, outside, cist_role, msti_role}
-use Rattle.mst_roles.specs.declared.kind.Role.{Role}
-use Rattle.mst_roles.specs.declared.kind.Role.TheVariants.{Root, Designated, Alternate, Backup, Master, Disabled}
-use Rattle.mst_roles.proofs.Named.{port_is, port_same}
+use Rattle.mst_trees.specs.Roles.{beside, role_by, outside, cist_role, msti_role}
+use Rattle.mst_trees.specs.declared.kind.Role.{Role}
+use Rattle.mst_trees.specs.declared.kind.Role.TheVariants.{Root, Designated, Alternate, Backup, Master, Disabled}
+use Rattle.mst_trees.proofs.Named.{port_is, port_same}
 use Rattle.mst_explain.specs.Contest.{IsFirst, IsDesignatedVectorOn, Gives}
 use Rattle.mst_explain.specs.AsTold.{IsDesignatedOn, GivesRoot, IsAsTold}
 use Rattle.mst_explain.proofs.OneText.{TellsReceiver, receiver_of, cist_tells, msti_tells}

@@ -23,7 +23,7 @@ use Rattle.mst_trees.proofs.Views.{port_names_differ}
 use Rattle.mst_trees.proofs.Sights.{IsSight, changed_from, bridge_from, bridge_in, port_from, port_in, is_topology}
 use Rattle.mst_trees.proofs.Seen.{PortsRise, bridge_seen, port_seen, ports_apart, bridge_there, port_there, port_of_net}
 use Rattle.mst_trees.proofs.Looking.{first_found}
-use Rattle.mst_roles.proofs.Named.{found_in}
+use Rattle.mst_trees.proofs.Named.{found_in}
 use Rattle.mst_explain.specs.declared.claims.Claim.{Claim}
 use Rattle.mst_explain.specs.Contest.{IsDesignatedVectorOn}
 use Rattle.mst_explain.specs.Seen.{TreeSeen, designated_vector, designated_on, claim_of, lan_claim, lan_claims}

@@ -20,8 +20,8 @@ use Rattle.mst_trees.specs.Outcome.{TreeOutcome, IsTreeOutcome, Outcome, IsOutco
 use Rattle.mst_trees.proofs.Sights.{IsSight, is_topology, has_port_ids}
 use Rattle.mst_trees.proofs.CistTopology.{cist_is_sight}
 use Rattle.mst_trees.proofs.MstiTopology.{msti_is_sight}
-use Rattle.mst_roles.specs.Roles.{cist_role, msti_role, role_in}
-use Rattle.mst_roles.specs.declared.kind.Role.{Role}
+use Rattle.mst_trees.specs.Roles.{cist_role, msti_role, role_in}
+use Rattle.mst_trees.specs.declared.kind.Role.{Role}
 use Rattle.mst_rows.specs.Rows.{Row}
 use Rattle.mst_explain.specs.declared.claims.Claim.{Claim}
 use Rattle.mst_explain.specs.Claims.{told_rows}

@@ -28,8 +28,8 @@ use Rattle.mst_trees.proofs.Entries.{all_weaker}
 use Rattle.mst_trees.proofs.Lists.{all_contained, all_there}
 use Rattle.mst_trees.proofs.CistTopology.{cist_is_sight}
 use Rattle.mst_trees.proofs.Seen.{SeenPort, port_seen}
-use Rattle.mst_roles.specs.Roles.{cist_role, msti_role, role_in}
-use Rattle.mst_roles.specs.declared.kind.Role.{Role}
+use Rattle.mst_trees.specs.Roles.{cist_role, msti_role, role_in}
+use Rattle.mst_trees.specs.declared.kind.Role.{Role}
 use Rattle.mst_rows.specs.Rows.{Row}
 use Rattle.mst_explain.specs.Fields.{cist_fields, msti_fields}
 use Rattle.mst_explain.specs.Lines.{explain_rows, boundary_rows, disabled_rows}

@@ -12,7 +12,7 @@ use Rattle.mst_lag.specs.declared.in_view.PortInView.{PortInView}
 use Rattle.mst_trees.specs.Seen.{seen_internal}
 use Rattle.mst_trees.specs.Forest.{designated_in}
 use Rattle.mst_trees.specs.Settled.{SettledNet, outcome_of}
-use Rattle.mst_roles.specs.Roles.{role_in}
+use Rattle.mst_trees.specs.Roles.{role_in}
 use Rattle.mst_rows.specs.Rows.{Row}
 use Rattle.mst_explain.specs.Fields.{cist_fields, msti_fields}
 use Rattle.mst_explain.specs.Lines.{explain_rows, boundary_rows, disabled_rows}

@@ -11,9 +11,8 @@ use crate::in_tree::designated_port;
 use crate::lines::{put_boundary, put_disabled, put_heading};
 use mst_ids::{BridgeNo, Name, Tree};
 use mst_lag::{PortInView, View};
-use mst_roles::role_of;
 use mst_rows::Rows;
-use mst_trees::Settled;
+use mst_trees::{Settled, role_of};
 use mst_vector::{CistMetric, MstiMetric};
 use std::alloc::{AllocError, Global};
 

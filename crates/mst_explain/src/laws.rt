@@ -13,7 +13,7 @@ ghost use Rattle.mst_lag.specs.View.{LogicalPort, view_ports};
 ghost use Rattle.mst_trees.specs.Outcome.{Outcome, IsOutcome};
 ghost use Rattle.mst_trees.specs.Cist.{cist_of};
 ghost use Rattle.mst_trees.specs.Msti.{msti_of, has_msti, is_internal};
-ghost use Rattle.mst_roles.specs.Roles.{cist_role, msti_role};
+ghost use Rattle.mst_trees.specs.Roles.{cist_role, msti_role};
 ghost use Rattle.mst_rows.specs.Rows.{Row};
 ghost use Rattle.mst_explain.specs.AsTold.{IsAsTold, TellsLowerFirst};
 ghost use Rattle.mst_explain.specs.Contest.{IsDesignatedVectorOn, Gives};

@@ -12,9 +12,9 @@ use Rattle.mst_net.specs.ByTree.{table_in}
 use Rattle.mst_net.specs.Seen.{bridge_row}
 use Rattle.mst_net.specs.Table.{tree_in}
 use Rattle.mst_net.specs.Tables.{BridgeRow}
-use Rattle.mst_diff.specs.Reach.{has_any}
-use Rattle.mst_roles.specs.Roles.{tree_of_vid}
-use Rattle.mst_roles.specs.Seen.{seen_tree}
+use Rattle.mst_summary.specs.diff.Reach.{has_any}
+use Rattle.mst_trees.specs.Roles.{tree_of_vid}
+use Rattle.mst_trees.specs.SeenRoles.{seen_tree}
 use Rattle.mst_trees.specs.Outcome.{Outcome}
 use Rattle.mst_trees.specs.Settled.{SettledNet, outcome_of, IsSettledNet}
 use Rattle.mst_trees.proofs.Lists.{some_is}

@@ -7,9 +7,9 @@ use Rattle.mst_lag.specs.declared.in_view.BridgeInView.{BridgeInView}
 use Rattle.mst_lag.specs.declared.in_view.LanInView.{LanInView}
 use Rattle.mst_lag.specs.declared.in_view.PortInView.{PortInView}
 use Rattle.mst_net.specs.Seen.{bridge_row}
-use Rattle.mst_diff.specs.Reach.{has_any}
-use Rattle.mst_roles.specs.Seen.{seen_tree}
-use Rattle.mst_text.specs.TreeText.{has_tree}
+use Rattle.mst_summary.specs.diff.Reach.{has_any}
+use Rattle.mst_trees.specs.SeenRoles.{seen_tree}
+use Rattle.mst_trees.specs.Msti.{has_tree}
 use Rattle.mst_trees.specs.Settled.{SettledNet, outcome_of}
 use Rattle.mst_vlan.specs.declared.island.Island.{Island}
 use Rattle.mst_picture.specs.Bridges.{bridge_line, is_root, off_text, style}

@@ -9,11 +9,10 @@ ghost use Rattle.mst_picture.specs.InView.{node_of, node_at, cluster_of, cluster
 use crate::bridges::is_root;
 use crate::pieces::push_pieces;
 use itoa::Buffer;
-use mst_diff::has_bridge;
 use mst_ids::{BridgeNo, Name, Tree, Vid, push_bytes};
 use mst_lag::BridgeInView;
-use mst_roles::vid_tree;
-use mst_trees::Settled;
+use mst_summary::has_bridge;
+use mst_trees::{Settled, vid_tree};
 use mst_vlan::{Island, active_ports, reach_from};
 use std::alloc::{AllocError, Global};
 

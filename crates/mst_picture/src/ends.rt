@@ -1,16 +1,15 @@
 ghost use Rattle.std.specs.Prelude.{◌≡◌, ◌&&◌, ◌++◌, false, OnOk};
 ghost use Rattle.std.specs.List.{Contains};
 ghost use Rattle.std.specs.Option.{option_map_or};
-ghost use Rattle.mst_roles.specs.Roles.{forwards as forwards_by};
+ghost use Rattle.mst_trees.specs.Roles.{forwards as forwards_by};
 ghost use Rattle.mst_vlan.specs.Seen.{seen_member};
 ghost use Rattle.mst_picture.specs.Lans.{letter as letter_of, role_letter as role_letter_of, label, designates as designates_of, line_end as line_end_by};
 ghost use Rattle.mst_picture.specs.InView.{end_at, tree_end_at, vlan_end_at};
 
 use mst_ids::{PortName, Tree, Vid, push_bytes};
 use mst_lag::PortInView;
-use mst_roles::{Role, role_of, vid_tree};
 use mst_summary::role;
-use mst_trees::Settled;
+use mst_trees::{Role, Settled, role_of, vid_tree};
 use mst_vlan::is_member;
 use std::alloc::AllocError;
 

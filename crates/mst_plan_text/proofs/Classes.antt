@@ -2,38 +2,21 @@
 use Rattle.std.proofs.Common.{◌≡◌, ℕ, ◌+◌, ◌-◌, ◌<◌, nat_eq, Bool, true, List, [], length, map, get_or, sym, ap, subst, ◌∙◌, arith}
 use Rattle.std.specs.List.{AllByRecursion, Contains}
 use Rattle.std.proofs.lemmas.Bool.{eqb-true}
-use Rattle.std.proofs.lemmas.List.{get_or_default, get_or-map}
-use Rattle.mst_ids.specs.Vids.{has, is_vid}
+use Rattle.std.proofs.lemmas.List.{get_or-map}
+use Rattle.mst_ids.specs.Vids.{is_vid}
 use Rattle.mst_ids.specs.declared.name.PortName.{PortName}
 use Rattle.mst_graph.specs.Numbers.{AreNumbers}
 use Rattle.mst_net.specs.ByTree.{table_in, vlans_in}
-use Rattle.mst_net.specs.Table.{tree_in}
 use Rattle.mst_net.specs.Tables.{Net, Numbers}
 use Rattle.mst_lag.specs.Viewed.{Viewed}
 use Rattle.mst_text.specs.trees.Agrees.{AreOf}
 use Rattle.mst_text.specs.trees.Outcome.{Outcome}
 use Rattle.mst_text.specs.trees.Forest.{Forest}
-use Rattle.mst_text.proofs.trees_lemmas.Entries.{all_weaker}
-use Rattle.mst_text.proofs.trees_lemmas.Lists.{all_contained}
-use Rattle.mst_text.specs.vlan.Reach.{vid_links}
 use Rattle.mst_classes.specs.Alike.{AreAlike, TellApart}
-use Rattle.mst_plan_text.specs.Bodies.{NumberEach, pair_of, pairs_at, pairs_of}
-use Rattle.mst_plan_text.proofs.Grouped.{place_of_vid}
-use Rattle.mst_plan_text.proofs.VidsAlike.{links_alike, ports_alike}
-
--- each VID's number has a body, where each class has
-pub numbers_below : (told numbers firsts : List ℕ) (n : ℕ) → length told ≡ 4094 → AreNumbers nat_eq told numbers firsts → n ≡ length firsts → NumberEach numbers n
-numbers_below told numbers firsts n long are e = record {
-  as_long = are.as_long ∙ long;
-  below = λ i l. let below : get_or numbers i 0 < length firsts = are.below i (subst (λ k. i < k) (sym long) l) in omega arith;
-}
-
-pub each_below : (told numbers firsts : List ℕ) (n : ℕ) → AreNumbers nat_eq told numbers firsts → n ≡ length firsts → (ns : List ℕ) → ns ≡ numbers → (k d : ℕ) → k < length ns → get_or ns k d < n
-each_below told numbers firsts n are e ns is k d l =
-    let same : get_or ns k d ≡ get_or numbers k 0 = get_or_default ns k d 0 l ∙ ap (λ xs. get_or xs k 0) is in
-    let here : k < length numbers = subst (λ xs. k < length xs) is l in
-    let below : get_or numbers k 0 < length firsts = are.below k (subst (λ m. k < m) are.as_long here) in
-    omega arith
+use Rattle.mst_classes.proofs.VidPlaces.{place_of_vid}
+use Rattle.mst_plan_text.specs.Bodies.{pair_of, pairs_at, pairs_of}
+use Rattle.mst_text.proofs.vlan_lemmas.LinksAlike.{one_tree, same_ports}
+use Rattle.mst_plan_text.proofs.VidsAlike.{ports_alike}
 
 -- of what VIDs have that alike VIDs share: what a class has is that of each of its VIDs
 module _ (pairs : ℕ → List (PortName × Bool)) (tables : List (List ℕ)) (sets : List (List Bool)) (shared : (x y : ℕ) → AreAlike tables sets x y → pairs x ≡ pairs y)
@@ -60,18 +43,8 @@ module _ (net : Net) (numbers : Numbers) (v : Viewed) (f : Forest) (of : AreOf n
     (have_table : AllByRecursion (λ b. Contains tables (table_in v.settings.tables b.name)) v.bridges)
     (have_set : AllByRecursion (λ p. Contains sets (vlans_in v.settings.vlans p.name)) v.ports) where
   module _ (x y : ℕ) (a : AreAlike tables sets x y) where
-    one_tree : AllByRecursion (λ b. tree_in (table_in v.settings.tables b.name) x ≡ tree_in (table_in v.settings.tables b.name) y) v.bridges
-    one_tree = all_weaker _ _ (λ b there. all_contained (λ table. tree_in table x ≡ tree_in table y) tables (table_in v.settings.tables b.name) a.same_tree there) v.bridges have_table
-
-    same_ports : AllByRecursion (λ p. has (vlans_in v.settings.vlans p.name) x ≡ has (vlans_in v.settings.vlans p.name) y) v.ports
-    same_ports = all_weaker _ _ (λ p there. all_contained (λ set. has set x ≡ has set y) sets (vlans_in v.settings.vlans p.name) a.same_sets there) v.ports have_set
-
-    -- alike VIDs have the same links
-    pub links_shared : vid_links net o x ≡ vid_links net o y
-    links_shared = links_alike net numbers v f of o x y one_tree same_ports
-
     pairs_shared : pairs_of net o x ≡ pairs_of net o y
-    pairs_shared = ap (map pair_of) (ports_alike net numbers v f of o x y one_tree same_ports)
+    pairs_shared = ap (map pair_of) (ports_alike net numbers v f of o x y (one_tree net numbers v f of o tables sets have_table have_set x y a) (same_ports net numbers v f of o tables sets have_table have_set x y a))
 
   -- the active ports of a VID, by the number of its class
   pub are_pairs : (told classes firsts : List ℕ) → TellApart tables sets told → AreNumbers nat_eq told classes firsts → (all : List (List (PortName × Bool))) → all ≡ map (λ place. pairs_of net o (place + 1)) firsts

@@ -2,53 +2,14 @@
 use Rattle.std.proofs.Common.{◌≡◌, ℕ, ◌+◌, ◌-◌, ◌<◌, ◌≤◌, Bool, true, List, [], ◌∷◌, length, get_or, map, refl, sym, ap, subst, ◌∙◌, arith}
 use Rattle.std.specs.Bool.{Decides}
 use Rattle.std.specs.List.{Contains}
-use Rattle.std.proofs.lemmas.Bool.Decides.{nat_tests}
 use Rattle.std.proofs.lemmas.List.{get_or_default, get_or-map}
-use Rattle.std.proofs.lemmas.List.FromFn.{get_or-range_with_len, length-range_with_len}
-use Rattle.mst_ids.specs.Vids.{is_vid}
 use Rattle.mst_ids.specs.declared.name.PortName.{PortName}
 use Rattle.mst_graph.specs.Groups.{AreGroups}
 use Rattle.mst_graph.specs.Numbers.{HaveBodies}
 use Rattle.mst_graph.proofs.Alike.{alike_groups}
-use Rattle.mst_plan_text.specs.PlanText.{all_vids}
-use Rattle.mst_plan_text.specs.Bodies.{NumberEach, pairs_at}
-
--- ---- VIDs
-pub vids_long : length all_vids ≡ 4094
-unfolding all_vids
-vids_long = length-range_with_len 1 4094
-
-vid_at : (i d : ℕ) → i < 4094 → get_or all_vids i d ≡ 1 + i
-unfolding all_vids
-vid_at i d l = get_or-range_with_len 1 4094 i d l
-
--- a VID is one more than its place
-pub record AtPlace (vid : ℕ) : Type 0 where
-  pub place : ℕ
-  pub below : place < 4094
-  pub is : place + 1 ≡ vid
-
-pub vid_place : (vid : ℕ) → Contains all_vids vid → AtPlace vid
-vid_place vid h =
-    let long : length all_vids ≡ 4094 = vids_long in
-    let l : h.0 < length all_vids = h.1 in
-    let below : h.0 < 4094 = omega arith in
-    let at : get_or all_vids h.0 vid ≡ 1 + h.0 = vid_at h.0 vid below in
-    let found : get_or all_vids h.0 vid ≡ vid = h.2 in
-    let is : h.0 + 1 ≡ vid = omega arith in
-    record { place = h.0; below = below; is = is }
-
-range_of_vid : (vid : ℕ) → is_vid vid ≡ true → (1 ≤ vid) × (vid ≤ 4094)
-range_of_vid vid e = grind (arith, nat_tests)
-
-pub place_of_vid : (vid : ℕ) → is_vid vid ≡ true → AtPlace vid
-place_of_vid vid e =
-    let range = range_of_vid vid e in
-    let least : 1 ≤ vid = range.0 in
-    let greatest : vid ≤ 4094 = range.1 in
-    let below : vid - 1 < 4094 = omega arith in
-    let is : vid - 1 + 1 ≡ vid = omega arith in
-    record { place = vid - 1; below = below; is = is }
+use Rattle.mst_classes.specs.AllVids.{all_vids, NumberEach}
+use Rattle.mst_classes.proofs.VidPlaces.{vids_long, vid_at, vid_place}
+use Rattle.mst_plan_text.specs.Bodies.{pairs_at}
 
 -- ---- groups, where a test decides whether what is seen of two is the same
 module _ {B : Type 0} (seen : B → List (PortName × Bool)) (same : B → B → Bool) (decides : (x y : B) → Decides (same x y) (seen x ≡ seen y)) (numbers : List ℕ) (kept : List B) (each : NumberEach numbers (length kept)) where

@@ -1,7 +1,5 @@
 pub use Rattle.mst_text.proofs as text_lemmas
-pub mod Sets
 pub mod SeenTrees
-pub mod Bodied
 pub mod VidsAlike
 pub mod Grouped
 pub mod Classes

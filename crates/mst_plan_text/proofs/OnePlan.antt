@@ -1,11 +1,9 @@
 -- The rows of a plan: there are some, and one list only.
 use Rattle.std.proofs.Common.{◌≡◌, ◌↔◌, ℕ, zero, suc, ◌+◌, ◌<◌, ◌++◌, Bool, true, List, length, map, get_or, refl, sym, ap, subst, ◌∙◌, arith}
 use Rattle.std.specs.Cmp.{IsEquivalence}
-use Rattle.std.specs.List.{Contains, flat_map, range_with_len}
-use Rattle.std.proofs.lemmas.Bool.Decides.{nat_tests}
-use Rattle.std.proofs.lemmas.List.FromFn.{get_or-range_with_len, length-range_with_len}
-use Rattle.mst_ids.specs.Vids.{is_vid}
-use Rattle.mst_graph.specs.Groups.{AreGroups, StandOnce}
+use Rattle.std.specs.List.{flat_map}
+use Rattle.mst_classes.specs.AllVids.{all_vids}
+use Rattle.mst_graph.specs.Groups.{AreGroups}
 use Rattle.mst_graph.proofs.Alike.{alike_groups}
 use Rattle.mst_net.specs.Tables.{Net}
 use Rattle.mst_text.specs.trees.Outcome.{Outcome}
@@ -13,43 +11,10 @@ use Rattle.mst_text.specs.vlan.Reach.{AreIslandsOf}
 use Rattle.mst_text.specs.VlanText.{ports_of_vid}
 use Rattle.mst_rows.specs.Rows.{Row}
 use Rattle.mst_plan_text.specs.Bodies.{pair_of, pairs_of}
-use Rattle.mst_plan_text.specs.PlanText.{all_vids, group_rows, trees_rows, Islands, AreIslandsOfEach, HaveOneBody, AreVidsRows, ArePlanRows}
-use Rattle.mst_plan_text.proofs.Grouped.{vid_place}
+use Rattle.mst_plan_text.specs.PlanText.{group_rows, trees_rows, Islands, AreIslandsOfEach, HaveOneBody, AreVidsRows, ArePlanRows}
+use Rattle.mst_classes.proofs.VidPlaces.{vids_once, OneGrouping}
 use Rattle.mst_plan_text.proofs.Pairs.{same_pairs, pairs_decide, pairs_equivalence, ports_from_pairs}
 use Rattle.mst_plan_text.proofs.PortLinks.{one_body}
-use Rattle.mst_plan_text.proofs.Sets.{vids_all}
-
--- ---- VIDs
--- no VID stands twice
-not_behind : (a n : ℕ) → Contains (range_with_len (a + 1) n) a → ⊥
-not_behind a n h =
-    let long : length (range_with_len (a + 1) n) ≡ n = length-range_with_len (a + 1) n in
-    let l : h.0 < length (range_with_len (a + 1) n) = h.1 in
-    let below : h.0 < n = omega arith in
-    let at : get_or (range_with_len (a + 1) n) h.0 a ≡ a + 1 + h.0 = get_or-range_with_len (a + 1) n h.0 a below in
-    let is : get_or (range_with_len (a + 1) n) h.0 a ≡ a = h.2 in
-    omega arith
-
-range_once : (a n : ℕ) → StandOnce (range_with_len a n)
-range_once a zero = tt
-range_once a (suc n) = (not_behind a n, range_once (a + 1) n)
-
-once_to : (n : ℕ) → n ≡ 4094 → StandOnce all_vids
-once_to n e = subst StandOnce (vids_all n e) (range_once 1 n)
-
-pub vids_once : StandOnce all_vids
-vids_once = once_to 4094 refl
-
-vid_of_place : (i : ℕ) → i < 4094 → is_vid (i + 1) ≡ true
-vid_of_place i l = grind (arith, nat_tests)
-
-pub is_vid_there : (vid : ℕ) → Contains all_vids vid → is_vid vid ≡ true
-is_vid_there vid h = let p = vid_place vid h in subst (λ v. is_vid v ≡ true) p.is (vid_of_place p.place p.below)
-
--- two groupings by bodies are one, where groups are told by a test alone
-abbrev pub OneGrouping : Type 0
-OneGrouping =
-    (same : ℕ → ℕ → Bool) (things : List ℕ) (groups others : List (List ℕ)) → StandOnce things → AreGroups (λ x y. same x y ≡ true) things groups → AreGroups (λ x y. same x y ≡ true) things others → groups ≡ others
 
 module _ (net : Net) (o : Outcome) (one : (vid : ℕ) (islands others : Islands) → AreIslandsOf net o vid islands → AreIslandsOf net o vid others → islands ≡ others) where
   abbrev same : ℕ → ℕ → Bool

@@ -1,74 +1,23 @@
--- VIDs that have one tree at each bridge and the same member ports have the same active ports.
-use Rattle.std.proofs.Common.{◌≡◌, ℕ, List, Option, Some, None, map, filter, refl, ap, subst, ◌∙◌}
-use Rattle.std.specs.Prelude.{if◌then◌else◌, false}
-use Rattle.std.specs.List.{AllByRecursion, Contains}
-use Rattle.std.specs.Option.{option_map_or}
-use Rattle.std.specs.FinMap as fin
+-- VIDs of one class have the same active ports, members or not.
+use Rattle.std.proofs.Common.{◌≡◌, ℕ, List, map, ap, ◌∙◌}
+use Rattle.std.specs.List.{AllByRecursion}
 use Rattle.mst_ids.specs.Vids.{has}
-use Rattle.mst_graph.proofs.Members.{from_filter}
 use Rattle.mst_graph.proofs.Splits.{kept_each}
-use Rattle.mst_net.specs.After.{table_of}
 use Rattle.mst_net.specs.ByTree.{table_in, vlans_in}
 use Rattle.mst_net.specs.Table.{tree_in}
-use Rattle.mst_net.specs.Tables.{Net, Numbers, BridgeRow}
-use Rattle.mst_lag.specs.View.{LogicalPort, view_ports}
+use Rattle.mst_net.specs.Tables.{Net, Numbers}
 use Rattle.mst_lag.specs.Viewed.{Viewed}
-use Rattle.mst_lag.specs.declared.in_view.BridgeInView.{BridgeInView}
-use Rattle.mst_lag.specs.declared.in_view.PortInView.{PortInView}
 use Rattle.mst_text.specs.trees.Agrees.{AreOf}
 use Rattle.mst_text.specs.trees.Outcome.{Outcome}
 use Rattle.mst_text.specs.trees.Forest.{Forest}
-use Rattle.mst_text.proofs.trees_lemmas.Entries.{all_weaker}
-use Rattle.mst_text.proofs.trees_lemmas.Lists.{all_contained, all_there}
-use Rattle.mst_text.proofs.trees_lemmas.Looking.{filter_alike}
-use Rattle.mst_text.proofs.trees_lemmas.Seen.{bridge_there, port_there}
-use Rattle.mst_text.specs.roles.Roles.{role_in, forwards, tree_of_vid, forwards_for}
 use Rattle.mst_text.specs.vlan.Active.{active_ports}
-use Rattle.mst_text.specs.vlan.Reach.{is_member, link_of, vid_links}
 use Rattle.mst_text.specs.VlanText.{active_port, ports_of_vid}
+use Rattle.mst_text.proofs.vlan_lemmas.LinksAlike.{active_alike, member_alike}
 
 module _ (net : Net) (numbers : Numbers) (v : Viewed) (f : Forest) (of : AreOf net numbers v f.regions) (o : Outcome) (x y : ℕ)
     (tables : AllByRecursion (λ b. tree_in (table_in v.settings.tables b.name) x ≡ tree_in (table_in v.settings.tables b.name) y) v.bridges)
     (vlans : AllByRecursion (λ p. has (vlans_in v.settings.vlans p.name) x ≡ has (vlans_in v.settings.vlans p.name) y) v.ports) where
-  -- one tree at each bridge
-  table_alike : (b : BridgeInView) → Contains v.bridges b → tree_in (table_of net b.name) x ≡ tree_in (table_of net b.name) y
-  table_alike b there =
-      subst (λ set. tree_in (table_in set.tables b.name) x ≡ tree_in (table_in set.tables b.name) y) of.view.settings
-      (all_contained (λ (b : BridgeInView). tree_in (table_in v.settings.tables b.name) x ≡ tree_in (table_in v.settings.tables b.name) y) v.bridges b tables there)
-
-  tree_alike : (name : List ℕ) → tree_of_vid net name x ≡ tree_of_vid net name y
-  tree_alike name = go (fin.get net.bridges name) refl
-    where
-      go : (q : Option BridgeRow) → fin.get net.bridges name ≡ q
-          → option_map_or (λ row. if row.is_rstp then 0 else tree_in (table_of net name) x) q 0 ≡ option_map_or (λ row. if row.is_rstp then 0 else tree_in (table_of net name) y) q 0
-      go None e = refl
-      go (Some row) e =
-          let b = bridge_there net numbers v of.view name row e in
-          let own : b.0.name ≡ name = ap (λ (e : List ℕ × BridgeRow). e.0) b.2 in
-          ap (λ t. if row.is_rstp then 0 else t) (subst (λ name. tree_in (table_of net name) x ≡ tree_in (table_of net name) y) own (table_alike b.0 b.1))
-
-  -- the same ports are active
-  active_alike : active_ports net o x ≡ active_ports net o y
-  active_alike = λ i. filter (λ (p : LogicalPort). option_map_or forwards (role_in net o (tree_alike p.name.bridge i) p) false) (view_ports net)
-
-  -- the same are members
-  member_seen : (q : PortInView) → Contains v.ports q → has (vlans_in net.vlans q.name) x ≡ has (vlans_in net.vlans q.name) y
-  member_seen q there =
-      subst (λ set. has (vlans_in set.vlans q.name) x ≡ has (vlans_in set.vlans q.name) y) of.view.settings
-      (all_contained (λ (p : PortInView). has (vlans_in v.settings.vlans p.name) x ≡ has (vlans_in v.settings.vlans p.name) y) v.ports q vlans there)
-
-  member_alike : (p : LogicalPort) → Contains (active_ports net o x) p → is_member net x p ≡ is_member net y p
-  member_alike p h =
-      let q = port_there net numbers v of.view p (from_filter (forwards_for net o x) (view_ports net) p h).0 in
-      subst (λ (p : LogicalPort). is_member net x p ≡ is_member net y p) q.2 (member_seen q.0 q.1)
-
-  pub links_alike : vid_links net o x ≡ vid_links net o y
-  links_alike =
-      ap (map link_of)
-      (filter_alike (is_member net x) (is_member net y) (active_ports net o x) (all_weaker (Contains (active_ports net o x)) _ member_alike (active_ports net o x) (all_there (active_ports net o x)))
-      ∙ ap (filter (is_member net y)) active_alike)
-
   pub ports_alike : ports_of_vid net o x ≡ ports_of_vid net o y
   ports_alike =
-      kept_each (active_port net x) (active_port net y) (active_ports net o x) (λ p h. ap (λ m. record { port = p.name; is_member = m }) (member_alike p h))
-      ∙ ap (map (active_port net y)) active_alike
+      kept_each (active_port net x) (active_port net y) (active_ports net o x) (λ p h. ap (λ m. record { port = p.name; is_member = m }) (member_alike net numbers v f of o x y tables vlans p h))
+      ∙ ap (map (active_port net y)) (active_alike net numbers v f of o x y tables vlans)

@@ -1,5 +1,5 @@
 -- What tells the bodies of VIDs, by numbers. The VID at a place, counted from 0, is one more than the place.
-use Rattle.std.specs.Prelude.{◌≡◌, ℕ, ◌-◌, ◌<◌, Bool, List, [], length, map, slice_index, slice_index_or}
+use Rattle.std.specs.Prelude.{ℕ, ◌-◌, Bool, List, [], map, slice_index, slice_index_or}
 use Rattle.mst_ids.specs.declared.name.PortName.{PortName}
 use Rattle.mst_net.specs.Tables.{Net}
 use Rattle.mst_lag.specs.Viewed.{Viewed}
@@ -23,8 +23,3 @@ pairs_of net o vid = map pair_of (ports_of_vid net o vid)
 -- those of the number that a VID has
 abbrev pub pairs_at : List ℕ → List (List (PortName × Bool)) → ℕ → List (PortName × Bool)
 pairs_at numbers all vid = slice_index_or all (slice_index numbers (vid - 1)) []
-
--- there is a number for each VID, below this one
-pub record NumberEach (numbers : List ℕ) (n : ℕ) : Type 0 where
-  pub as_long : length numbers ≡ 4094
-  pub below : (i : ℕ) → i < 4094 → slice_index numbers i < n

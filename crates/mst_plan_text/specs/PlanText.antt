@@ -8,6 +8,7 @@ use Rattle.mst_graph.specs.Islands.{Island}
 use Rattle.mst_net.specs.Tables.{Net}
 use Rattle.mst_lag.specs.Trees.{is_among}
 use Rattle.mst_rows.specs.Rows.{Row}
+use Rattle.mst_classes.specs.AllVids.{all_vids}
 use Rattle.mst_text.specs.trees.Msti.{has_msti}
 use Rattle.mst_text.specs.trees.Outcome.{Outcome}
 use Rattle.mst_text.specs.vlan.Reach.{AreIslandsOf}
@@ -29,10 +30,6 @@ abbrev pub trees_rows : Net → Outcome → List Row
 trees_rows net o = flat_map (tree_rows net o) (0 ∷ mstis net)
 
 -- ---- groups of VIDs
--- the VIDs, in rising order
-unfoldable pub all_vids : List ℕ
-all_vids = range_with_len 1 4094
-
 -- the islands of a VID, by name
 abbrev pub Islands : Type 0
 Islands = List (Island (List ℕ) (List ℕ))

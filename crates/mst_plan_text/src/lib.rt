@@ -8,6 +8,4 @@ pub mod laws;
 mod plan;
 mod trees;
 
-pub use groups::{set_of, vids};
-pub use mst_text::bridge_names;
 pub use plan::put_plan;

@@ -3,12 +3,13 @@ ghost use Rattle.mst_graph.specs.Groups.{AreGroups};
 ghost use Rattle.mst_rows.specs.Rows.{Row};
 ghost use Rattle.mst_text.specs.trees.Settled.{outcome_of};
 ghost use Rattle.mst_text.specs.VlanText.{ports_of_vid};
-ghost use Rattle.mst_plan_text.specs.PlanText.{all_vids, ArePlanRows, AreVidsRows};
+ghost use Rattle.mst_plan_text.specs.PlanText.{ArePlanRows, AreVidsRows};
+ghost use Rattle.mst_classes.specs.AllVids.{all_vids};
 
 use crate::active::actives;
-use crate::groups::{put_groups, vids};
+use crate::groups::put_groups;
 use crate::trees::put_trees;
-use mst_classes::classes_of_vids;
+use mst_classes::{classes_of_vids, vids};
 use mst_graph::groups_by_body;
 use mst_ids::Vid;
 use mst_rows::Rows;

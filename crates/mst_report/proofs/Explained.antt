@@ -23,7 +23,7 @@ use Rattle.mst_trees.specs.Seen.{trees_at}
 use Rattle.mst_trees.proofs.Lists.{some_is, no_some, passed, all_there, there_first, there_later}
 use Rattle.mst_trees.proofs.Seen.{port_seen}
 use Rattle.mst_trees.proofs.Looking.{has_tree_at}
-use Rattle.mst_roles.proofs.Named.{port_is, port_found, found_in}
+use Rattle.mst_trees.proofs.Named.{port_is, port_found, found_in}
 use Rattle.mst_explain.specs.Explained.{IsExplained, AreExplained, trees_of_bridge}
 use Rattle.mst_explain.proofs.Texts.{tree_there as among_trees}
 use Rattle.mst_report.specs.Unadvised.{unrooted_of}

@@ -1,5 +1,8 @@
+pub use Rattle.mst_advise.specs as advise
+pub use Rattle.mst_verdict.specs.sweeping as sweeping
+pub use Rattle.mst_verdict.specs as verdict
 pub use Rattle.mst_diff.specs as diff
-pub use Rattle.mst_sweep.specs as sweep
+pub use Rattle.mst_verdict.specs.sweep as sweep
 pub mod State
 pub mod Answers
 pub mod Refusing

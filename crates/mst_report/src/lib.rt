@@ -14,4 +14,6 @@ mod unadvised;
 
 pub use answers::asks_plan;
 pub use explaining::Unexplained;
+pub use mst_advise::{Advised, Goal, laws as advise_laws};
+pub use mst_verdict::{SweepPart, laws as verdict_laws, sweeping_laws};
 pub use planner::Planner;

@@ -7,34 +7,31 @@ ghost use Rattle.mst_trees.specs.Agrees.{AreOf};
 ghost use Rattle.mst_trees.specs.Forest.{IsForest, SettlesNoUnused};
 ghost use Rattle.mst_lag.specs.Viewed.{IsView};
 ghost use Rattle.mst_changes.specs.Stored.{kept_entries};
-ghost use Rattle.mst_advising.specs.Advising.{Advises};
+ghost use Rattle.mst_advise.specs.Advising.{Advises};
 ghost use Rattle.mst_report.specs.Unadvised.{unadvised_of};
-ghost use Rattle.mst_sweeping.specs.Pairing.{SweepsPairs};
-ghost use Rattle.mst_stepping.specs.Setting.{after_steps};
-ghost use Rattle.mst_stepping.specs.Stepping.{IsFew, Steps, lines_of as policy_lines};
-ghost use Rattle.mst_sweeping.specs.Sweeping.{SweepsPart};
-ghost use Rattle.mst_judging.specs.Verifying.{Verifies};
+ghost use Rattle.mst_verdict.specs.sweeping.Pairing.{SweepsPairs};
+ghost use Rattle.mst_verdict.specs.Setting.{after_steps};
+ghost use Rattle.mst_verdict.specs.Stepping.{IsFew, Steps, lines_of as policy_lines};
+ghost use Rattle.mst_verdict.specs.sweeping.Sweeping.{SweepsPart};
+ghost use Rattle.mst_verdict.specs.Verifying.{Verifies};
 ghost use Rattle.mst_verdict.specs.Judged.{counts_of};
 ghost use Rattle.mst_rows.specs.Rows.{Row};
 
 use crate::laws::entries_of_network;
-use mst_advise::Goal;
-use mst_advising::{Advised, advise_network};
+use mst_advise::{Advised, Goal, advise_network};
 use mst_change::Change;
 use mst_changes::Entries;
 use mst_ids::Tree;
-use mst_judging::verify_network;
 use mst_lag::View;
 use mst_lang::Edit;
 use mst_net::{Contents, Network, Refusal};
 use mst_plan::{KeptPlan, Plan};
 use mst_policy::Policy;
 use mst_rows::Rows;
-use mst_stepping::{Course, step_network};
-use mst_sweep::SweepPart;
-use mst_sweeping::{sweep_network, sweep_pairs};
 use mst_trees::{Forest, Settled};
-use mst_verdict::Verdict;
+use mst_verdict::{
+    Course, SweepPart, Verdict, step_network, sweep_network, sweep_pairs, verify_network,
+};
 use std::alloc::{AllocError, Global};
 use std::marker::Model;
 

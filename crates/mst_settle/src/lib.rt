@@ -1,10 +1,30 @@
-//! Settles the priority vectors of one spanning tree (802.1Q-2022, 13.9 to 13.13): each bridge has the
-//! best vector that it can take, and each LAN the designated port that says the best.
+//! Settles the priority vectors of one spanning tree (802.1Q-2022, 13.9 to 13.13): each bridge has the best vector that it can take, and
+//! each LAN the designated port that says the best.
+//!
+//! The bridges at which another vector is due stand in a queue, and get theirs turn by turn, the least key first; what a turn touches is
+//! looked at anew ([`Settler`]). A tree on a wiring that trees share is a [`SpanningTree`], from which that of the network after an edit is
+//! repaired: where the two wirings differ is found once for all trees ([`Rewiring`]).
 #![tactic(auto)]
 
+mod comparing;
+mod differences;
+mod known;
 pub mod laws;
+mod looking;
+mod noting;
 mod outcome;
+mod own;
+mod queue;
+mod repairing;
+mod rewiring;
 mod settler;
+mod settling;
+mod spanning_tree;
+mod taking;
+mod touched;
 
+pub use comparing::TellsApart;
 pub use outcome::Outcome;
+pub use rewiring::Rewiring;
 pub use settler::Settler;
+pub use spanning_tree::SpanningTree;

@@ -12,16 +12,16 @@ use Rattle.mst_net.specs.declared.refusal.Refusal.{Refusal}
 use Rattle.mst_trees.specs.Outcome.{IsOutcome, Outcome}
 use Rattle.mst_policy.specs.declared.policy.PolicyLine.{PolicyLine}
 use Rattle.mst_rows.specs.Rows.{Row}
-use Rattle.mst_steps.specs.StepText.{AreStepRows}
-use Rattle.mst_steps.specs.declared.step.Deed.{Deed}
-use Rattle.mst_steps.specs.declared.step.Deed.TheVariants as deed
-use Rattle.mst_steps.specs.declared.step.Stepped.{Stepped}
-use Rattle.mst_verify.specs.Named.{Prior}
+use Rattle.mst_verdict.specs.sweeping.StepText.{AreStepRows}
+use Rattle.mst_verdict.specs.sweeping.declared.step.Deed.{Deed}
+use Rattle.mst_verdict.specs.sweeping.declared.step.Deed.TheVariants as deed
+use Rattle.mst_verdict.specs.sweeping.declared.step.Stepped.{Stepped}
+use Rattle.mst_verdict.specs.verify.Named.{Prior}
 use Rattle.mst_verdict.specs.Steps.{start_rows}
-use Rattle.mst_stepping.specs.Setting.{after_lines, after_steps, kept_or, set_by}
-use Rattle.mst_stepping.specs.Stepping.{AreRowsIn, AreWatched, IsStepTold, StepMade, StepTold, Steps, Watch, course_of, course_row, front_rows_if, lines_of, numbers_of, prior_at, rows_told, step_made, steps_made, watch_of}
-use Rattle.mst_judging.specs.Verifying.{IsPriorNetwork, Judges}
-use Rattle.mst_stepping.specs.declared.stepping.Course.{Course}
+use Rattle.mst_verdict.specs.Setting.{after_lines, after_steps, kept_or, set_by}
+use Rattle.mst_verdict.specs.Stepping.{AreRowsIn, AreWatched, IsStepTold, StepMade, StepTold, Steps, Watch, course_of, course_row, front_rows_if, lines_of, numbers_of, prior_at, rows_told, step_made, steps_made, watch_of}
+use Rattle.mst_verdict.specs.Verifying.{IsPriorNetwork, Judges}
+use Rattle.mst_verdict.specs.declared.stepping.Course.{Course}
 
 -- ---- lines one after another
 pub steps_then : (net : Net) (steps others : List (List LineRead)) → after_steps net (steps ++ others) ≡ after_steps (after_steps net steps) others

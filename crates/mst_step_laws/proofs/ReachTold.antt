@@ -14,7 +14,7 @@ use Rattle.mst_rows.specs.Rows.{Row}
 use Rattle.mst_vlan.specs.Reach.{AreIslandsOf, bridges_on, lans_up}
 use Rattle.mst_trees.specs.Outcome.{Outcome, IsOutcome}
 use Rattle.mst_changes.specs.Subjects.{bridge_names}
-use Rattle.mst_plan_text.specs.PlanText.{all_vids}
+use Rattle.mst_classes.specs.AllVids.{all_vids}
 use Rattle.mst_diff.specs.DiffText.{AreDiffRowsOf, diff_row}
 use Rattle.mst_diff.specs.Ports.{port_rows}
 use Rattle.mst_diff.specs.Reach.{AreSides, Sides, differ, group_rows, has_any, island_bridges, reach_row, reach_unless, same_names, without}
@@ -23,13 +23,13 @@ use Rattle.mst_diff.specs.Roots.{root_changes}
 use Rattle.mst_diff.specs.declared.diff.Differing.{Differing}
 use Rattle.mst_diff.proofs.OneDiff.{OneList}
 use Rattle.mst_diff.proofs.SameSides.{names_decide}
-use Rattle.mst_plan_text.proofs.OnePlan.{is_vid_there}
+use Rattle.mst_classes.proofs.VidPlaces.{is_vid_there}
 use Rattle.mst_trees.proofs.Lists.{kept_from, some_is}
-use Rattle.mst_sweep.specs.Cuts.{runs_of}
-use Rattle.mst_sweep.specs.Parts.{AreParts, all_parts, home, staying, stays_at}
-use Rattle.mst_sweep.proofs.CutApart.{both_true, not_true, stays_is, two_apart}
-use Rattle.mst_sweep.proofs.Joined.{home_on, joined_home}
-use Rattle.mst_sweep.proofs.Positions.{both_pass}
+use Rattle.mst_verdict.specs.sweep.Cuts.{runs_of}
+use Rattle.mst_verdict.specs.sweep.Parts.{AreParts, all_parts, home, staying, stays_at}
+use Rattle.mst_verdict.proofs.sweep_lemmas.CutApart.{both_true, not_true, stays_is, two_apart}
+use Rattle.mst_verdict.proofs.sweep_lemmas.Joined.{home_on, joined_home}
+use Rattle.mst_verdict.proofs.sweep_lemmas.Positions.{both_pass}
 use Rattle.mst_step_laws.specs.InReach.{IsInDiff, IsInReach, StepAndDiff}
 
 -- ---- lists and booleans

@@ -10,17 +10,17 @@ use Rattle.mst_rows.specs.Rows.{Row}
 use Rattle.mst_vlan.specs.Reach.{AreIslandsOf}
 use Rattle.mst_trees.specs.Outcome.{Outcome}
 use Rattle.mst_changes.specs.Subjects.{bridge_names}
-use Rattle.mst_plan_text.specs.PlanText.{all_vids}
+use Rattle.mst_classes.specs.AllVids.{all_vids}
 use Rattle.mst_diff.specs.Reach.{has_any}
-use Rattle.mst_sweep.specs.Cuts.{runs_of}
-use Rattle.mst_sweep.specs.Moved.{moved_ports, moved_roots}
-use Rattle.mst_sweep.specs.Parts.{AreParts, all_parts, staying}
-use Rattle.mst_sweep.proofs.CutsBy as cuts
-use Rattle.mst_steps.specs.MovedVids.{AreVidsWhere, IsCut, IsJoined, IsMoved, links_differ}
-use Rattle.mst_steps.specs.Restarts.{restarting}
-use Rattle.mst_steps.specs.StepText.{AreStepRows, cut_by, deed_row, restart_rows}
-use Rattle.mst_steps.specs.declared.step.Deed.{Deed}
-use Rattle.mst_steps.specs.declared.step.Stepped.{Stepped}
+use Rattle.mst_verdict.specs.sweep.Cuts.{runs_of}
+use Rattle.mst_verdict.specs.sweep.Moved.{moved_ports, moved_roots}
+use Rattle.mst_verdict.specs.sweep.Parts.{AreParts, all_parts, staying}
+use Rattle.mst_verdict.proofs.sweep_lemmas.CutsBy as cuts
+use Rattle.mst_verdict.specs.sweeping.MovedVids.{AreVidsWhere, IsCut, IsJoined, IsMoved, links_differ}
+use Rattle.mst_verdict.specs.sweeping.Restarts.{restarting}
+use Rattle.mst_verdict.specs.sweeping.StepText.{AreStepRows, cut_by, deed_row, restart_rows}
+use Rattle.mst_verdict.specs.sweeping.declared.step.Deed.{Deed}
+use Rattle.mst_verdict.specs.sweeping.declared.step.Stepped.{Stepped}
 
 -- each VID has islands
 abbrev pub HasIslands : Net → Outcome → Type 0

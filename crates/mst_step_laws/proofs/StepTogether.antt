@@ -11,17 +11,17 @@ use Rattle.mst_policy.specs.declared.item.NameItem.TheVariants.{Any}
 use Rattle.mst_rows.specs.Rows.{Row}
 use Rattle.mst_trees.specs.Outcome.{Outcome}
 use Rattle.mst_changes.specs.Subjects.{bridge_names}
-use Rattle.mst_plan_text.specs.PlanText.{all_vids}
+use Rattle.mst_classes.specs.AllVids.{all_vids}
 use Rattle.mst_diff.specs.Reach.{has_any}
 use Rattle.mst_changes.proofs.Lists.{flat_map-flat_map}
-use Rattle.mst_plan_text.proofs.OnePlan.{is_vid_there}
-use Rattle.mst_sweep.specs.Cuts.{AreCutsBy, cut_row, group_rows, runs_of}
-use Rattle.mst_sweep.specs.Parts.{AreParts, ArePartsOf}
-use Rattle.mst_sweep.specs.declared.cuts.CutBy.TheVariants.{Step}
-use Rattle.mst_verify.specs.Named.{is_named, named, vids_in}
-use Rattle.mst_verify.specs.Reasons.{AreReasons, HasOneList, group_reasons, together_reason}
-use Rattle.mst_verify.specs.declared.reason.Reason.{Reason}
-use Rattle.mst_verify.specs.declared.reason.Reason.TheVariants as why
+use Rattle.mst_classes.proofs.VidPlaces.{is_vid_there}
+use Rattle.mst_verdict.specs.sweep.Cuts.{AreCutsBy, cut_row, group_rows, runs_of}
+use Rattle.mst_verdict.specs.sweep.Parts.{AreParts, ArePartsOf}
+use Rattle.mst_verdict.specs.sweep.declared.cuts.CutBy.TheVariants.{Step}
+use Rattle.mst_verdict.specs.verify.Named.{is_named, named, vids_in}
+use Rattle.mst_verdict.specs.verify.Reasons.{AreReasons, HasOneList, group_reasons, together_reason}
+use Rattle.mst_verdict.specs.verify.declared.reason.Reason.{Reason}
+use Rattle.mst_verdict.specs.verify.declared.reason.Reason.TheVariants as why
 use Rattle.mst_step_laws.specs.Together.{AreAllVids, as_cut, together_all}
 
 -- ---- lists

@@ -18,11 +18,11 @@ use Rattle.mst_verdict.specs.Steps.{Change, changes, is_broken, mends, unkept_co
 use Rattle.mst_verdict.specs.Rows.{mends_row}
 use Rattle.mst_verdict.specs.Texts.{is_told, news, same_text}
 use Rattle.mst_verdict.specs.Told.{IsToldThere}
-use Rattle.mst_verify.specs.Named.{Prior}
-use Rattle.mst_judging.specs.Verifying.{IsPriorNetwork, Judges}
-use Rattle.mst_stepping.specs.Setting.{after_lines, after_steps}
-use Rattle.mst_stepping.specs.Stepping.{AreRowsIn, AreWatched, IsStepTold, StepTold, Watch, changes_in, prior_at, steps_made, watch_of}
-use Rattle.mst_stepping.specs.declared.stepping.Course.{Course}
+use Rattle.mst_verdict.specs.verify.Named.{Prior}
+use Rattle.mst_verdict.specs.Verifying.{IsPriorNetwork, Judges}
+use Rattle.mst_verdict.specs.Setting.{after_lines, after_steps}
+use Rattle.mst_verdict.specs.Stepping.{AreRowsIn, AreWatched, IsStepTold, StepTold, Watch, changes_in, prior_at, steps_made, watch_of}
+use Rattle.mst_verdict.specs.declared.stepping.Course.{Course}
 use Rattle.mst_step_laws.specs.Unkept.{AreNewsNext, AreOtherNews, broken_by, mended_by, told_unkept}
 use Rattle.mst_step_laws.proofs.Courses.{all_first, all_others, lines_network, one_judged}
 

@@ -7,10 +7,10 @@ use Rattle.mst_trees.specs.Outcome.{Outcome, IsOutcome}
 use Rattle.mst_diff.specs.DiffText.{AreDiffRowsOf}
 use Rattle.mst_diff.specs.Reach.{AreSides, Sides, reach_row}
 use Rattle.mst_diff.specs.declared.diff.Differing.{Differing}
-use Rattle.mst_sweep.specs.Cuts.{runs_of}
-use Rattle.mst_steps.specs.StepText.{AreStepRows}
-use Rattle.mst_steps.specs.declared.step.Deed.{Deed}
-use Rattle.mst_steps.specs.declared.step.Stepped.{Stepped}
+use Rattle.mst_verdict.specs.sweep.Cuts.{runs_of}
+use Rattle.mst_verdict.specs.sweeping.StepText.{AreStepRows}
+use Rattle.mst_verdict.specs.sweeping.declared.step.Deed.{Deed}
+use Rattle.mst_verdict.specs.sweeping.declared.step.Stepped.{Stepped}
 
 -- two networks with a settled outcome of each
 pub record AreSettled (a : Net) (o : Outcome) (b : Net) (p : Outcome) : Type 0 where

@@ -3,14 +3,14 @@ use Rattle.std.specs.Prelude.{◌≡◌, ℕ, Bool, true, List, [], ◌∷◌}
 use Rattle.std.specs.List.{Contains}
 use Rattle.mst_ids.specs.Vids.{has, runs_from}
 use Rattle.mst_rows.specs.Rows.{Row}
-use Rattle.mst_plan_text.specs.PlanText.{all_vids}
+use Rattle.mst_classes.specs.AllVids.{all_vids}
 use Rattle.mst_policy.specs.declared.expectation.Expectation.{Expectation}
 use Rattle.mst_policy.specs.declared.expectation.Expectation.TheVariants as expect
 use Rattle.mst_policy.specs.declared.item.NameItem.TheVariants.{Any}
-use Rattle.mst_sweep.specs.Cuts.{cut_row}
-use Rattle.mst_sweep.specs.declared.cuts.CutBy.TheVariants.{Step}
-use Rattle.mst_verify.specs.declared.reason.Reason.{Reason}
-use Rattle.mst_verify.specs.declared.reason.Reason.TheVariants as why
+use Rattle.mst_verdict.specs.sweep.Cuts.{cut_row}
+use Rattle.mst_verdict.specs.sweep.declared.cuts.CutBy.TheVariants.{Step}
+use Rattle.mst_verdict.specs.verify.declared.reason.Reason.{Reason}
+use Rattle.mst_verdict.specs.verify.declared.reason.Reason.TheVariants as why
 
 -- `together 1-4094 *`
 abbrev pub together_all : List Bool → Expectation

@@ -6,7 +6,7 @@ use Rattle.mst_diff.specs.Reach.{has_any}
 use Rattle.mst_policy.specs.declared.policy.PolicyLine.{PolicyLine}
 use Rattle.mst_verdict.specs.Steps.{Change, is_broken, mends}
 use Rattle.mst_verdict.specs.Texts.{news, same_text}
-use Rattle.mst_stepping.specs.Stepping.{StepTold, changes_in}
+use Rattle.mst_verdict.specs.Stepping.{StepTold, changes_in}
 
 -- how many lines a step breaks, which were kept before it, and how many it mends, which have a `mends` row
 abbrev pub broken_by : List PolicyLine → StepTold → ℕ

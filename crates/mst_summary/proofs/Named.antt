@@ -29,8 +29,8 @@ use Rattle.mst_trees.proofs.Lists.{all_passing, filter_mapped, mapped_twice, som
 use Rattle.mst_trees.proofs.Looking.{filter_alike, has_tree_at}
 use Rattle.mst_trees.proofs.Seen.{SeenBridge, SeenPort, bridges_seen, ports_seen}
 use Rattle.mst_trees.proofs.SettledNet.{forest_of}
-use Rattle.mst_diff.specs.text.TreeText.{has_tree}
-use Rattle.mst_vlan.proofs.roles_lemmas.Forwarded.{each_forwards}
+use Rattle.mst_trees.specs.Msti.{has_tree}
+use Rattle.mst_vlan.proofs.trees_lemmas.Forwarded.{each_forwards}
 use Rattle.mst_vlan.specs.Reach.{is_member, lans_up}
 use Rattle.mst_vlan.specs.Seen.{seen_member}
 use Rattle.mst_diff.specs.changes.Subjects.{all_trees, bridge_names}

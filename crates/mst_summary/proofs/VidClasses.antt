@@ -26,17 +26,17 @@ use Rattle.mst_trees.specs.Settled.{SettledNet, outcome_of, IsSettledNet}
 use Rattle.mst_trees.proofs.Entries.{all_weaker}
 use Rattle.mst_trees.proofs.Lists.{all_contained, all_passing, all_there}
 use Rattle.mst_trees.proofs.Looking.{filter_alike}
-use Rattle.mst_vlan.specs.roles.Roles.{forwards}
-use Rattle.mst_vlan.specs.roles.Seen.{seen_role, seen_tree}
+use Rattle.mst_vlan.specs.trees.Roles.{forwards}
+use Rattle.mst_vlan.specs.trees.SeenRoles.{seen_role, seen_tree}
 use Rattle.mst_vlan.specs.Reach.{bridges_on, lans_up}
 use Rattle.mst_vlan.specs.Seen.{seen_member}
 use Rattle.mst_vlan.specs.declared.island.Island.{Island as IslandNos}
 use Rattle.mst_classes.specs.Alike.{AreAlike}
-use Rattle.mst_diff.specs.plan_text.Bodies.{NumberEach}
-use Rattle.mst_diff.specs.plan_text.PlanText.{all_vids}
-use Rattle.mst_diff.proofs.plan_text_lemmas.Bodied.{zip_at}
-use Rattle.mst_diff.proofs.plan_text_lemmas.Classes.{links_shared}
-use Rattle.mst_diff.proofs.plan_text_lemmas.Grouped.{place_of_vid, vids_long}
+use Rattle.mst_classes.specs.AllVids.{NumberEach}
+use Rattle.mst_classes.specs.AllVids.{all_vids}
+use Rattle.mst_classes.proofs.VidPlaces.{zip_at}
+use Rattle.mst_vlan.proofs.LinksAlike.{links_shared}
+use Rattle.mst_classes.proofs.VidPlaces.{place_of_vid, vids_long}
 use Rattle.mst_diff.specs.Reach.{has_any}
 use Rattle.mst_summary.specs.Carries.{are_of_two}
 use Rattle.mst_classes.specs.Classes.{AreClasses}

@@ -10,7 +10,7 @@ use Rattle.mst_net.specs.Tables.{Net}
 use Rattle.mst_lag.specs.Aggregation.{same_name}
 use Rattle.mst_lag.specs.View.{view_ports}
 use Rattle.mst_config.specs.Regions.{first_of_region}
-use Rattle.mst_diff.specs.text.TreeText.{has_tree}
+use Rattle.mst_trees.specs.Msti.{has_tree}
 use Rattle.mst_diff.specs.changes.Subjects.{all_trees, bridge_names}
 use Rattle.mst_summary.specs.declared.counts.Counts.{Counts}
 

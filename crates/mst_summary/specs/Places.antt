@@ -5,7 +5,7 @@ use Rattle.std.specs.Option.{option_map_or, unwrap_or}
 use Rattle.mst_lag.specs.Aggregation.{same_name}
 use Rattle.mst_lag.specs.Viewed.{Viewed}
 use Rattle.mst_trees.specs.Forest.{Forest}
-use Rattle.mst_carried.specs.Carried.{seen_is_link}
+use Rattle.mst_vlan.specs.Carried.{seen_is_link}
 use Rattle.mst_summary.specs.declared.crossing.Crossing.{Crossing}
 
 -- the port at a place is on a logical LAN

@@ -12,7 +12,7 @@ use Rattle.mst_lag.specs.declared.in_view.PortInView.{PortInView}
 use Rattle.mst_trees.specs.Forest.{Forest}
 use Rattle.mst_trees.specs.InUse.{id_in, seen_has}
 use Rattle.mst_trees.specs.Settled.{SettledNet, outcome_of}
-use Rattle.mst_vlan.specs.roles.Seen.{seen_forwards}
+use Rattle.mst_vlan.specs.trees.SeenRoles.{seen_forwards}
 use Rattle.mst_vlan.specs.Seen.{seen_member}
 use Rattle.mst_vlan.specs.declared.island.Island.{Island}
 use Rattle.mst_diff.specs.changes.Subjects.{all_trees}

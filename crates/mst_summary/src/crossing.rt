@@ -2,8 +2,8 @@ ghost use Rattle.std.specs.Prelude.{◌≡◌, ◌<◌, length};
 ghost use Rattle.std.specs.List.{All};
 ghost use Rattle.mst_summary.specs.Places.{no_port, with_bridge as with_port_of, with_places};
 
-use mst_carried::Carriage;
 use mst_ids::{Name, Vid};
+use mst_vlan::Carriage;
 
 /// What is known of the ports of a logical LAN so far: the bridge of the first one, and whether another one is of another
 /// bridge.

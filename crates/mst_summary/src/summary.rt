@@ -12,13 +12,13 @@ use crate::counts::{count, put_counts};
 use crate::in_use::used_trees;
 use crate::islands::put_vlans;
 use crate::roots::put_roots;
-use mst_carried::Carriage;
 use mst_classes::classes_of_vids;
 use mst_config::Regions;
 use mst_ids::Tree;
 use mst_rows::Rows;
 use mst_slips::put_slips;
 use mst_trees::Settled;
+use mst_vlan::Carriage;
 use std::alloc::{AllocError, Global};
 
 /// Puts the rows of a tree.

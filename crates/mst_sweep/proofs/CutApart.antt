@@ -15,7 +15,7 @@ use Rattle.mst_lag.specs.Aggregation.{plugs, same_name}
 use Rattle.mst_lag.specs.View.{LogicalPort, IsUnrestricted, logical_port, as_port, view_ports}
 use Rattle.mst_trees.specs.Outcome.{Outcome, IsOutcome}
 use Rattle.mst_trees.proofs.Lists.{kept_in, kept_from, no_some, some_is}
-use Rattle.mst_vlan.specs.roles.Roles.{forwards_for}
+use Rattle.mst_vlan.specs.trees.Roles.{forwards_for}
 use Rattle.mst_vlan.specs.Active.{active_ports, port_ends, IsEnabled}
 use Rattle.mst_vlan.specs.Reach.{bridges_on, is_member, link_of, vid_links, AreIslandsOf}
 use Rattle.mst_vlan.proofs.ActiveLaw.{active_enabled}

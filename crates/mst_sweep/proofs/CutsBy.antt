@@ -9,8 +9,8 @@ use Rattle.mst_graph.proofs.Members.{here, there, in_whole}
 use Rattle.mst_trees.proofs.Entries.{all_weaker}
 use Rattle.mst_trees.proofs.Lists.{all_there}
 use Rattle.mst_trees.proofs.Looking.{filter_alike}
-use Rattle.mst_diff.specs.plan_text.PlanText.{all_vids}
-use Rattle.mst_diff.proofs.plan_text_lemmas.OnePlan.{vids_once, is_vid_there, OneGrouping}
+use Rattle.mst_classes.specs.AllVids.{all_vids}
+use Rattle.mst_classes.proofs.VidPlaces.{vids_once, is_vid_there, OneGrouping}
 use Rattle.mst_diff.specs.Reach.{has_any}
 use Rattle.mst_rows.specs.Rows.{Row}
 use Rattle.mst_sweep.specs.declared.cuts.CutBy.{CutBy}

@@ -1,7 +1,7 @@
 -- What is so of the places of islands by what carries each VID is so by the plan that it is of.
 use Rattle.std.proofs.Common.{ℕ, List, subst}
 use Rattle.mst_net.specs.Tables.{Net, Numbers}
-use Rattle.mst_carried.specs.Carried.{ViewWithTrees}
+use Rattle.mst_vlan.specs.Carried.{ViewWithTrees}
 use Rattle.mst_diff.specs.changes.declared.ports.Planned.{Planned}
 use Rattle.mst_trees.specs.Agrees.{AreOf}
 use Rattle.mst_trees.specs.Forest.{IsForest}

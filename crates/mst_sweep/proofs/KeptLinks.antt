@@ -26,10 +26,10 @@ use Rattle.mst_trees.specs.Msti.{has_msti}
 use Rattle.mst_trees.specs.Outcome.{Outcome}
 use Rattle.mst_trees.proofs.Lists.{mapped_twice, some_is}
 use Rattle.mst_trees.proofs.Seen.{port_of_net, port_seen, port_there}
-use Rattle.mst_vlan.specs.roles.Roles.{forwards, forwards_for, cist_role, msti_role, role_in, tree_of_vid}
-use Rattle.mst_vlan.specs.roles.Seen.{seen_role, seen_forwards}
-use Rattle.mst_vlan.proofs.roles_lemmas.Forwarded.{each_forwards}
-use Rattle.mst_vlan.proofs.roles_lemmas.Named.{each_same}
+use Rattle.mst_vlan.specs.trees.Roles.{forwards, forwards_for, cist_role, msti_role, role_in, tree_of_vid}
+use Rattle.mst_vlan.specs.trees.SeenRoles.{seen_role, seen_forwards}
+use Rattle.mst_vlan.proofs.trees_lemmas.Forwarded.{each_forwards}
+use Rattle.mst_vlan.proofs.trees_lemmas.Named.{each_same}
 use Rattle.mst_vlan.specs.Active.{active_ports}
 use Rattle.mst_vlan.specs.Reach.{is_member, link_of, vid_links}
 use Rattle.mst_vlan.specs.Seen.{seen_member}

@@ -24,9 +24,9 @@ use Rattle.mst_trees.specs.Msti.{has_msti}
 use Rattle.mst_trees.specs.Outcome.{Outcome}
 use Rattle.mst_trees.proofs.Entries.{all_weaker}
 use Rattle.mst_trees.proofs.Lists.{all_there, mapped_twice}
-use Rattle.mst_vlan.proofs.roles_lemmas.Named.{own_role}
-use Rattle.mst_vlan.specs.roles.Roles.{role_of, role_in, cist_role, msti_role}
-use Rattle.mst_vlan.specs.roles.Seen.{seen_role}
+use Rattle.mst_vlan.proofs.trees_lemmas.Named.{own_role}
+use Rattle.mst_vlan.specs.trees.Roles.{role_of, role_in, cist_role, msti_role}
+use Rattle.mst_vlan.specs.trees.SeenRoles.{seen_role}
 use Rattle.mst_diff.specs.changes.Subjects.{all_trees, bridge_names, port_names}
 use Rattle.mst_diff.proofs.changes_lemmas.Orders.{trees_are}
 use Rattle.mst_diff.specs.declared.both.Both.{Both}

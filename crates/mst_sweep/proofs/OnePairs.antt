@@ -7,7 +7,7 @@ use Rattle.mst_graph.specs.Islands.{Island}
 use Rattle.mst_net.specs.Tables.{Net, IsNetwork}
 use Rattle.mst_trees.specs.Outcome.{Outcome, IsOutcome}
 use Rattle.mst_vlan.specs.Reach.{AreIslandsOf}
-use Rattle.mst_diff.proofs.plan_text_lemmas.OnePlan.{OneGrouping}
+use Rattle.mst_classes.proofs.VidPlaces.{OneGrouping}
 use Rattle.mst_diff.specs.changes.Subjects.{bridge_names}
 use Rattle.mst_diff.specs.Reach.{has_any}
 use Rattle.mst_diff.proofs.OneDiff.{OneList}

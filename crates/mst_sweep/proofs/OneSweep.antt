@@ -16,7 +16,7 @@ use Rattle.mst_trees.specs.Outcome.{Outcome, IsOutcome}
 use Rattle.mst_trees.proofs.Entries.{entries_found}
 use Rattle.mst_trees.proofs.Lists.{all_contained}
 use Rattle.mst_vlan.specs.Reach.{AreIslandsOf, bridges_on}
-use Rattle.mst_diff.proofs.plan_text_lemmas.OnePlan.{OneGrouping}
+use Rattle.mst_classes.proofs.VidPlaces.{OneGrouping}
 use Rattle.mst_diff.specs.changes.Subjects.{bridge_names}
 use Rattle.mst_diff.specs.Reach.{has_any}
 use Rattle.mst_diff.proofs.OneDiff.{OneList}

@@ -21,8 +21,8 @@ use Rattle.mst_vlan.specs.Reach.{AreIslandsOf}
 use Rattle.mst_trees.specs.Agrees.{AreOf}
 use Rattle.mst_trees.specs.Forest.{Forest}
 use Rattle.mst_trees.specs.Outcome.{Outcome}
-use Rattle.mst_diff.proofs.plan_text_lemmas.Grouped.{place_of_vid}
-use Rattle.mst_diff.proofs.plan_text_lemmas.Bodied.{zip_at}
+use Rattle.mst_classes.proofs.VidPlaces.{place_of_vid}
+use Rattle.mst_classes.proofs.VidPlaces.{zip_at}
 use Rattle.mst_trees.proofs.Lists.{kept_in, kept_from, no_some, some_is}
 use Rattle.mst_trees.proofs.Seen.{bridge_seen}
 use Rattle.mst_diff.proofs.Named.{names_are}

@@ -25,7 +25,7 @@ use Rattle.mst_trees.proofs.Seen.{bridge_seen}
 use Rattle.mst_vlan.specs.Reach.{bridges_on, lans_up, vid_links, AreIslandsOf}
 use Rattle.mst_vlan.proofs.Renumbered.{bridge_listed}
 use Rattle.mst_classes.specs.Alike.{AreAlike}
-use Rattle.mst_diff.proofs.plan_text_lemmas.Classes.{links_shared}
+use Rattle.mst_vlan.proofs.LinksAlike.{links_shared}
 use Rattle.mst_diff.specs.changes.Subjects.{bridge_names}
 use Rattle.mst_diff.proofs.changes_lemmas.Lists.{filter_map-map}
 use Rattle.mst_diff.specs.declared.both.Both.{Both}

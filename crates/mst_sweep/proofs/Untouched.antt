@@ -12,9 +12,9 @@ use Rattle.mst_lag.specs.Viewed.{Viewed}
 use Rattle.mst_trees.specs.Agrees.{AreOf}
 use Rattle.mst_trees.specs.Forest.{Forest, IsForest}
 use Rattle.mst_trees.specs.InUse.{is_in_use, seen_mstis}
-use Rattle.mst_vlan.specs.roles.Seen.{seen_role}
-use Rattle.mst_vlan.specs.roles.declared.kind.Role.{Role}
-use Rattle.mst_vlan.specs.roles.declared.kind.Role.TheVariants.{Root, Designated, Alternate, Backup, Master, Disabled}
+use Rattle.mst_vlan.specs.trees.SeenRoles.{seen_role}
+use Rattle.mst_vlan.specs.trees.declared.kind.Role.{Role}
+use Rattle.mst_vlan.specs.trees.declared.kind.Role.TheVariants.{Root, Designated, Alternate, Backup, Master, Disabled}
 use Rattle.mst_diff.specs.changes.Subjects.{port_names}
 use Rattle.mst_diff.specs.changes.Values.{role_number}
 use Rattle.mst_sweep.specs.Moved.{takes_part, is_other_role, port_moved}

@@ -4,9 +4,9 @@ use Rattle.std.specs.List.{list_any, count_by, sum_by}
 use Rattle.mst_ids.specs.declared.name.PortName.{PortName}
 use Rattle.mst_net.specs.Tables.{Net}
 use Rattle.mst_trees.specs.Outcome.{Outcome}
-use Rattle.mst_vlan.specs.roles.Roles.{role_of}
-use Rattle.mst_vlan.specs.roles.declared.kind.Role.{Role}
-use Rattle.mst_vlan.specs.roles.declared.kind.Role.TheVariants.{Disabled}
+use Rattle.mst_vlan.specs.trees.Roles.{role_of}
+use Rattle.mst_vlan.specs.trees.declared.kind.Role.{Role}
+use Rattle.mst_vlan.specs.trees.declared.kind.Role.TheVariants.{Disabled}
 use Rattle.mst_diff.specs.changes.Subjects.{all_trees, bridge_names, port_names}
 use Rattle.mst_diff.specs.changes.Values.{role_number}
 use Rattle.mst_diff.specs.Roots.{root_of}

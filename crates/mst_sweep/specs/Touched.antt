@@ -5,8 +5,8 @@ use Rattle.mst_lag.specs.Viewed.{Viewed}
 use Rattle.mst_lag.specs.declared.in_view.PortInView.{PortInView}
 use Rattle.mst_trees.specs.Forest.{Forest}
 use Rattle.mst_trees.specs.InUse.{seen_mstis}
-use Rattle.mst_vlan.specs.roles.Seen.{seen_role, seen_forwards}
-use Rattle.mst_vlan.specs.roles.declared.kind.Role.{Role}
+use Rattle.mst_vlan.specs.trees.SeenRoles.{seen_role, seen_forwards}
+use Rattle.mst_vlan.specs.trees.declared.kind.Role.{Role}
 use Rattle.mst_vlan.specs.Seen.{seen_member}
 use Rattle.mst_diff.specs.changes.Values.{role_number}
 

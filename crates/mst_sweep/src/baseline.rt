@@ -7,11 +7,11 @@ ghost use Rattle.mst_sweep.specs.Baseline.{AreHomes, IsBaseline};
 
 use crate::homes::homes_by;
 use indexmap::IndexMap;
-use mst_carried::Carriage;
 use mst_classes::classes_of_vids;
 use mst_diff::Planned;
 use mst_graph::Numbering;
 use mst_ids::{BridgeNo, Vid};
+use mst_vlan::Carriage;
 use std::alloc::{AllocError, Global};
 
 /// What stays the same for all failures of a network: the classes of its VIDs, and which island each bridge is in before.

@@ -6,7 +6,7 @@ ghost use Rattle.mst_rows.specs.Rows.{Row};
 ghost use Rattle.mst_net.specs.Tables.{Net, Numbers};
 ghost use Rattle.mst_trees.specs.Agrees.{AreOf, Known};
 ghost use Rattle.mst_trees.specs.Forest.{IsForest};
-ghost use Rattle.mst_diff.specs.plan_text.Bodies.{NumberEach};
+ghost use Rattle.mst_classes.specs.AllVids.{NumberEach};
 ghost use Rattle.mst_diff.specs.Reach.{has_any};
 ghost use Rattle.mst_diff.specs.Seen.{seen_both};
 ghost use Rattle.mst_sweep.specs.Between.{OfNetworks, OfNumbered};
@@ -27,13 +27,14 @@ use crate::failure::Failure;
 use crate::homes::{homes_by, homes_of};
 use crate::parts::{all_parts, staying};
 use indexmap::IndexMap;
-use mst_carried::Carriage;
-use mst_diff::{Both, Planned, set_of, vids};
+use mst_classes::{set_of, vids};
+use mst_diff::{Both, Planned};
 use mst_graph::laws::group_lists;
 use mst_graph::{Numbering, groups_by_body};
 use mst_ids::{BridgeNo, Name, Vid, VidSet};
 use mst_kinds::{AdviseLine, Kind, StepLine, SweepLine};
 use mst_rows::{Rows, Value, put};
+use mst_vlan::Carriage;
 use std::alloc::{AllocError, Global};
 
 /// What cuts VIDs.

@@ -9,10 +9,9 @@ ghost use Rattle.mst_sweep.specs.Seen.{seen_home};
 ghost use Rattle.mst_sweep.specs.Baseline.{AreHomes};
 
 use indexmap::IndexMap;
-use mst_carried::Carriage;
 use mst_diff::Planned;
 use mst_ids::{BridgeNo, Vid};
-use mst_vlan::{Island, reach};
+use mst_vlan::{Carriage, Island, reach};
 use std::alloc::{AllocError, Global};
 
 /// Adds the place of an island for those of its bridges that have none yet.

@@ -19,9 +19,9 @@ use crate::parts::staying;
 use crate::touched::{places_of, touched};
 use crate::whole::is_whole;
 use indexmap::IndexMap;
-use mst_carried::Carriage;
 use mst_diff::{Both, Planned};
 use mst_ids::BridgeNo;
+use mst_vlan::Carriage;
 use std::alloc::{AllocError, Global};
 
 /// A single failure, and for each class of VIDs the places of the islands of its first VID with that failure alone, by the numbers of the

@@ -3,3 +3,15 @@ pub mod SweptParts
 pub mod SweepThere
 pub mod WithFailures
 pub mod Paired
+pub mod OnNamed
+pub mod Carried
+pub mod CarryAlike
+pub mod Users
+pub mod PortsByName
+pub mod PortsOfBoth
+pub mod Anew
+pub mod NoneAnew
+pub mod Flagged
+pub mod SameFate
+pub mod CutMoves
+pub mod OneStep

@@ -4,12 +4,12 @@ ghost use Rattle.mst_trees.specs.Agrees.{Known};
 ghost use Rattle.mst_plan.specs.Plan.{IsPlan};
 ghost use Rattle.mst_sweeping.specs.Sweeping.{Puts};
 ghost use Rattle.mst_rows.specs.Rows.{Row};
-ghost use Rattle.mst_steps.specs.StepText.{AreStepRows};
+ghost use Rattle.mst_sweeping.specs.StepText.{AreStepRows};
 
-use mst_changes::Planned;
+use crate::step::{Deed, Stepped, put_step};
+use mst_diff::Planned;
 use mst_plan::Plan;
 use mst_rows::Rows;
-use mst_steps::{Deed, Stepped, put_step};
 use std::alloc::{AllocError, Global};
 
 /// Puts what a step does, or edits that are advised, by the plan before it and the one after it.

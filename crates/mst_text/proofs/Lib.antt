@@ -1,7 +1,6 @@
+pub use Rattle.mst_vlan.proofs as vlan_lemmas
 pub use Rattle.mst_vlan.proofs.trees_lemmas as trees_lemmas
-pub use Rattle.mst_vlan.proofs.roles_lemmas as roles_lemmas
 mod TreeNamed
-pub mod VlanListed
 pub mod VlanNamed
 mod VlanOnce
 mod LagsByLan

@@ -22,7 +22,8 @@ use Rattle.mst_vlan.proofs.trees_lemmas.Seen.{SeenPort, BridgesRise, PortsRise, 
 use Rattle.mst_rows.specs.Rows.{Row}
 use Rattle.mst_text.specs.TreeRows.{heading}
 use Rattle.mst_text.specs.TreeRuns.{port_of, bridge_with, is_of, by_runs}
-use Rattle.mst_text.specs.TreeText.{has_tree, ports_of, rows_of_port, own_rows, rows_of_bridge, tree_rows}
+use Rattle.mst_vlan.specs.trees.Msti.{has_tree}
+use Rattle.mst_text.specs.TreeText.{ports_of, rows_of_port, own_rows, rows_of_bridge, tree_rows}
 use Rattle.mst_text.proofs.TreeRuns.{runs_of}
 
 -- ---- the order of bridges and ports

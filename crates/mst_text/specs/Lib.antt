@@ -1,5 +1,4 @@
 pub use Rattle.mst_vlan.specs.trees as trees
-pub use Rattle.mst_vlan.specs.roles as roles
 pub use Rattle.mst_vlan.specs as vlan
 pub mod Holders
 pub mod Held

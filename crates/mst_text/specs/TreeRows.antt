@@ -17,8 +17,8 @@ use Rattle.mst_lag.specs.View.{LogicalPort}
 use Rattle.mst_vlan.specs.trees.Cist.{cist_port}
 use Rattle.mst_vlan.specs.trees.InUse.{id_in}
 use Rattle.mst_vlan.specs.trees.Msti.{msti_port}
-use Rattle.mst_vlan.specs.roles.Names.{role_text}
-use Rattle.mst_vlan.specs.roles.declared.kind.Role.{Role}
+use Rattle.mst_vlan.specs.trees.Names.{role_text}
+use Rattle.mst_vlan.specs.trees.declared.kind.Role.{Role}
 use Rattle.mst_text.specs.Holders.{holder_cell}
 
 -- `tree T`

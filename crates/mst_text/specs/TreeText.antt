@@ -7,15 +7,11 @@ use Rattle.mst_net.specs.Tables.{Net, BridgeRow}
 use Rattle.mst_net.specs.ByTree.{by_tree}
 use Rattle.mst_lag.specs.Aggregation.{same_name}
 use Rattle.mst_lag.specs.View.{LogicalPort, view_ports}
-use Rattle.mst_vlan.specs.trees.Msti.{has_msti}
+use Rattle.mst_vlan.specs.trees.Msti.{has_tree}
 use Rattle.mst_vlan.specs.trees.Outcome.{Outcome}
-use Rattle.mst_vlan.specs.roles.Roles.{role_in}
+use Rattle.mst_vlan.specs.trees.Roles.{role_in}
 use Rattle.mst_rows.specs.Rows.{Row}
 use Rattle.mst_text.specs.TreeRows.{heading, bridge_rows, port_row}
-
--- a bridge has the tree: each has tree 0, the CIST
-abbrev pub has_tree : Net → ℕ → List ℕ → Bool
-has_tree net tree name = tree == 0 || has_msti net tree name
 
 -- the logical ports of a bridge, by number
 abbrev pub ports_of : Net → List ℕ → List LogicalPort

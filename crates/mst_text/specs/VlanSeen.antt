@@ -1,25 +1,16 @@
 -- The rows of a VID, under the numbers of records.
-use Rattle.std.specs.Prelude.{ℕ, ◌==◌, List, Option, filter_map}
-use Rattle.std.specs.List.{find}
-use Rattle.std.specs.Option.{option_map}
+use Rattle.std.specs.Prelude.{ℕ, List, filter_map}
 use Rattle.mst_lag.specs.Viewed.{Viewed}
 use Rattle.mst_lag.specs.declared.in_view.PortInView.{PortInView}
 use Rattle.mst_rows.specs.declared.value.ActivePort.{ActivePort}
 use Rattle.mst_rows.specs.Rows.{Row}
-use Rattle.mst_vlan.specs.Seen.{seen_member}
+use Rattle.mst_vlan.specs.Seen.{seen_member, seen_bridge, seen_lan}
 use Rattle.mst_vlan.specs.declared.island.Island.{Island}
 use Rattle.mst_text.specs.VlanRows.{island_row}
 
 -- an active port, and whether it is a member of the VLAN
 abbrev pub seen_port : Viewed → ℕ → PortInView → ActivePort
 seen_port v vid p = record { port = p.name; is_member = seen_member v vid p }
-
--- the names of the bridge and of the logical LAN of this number, if there is one
-abbrev pub seen_bridge : Viewed → ℕ → Option (List ℕ)
-seen_bridge v bridge = option_map (λ b. b.name) (find (λ b. bridge == b.bridge.number) v.bridges)
-
-abbrev pub seen_lan : Viewed → ℕ → Option (List ℕ)
-seen_lan v lan = option_map (λ l. l.name) (find (λ l. lan == l.number) v.lans)
 
 -- the row of an island by its numbers
 abbrev pub seen_island : Viewed → List (ℕ × ℕ) → Island → Row

@@ -1,14 +1,14 @@
-ghost use Rattle.std.specs.Prelude.{◌≡◌, ◌++◌, ◌∷◌, [], List, OnOk, IfOk, filter_map, map};
+ghost use Rattle.std.specs.Prelude.{◌++◌, ◌∷◌, [], List, OnOk, map};
 ghost use Rattle.mst_ids.specs.Vids.{runs_from};
 ghost use Rattle.mst_rows.specs.Rows.{Row};
 ghost use Rattle.mst_text.specs.VlanRows.{island_row};
-ghost use Rattle.mst_text.specs.VlanSeen.{seen_bridge, seen_lan, seen_island};
+ghost use Rattle.mst_text.specs.VlanSeen.{seen_island};
 
-use mst_ids::{BridgeNo, LanNo, Name, VidSet};
+use mst_ids::{Name, VidSet};
 use mst_kinds::{Kind, VlanLine};
 use mst_lag::View;
 use mst_rows::{Rows, Value, put};
-use mst_vlan::Island;
+use mst_vlan::{Island, bridge_names, lan_names};
 use std::alloc::{AllocError, Global};
 
 /// Puts a row for each island, under a heading of these VIDs.
@@ -53,35 +53,4 @@ fn put_named<'a, R: Rows>(
 {
     let values = [Value::Vids(vids), Value::Names(bridges), Value::Names(lans)];
     put::<R>(Kind::Vlan(VlanLine::Island), &values, out)
-}
-
-/// The names of the bridges of these numbers, those of which the view has one. `AllocError`: memory was wanted and
-/// refused.
-pub fn bridge_names(
-    alloc: Global,
-    view: &View,
-    bridges: &[BridgeNo],
-) -> Result<Vec<Name>, AllocError>
-    ensures { IfOk result (λ names. names.items ≡ filter_map (seen_bridge view.now) bridges.now) }
-{
-    let mut names = Vec::new(alloc);
-    for bridge in bridges {
-        if let Some(bridge) = view.bridge(*bridge) {
-            names.push(bridge.name)?;
-        }
-    }
-    Ok(names)
-}
-
-/// The names of the logical LANs of these numbers, those of which the view has one.
-fn lan_names(alloc: Global, view: &View, lans: &[LanNo]) -> Result<Vec<Name>, AllocError>
-    ensures { IfOk result (λ names. names.items ≡ filter_map (seen_lan view.now) lans.now) }
-{
-    let mut names = Vec::new(alloc);
-    for lan in lans {
-        if let Some(lan) = view.lan(*lan) {
-            names.push(lan.name)?;
-        }
-    }
-    Ok(names)
 }

@@ -32,7 +32,6 @@ mod vlan_text;
 
 pub use configuration::put_configuration;
 pub use holders::Holders;
-pub use islands::bridge_names;
 pub use lags::put_lags;
 pub use mst_vlan::{Settled, active_ports, is_member, laws as vlan_laws, mstis_in_use};
 pub use regions::put_regions;

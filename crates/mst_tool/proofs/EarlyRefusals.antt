@@ -23,8 +23,8 @@ use Rattle.mst_lag.proofs.Entries.{entries_found}
 use Rattle.mst_lag.proofs.Lists.{all_filtered, all_kept, all_mapped, all_weaker, found_passes, no_some, some_is}
 use Rattle.mst_lag.proofs.Names.{name_is, own_port, same_ports, tied}
 use Rattle.mst_lag.proofs.Sides.{ports_total}
-use Rattle.mst_advise.specs.declared.goal.Goal.{Goal}
-use Rattle.mst_advise.specs.declared.goal.Goal.TheVariants as goal
+use Rattle.mst_engine.specs.advise.declared.goal.Goal.{Goal}
+use Rattle.mst_engine.specs.advise.declared.goal.Goal.TheVariants as goal
 use Rattle.mst_engine.specs.report.Unadvised.{unadvised_of}
 use Rattle.mst_engine.specs.report.Explaining.{has_asked, logical_port_of, unexplained_of}
 use Rattle.mst_engine.specs.report.Explaining as unexplained

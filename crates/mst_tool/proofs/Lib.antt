@@ -1,3 +1,4 @@
+pub use Rattle.mst_engine.proofs as engine_lemmas
 pub mod Plain
 pub mod Faults
 pub mod Moved

@@ -4,8 +4,7 @@ ghost use Rattle.mst_engine.specs.report.Explaining.{has_asked, has_tree as has_
 ghost use Rattle.mst_trees.specs.Msti.{has_msti as has_msti_in};
 ghost use Rattle.mst_tool.specs.Ask.{unadvised_early, unexplained_early};
 
-use mst_advise::Goal;
-use mst_engine::Unexplained;
+use mst_engine::{Goal, Unexplained};
 use mst_ids::{Name, PortName, Tree};
 use mst_lang::Kind;
 use mst_net::{Contents, Network, Port};

@@ -18,7 +18,7 @@ use Rattle.mst_settle.specs.Assignment.{vector_of, designated_of, IsSettledFor}
 use Rattle.mst_topology.specs.Repair.{WithinBounds}
 use Rattle.mst_settle.specs.Parts.{SameParts}
 use Rattle.mst_topology.specs.Wiring.{settings_in, port_in, topology_of}
-use Rattle.mst_repair.specs.Held.{Tree, IsHeld}
+use Rattle.mst_settle.specs.Held.{Tree, IsHeld}
 use Rattle.mst_net.specs.Tables.{Net, Numbers}
 use Rattle.mst_net.specs.Seen.{bridge_row}
 use Rattle.mst_lag.specs.Trees.{is_among}

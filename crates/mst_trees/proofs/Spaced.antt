@@ -1,8 +1,8 @@
 -- The space of a settler for the wirings from which and to which the MSTIs of a view go.
 use Rattle.std.proofs.Common.{◌≡◌, [], sym, subst, arith}
 use Rattle.mst_settle.specs.Assignment.{Assignment, KeepsSpace}
-use Rattle.mst_repair.specs.Differences.{Wirings, HasSpaceOn, HasSpaceForBoth}
-use Rattle.mst_repair.proofs.Spaced.{on_kept}
+use Rattle.mst_settle.specs.Differences.{Wirings, HasSpaceOn, HasSpaceForBoth}
+use Rattle.mst_settle.proofs.Spaced.{on_kept}
 
 none_spaced : {P V : Type 0} (a : Assignment V) → HasSpaceOn {P = P} [] a
 none_spaced a p h = let l = h.1 in absurd (omega arith)

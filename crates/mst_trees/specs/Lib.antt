@@ -1,4 +1,7 @@
+pub use Rattle.mst_topology.specs as topology
+pub use Rattle.mst_nested.specs as nested
 pub use Rattle.mst_config.specs as config
+pub use Rattle.mst_settle.specs as settle
 pub mod Sight
 pub mod Cist
 pub mod Msti
@@ -15,3 +18,6 @@ pub mod Mstis
 pub mod Bound
 pub mod Forest
 pub mod Settled
+pub mod Roles
+pub mod SeenRoles
+pub mod Names

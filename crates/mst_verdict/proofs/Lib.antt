@@ -1,3 +1,4 @@
+pub use Rattle.mst_sweep.proofs as sweep_lemmas
 pub mod GoesOn
 pub mod TextLines
 pub mod Only
@@ -8,3 +9,9 @@ pub mod OneTold
 pub mod UnkeptTold
 pub mod MadeNets
 pub mod NothingBack
+pub mod Findings
+pub mod Judgements
+pub mod OneJudgement
+pub mod Made
+pub mod Walked
+pub mod Watched

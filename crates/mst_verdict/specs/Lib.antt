@@ -1,3 +1,6 @@
+pub use Rattle.mst_verify.specs as verify
+pub use Rattle.mst_sweep.specs as sweep
+pub use Rattle.mst_sweeping.specs as sweeping
 pub mod Rows
 pub mod Texts
 pub mod Told
@@ -5,3 +8,7 @@ pub mod Once
 pub mod Verified
 pub mod Steps
 pub mod Judged
+pub mod Verifying
+pub mod Setting
+pub mod Stepping
+pub mod Taking

@@ -1,12 +1,13 @@
 //! Laws of what is told of a policy. Their functions do nothing: a caller has their clauses.
-ghost use Rattle.std.specs.Prelude.{◌≡◌, List};
+ghost use Rattle.std.specs.Prelude.{◌≡◌, List, Bool};
 ghost use Rattle.mst_policy.specs.declared.policy.PolicyLine.{PolicyLine as LineOf};
 ghost use Rattle.mst_rows.specs.Rows.{Row};
 ghost use Rattle.mst_net.specs.Tables.{Net, IsNetwork};
 ghost use Rattle.mst_trees.specs.Outcome.{Outcome, IsOutcome};
-ghost use Rattle.mst_verify.specs.Named.{OfNetwork, Prior};
+ghost use Rattle.mst_verify.specs.Named.{OfNetwork, Prior, Prior as PriorOf};
 ghost use Rattle.mst_verdict.specs.Told.{IsLineTold, IsToldWhereUnkept};
 ghost use Rattle.mst_verdict.specs.Verified.{Counts as PolicyCounts, IsToldWhereBroken, IsVerdict, IsVerified};
+ghost use Rattle.mst_verdict.specs.Verifying.{IsPriorNetwork, Judges, Verifies};
 
 use mst_net::laws::networks;
 use mst_trees::laws::{has_outcome, one_outcome};
@@ -25,7 +26,7 @@ pub fn told_lines()
 }
 
 /// A policy has one list of rows of a network, and one count of its lines, whichever settled outcome it is judged by.
-pub fn one_verification()
+pub fn one_verified()
     ensures some { (net : Net) (o : Outcome) (lines : List LineOf) → IsNetwork net → IsOutcome net o → (counts : PolicyCounts) × (rows : List Row) × IsVerified net o lines counts rows }
     ensures one { (net : Net) (o p : Outcome) (lines : List LineOf) (c d : PolicyCounts) (rows other : List Row) → IsNetwork net → IsOutcome net o → IsOutcome net p
         → IsVerified net o lines c rows → IsVerified net p lines d other → (c ≡ d) × (rows ≡ other) }
@@ -53,4 +54,27 @@ pub fn line_where_unkept()
     one_outcome();
     networks();
     told_where_broken();
+}
+
+/// What is told of a policy: each network has one list of rows and one count of its lines, which the network and the lines alone settle.
+pub fn one_verification()
+    ensures some { (net : Net) (lines : List LineOf) → IsNetwork net → (counts : PolicyCounts) × (rows : List Row) × Verifies net lines counts rows }
+    ensures one { (net : Net) (lines : List LineOf) (c d : PolicyCounts) (rows other : List Row) → IsNetwork net → Verifies net lines c rows → Verifies net lines d other → (c ≡ d) × (rows ≡ other) }
+{
+    has_outcome();
+    told_where_unkept();
+    one_verified();
+}
+
+/// What is told of a policy's lines in one of several networks: by the network, what is before it and whether it is the last, each line has one
+/// list of rows.
+pub fn one_judgement()
+    ensures some { (net : Net) (prior : PriorOf) (is_last : Bool) (lines : List LineOf) → IsNetwork net → IsPriorNetwork prior → (told : List (List Row)) × Judges net prior is_last lines told }
+    ensures one { (net : Net) (prior : PriorOf) (is_last : Bool) (lines : List LineOf) (told other : List (List Row)) → IsNetwork net → IsPriorNetwork prior
+        → Judges net prior is_last lines told → Judges net prior is_last lines other → told ≡ other }
+{
+    has_outcome();
+    one_outcome();
+    line_where_unkept();
+    told_lines();
 }

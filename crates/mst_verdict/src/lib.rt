@@ -1,21 +1,28 @@
-//! The rows of the lines of a policy: of a network, and in front of the steps of a change and behind each.
+//! Whether networks do what a policy promises, and the rows that tell it: of a network, and in front of the steps of a change and behind each.
 //!
-//! What was judged of the lines is a [`Judgement`]: what each names that the network hasn't, and place by place why it isn't kept. Of one
-//! network it is told by [`put_verdict`], and what failures share with the network itself once; of two that a step lies between by
-//! [`put_judged`], and only what is new.
+//! What was judged of the lines is a judgement: what each names that the network hasn't, and place by place why it isn't kept, in the network
+//! itself and in that of each failure for which a line asks, by its plan. Of one network it is told whole, and what failures share with the
+//! network itself once ([`verify_network`]); of two that a step lies between only what is new ([`step_network`]), beside which lines of the
+//! step are refused and what moves.
 #![tactic(auto)]
 
 mod judgement;
+mod judging;
 pub mod laws;
 mod once;
 mod promises;
 mod reason;
 mod refused;
+mod setting;
+mod stepping;
 mod steps;
 mod texts;
 mod verified;
+mod verifying;
 
-pub use judgement::{Finding, Judgement};
-pub use once::is_looked_at;
-pub use steps::{breaks, put_front, put_judged, put_start, unkept_count};
-pub use verified::{Verdict, put_verdict};
+pub use mst_sweep::SweepPart;
+pub use mst_sweeping::{laws as sweeping_laws, sweep_network, sweep_pairs};
+pub use mst_verify::laws as verify_laws;
+pub use stepping::{Course, step_network};
+pub use verified::Verdict;
+pub use verifying::verify_network;

@@ -2,7 +2,7 @@
 use Rattle.std.proofs.Common.{◌≡◌, ℕ, ◌+◌, ◌<◌, Bool, List, [], get_or, Option, Some, None, refl, sym, ap, subst, ◌∙◌}
 use Rattle.std.specs.List.{filter, filter_map}
 use Rattle.std.specs.Option.{option_and_then, option_map}
-use Rattle.mst_carried.specs.Carried.{CarryAlike, ViewWithTrees}
+use Rattle.mst_vlan.specs.Carried.{CarryAlike, ViewWithTrees}
 use Rattle.mst_classes.specs.Classes.{AreClasses}
 use Rattle.mst_diff.specs.Seen.{seen_both}
 use Rattle.mst_diff.specs.declared.both.Both.{Both}

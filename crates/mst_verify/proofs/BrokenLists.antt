@@ -9,9 +9,9 @@ use Rattle.mst_net.specs.Tables.{Net}
 use Rattle.mst_lag.specs.Trees.{is_among}
 use Rattle.mst_lag.specs.View.{LogicalPort}
 use Rattle.mst_trees.specs.Outcome.{Outcome}
-use Rattle.mst_vlan.specs.roles.Roles.{role_in}
-use Rattle.mst_vlan.specs.roles.declared.kind.Role.{Role}
-use Rattle.mst_vlan.specs.roles.declared.kind.Role.TheVariants.{Root, Designated, Alternate, Backup, Master, Disabled}
+use Rattle.mst_vlan.specs.trees.Roles.{role_in}
+use Rattle.mst_vlan.specs.trees.declared.kind.Role.{Role}
+use Rattle.mst_vlan.specs.trees.declared.kind.Role.TheVariants.{Root, Designated, Alternate, Backup, Master, Disabled}
 use Rattle.mst_diff.specs.changes.Values.{role_number}
 use Rattle.mst_diff.specs.Reach.{has_any}
 use Rattle.mst_policy.specs.declared.expectation.Roles.{Roles}

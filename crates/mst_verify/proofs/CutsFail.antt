@@ -15,9 +15,9 @@ use Rattle.mst_policy.specs.declared.item.NameItem.TheVariants.{Any}
 use Rattle.mst_rows.specs.Rows.{Row}
 use Rattle.mst_diff.specs.changes.Subjects.{bridge_names}
 use Rattle.mst_diff.specs.Reach.{has_any}
-use Rattle.mst_plan_text.specs.PlanText.{all_vids}
+use Rattle.mst_classes.specs.AllVids.{all_vids}
 use Rattle.mst_trees.specs.Outcome.{Outcome, IsOutcome}
-use Rattle.mst_plan_text.proofs.OnePlan.{is_vid_there}
+use Rattle.mst_classes.proofs.VidPlaces.{is_vid_there}
 use Rattle.mst_trees.proofs.Lists.{kept_in, kept_from, some_is}
 use Rattle.mst_vlan.specs.Reach.{AreIslandsOf, bridges_on}
 use Rattle.mst_sweep.specs.Cuts.{AreCuts}

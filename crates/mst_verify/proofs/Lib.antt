@@ -1,3 +1,4 @@
+pub use Rattle.mst_summary.proofs as summary_lemmas
 pub mod Things
 pub mod OfVids
 pub mod StayTogether

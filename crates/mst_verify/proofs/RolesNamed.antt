@@ -8,11 +8,11 @@ use Rattle.mst_lag.specs.Viewed.{named_port}
 use Rattle.mst_lag.specs.declared.in_view.PortInView.{PortInView}
 use Rattle.mst_policy.specs.declared.expectation.Roles.{Roles}
 use Rattle.mst_diff.specs.Reach.{has_any}
-use Rattle.mst_vlan.specs.roles.Roles.{role_in}
-use Rattle.mst_vlan.specs.roles.Seen.{seen_role}
-use Rattle.mst_vlan.specs.roles.declared.kind.Role.{Role}
+use Rattle.mst_vlan.specs.trees.Roles.{role_in}
+use Rattle.mst_vlan.specs.trees.SeenRoles.{seen_role}
+use Rattle.mst_vlan.specs.trees.declared.kind.Role.{Role}
 use Rattle.mst_trees.specs.Settled.{SettledNet, IsSettledNet, outcome_of}
-use Rattle.mst_vlan.proofs.roles_lemmas.Named.{each_same}
+use Rattle.mst_vlan.proofs.trees_lemmas.Named.{each_same}
 use Rattle.mst_trees.proofs.Entries.{all_weaker}
 use Rattle.mst_trees.proofs.Lists.{all_there, filter_mapped, mapped_twice}
 use Rattle.mst_trees.proofs.Looking.{filter_alike}

@@ -3,7 +3,7 @@ use Rattle.std.proofs.Common.{◌≡◌, ◌⊎◌, ℕ, List, map, Some, inl, i
 use Rattle.std.specs.List.{Contains, filter}
 use Rattle.std.specs.FinMap as fin
 use Rattle.std.proofs.lemmas.List.Elements.{All-contains}
-use Rattle.mst_carried.specs.Carried.{names_of, seen_carried}
+use Rattle.mst_vlan.specs.Carried.{names_of, seen_carried}
 use Rattle.mst_graph.specs.Islands.{Link, AreJoined, link_ends}
 use Rattle.mst_graph.specs.Walks.{Links, Node, Walk, bridge_at, lan_at, stay, along}
 use Rattle.mst_graph.proofs.Splits.{map_of_map}

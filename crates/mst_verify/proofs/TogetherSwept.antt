@@ -17,9 +17,9 @@ use Rattle.mst_rows.specs.Rows.{Row}
 use Rattle.mst_diff.proofs.changes_lemmas.Lists.{flat_map-flat_map}
 use Rattle.mst_diff.specs.changes.Subjects.{bridge_names}
 use Rattle.mst_diff.specs.Reach.{has_any}
-use Rattle.mst_plan_text.specs.PlanText.{all_vids}
+use Rattle.mst_classes.specs.AllVids.{all_vids}
 use Rattle.mst_trees.specs.Outcome.{IsOutcome, Outcome}
-use Rattle.mst_plan_text.proofs.OnePlan.{is_vid_there}
+use Rattle.mst_classes.proofs.VidPlaces.{is_vid_there}
 use Rattle.mst_vlan.specs.Reach.{AreIslandsOf}
 use Rattle.mst_sweep.specs.Cuts.{AreCuts, cut_row, group_rows, runs_of}
 use Rattle.mst_sweep.specs.Failures.{edit_of, failures}

@@ -9,14 +9,15 @@ use Rattle.mst_graph.proofs.Alike.{alike_groups}
 use Rattle.mst_lag.specs.Viewed.{Viewed}
 use Rattle.mst_net.specs.Tables.{Net}
 use Rattle.mst_classes.specs.Alike.{AreAlike}
-use Rattle.mst_plan_text.specs.Bodies.{NumberEach}
-use Rattle.mst_plan_text.specs.PlanText.{all_vids}
+use Rattle.mst_classes.specs.AllVids.{NumberEach}
+use Rattle.mst_classes.specs.AllVids.{all_vids}
 use Rattle.mst_trees.specs.Outcome.{Outcome}
 use Rattle.mst_trees.specs.Settled.{SettledNet, IsSettledNet, outcome_of}
 use Rattle.mst_classes.specs.Classes.{AreClasses}
 use Rattle.mst_diff.specs.Classes.{flag_at}
-use Rattle.mst_plan_text.proofs.Classes.{links_shared, numbers_below}
-use Rattle.mst_plan_text.proofs.Grouped.{vid_place}
+use Rattle.mst_vlan.proofs.LinksAlike.{links_shared}
+use Rattle.mst_classes.proofs.VidPlaces.{numbers_below}
+use Rattle.mst_classes.proofs.VidPlaces.{vid_place}
 use Rattle.mst_sweep.specs.Cuts.{parts_at}
 use Rattle.mst_vlan.specs.Reach.{vid_links}
 use Rattle.mst_verify.specs.Holds.{AreTogether, IsReached}

@@ -6,8 +6,8 @@ use Rattle.mst_ids.specs.Vids.{has}
 use Rattle.mst_graph.specs.declared.keys.Numbering.{Numbering}
 use Rattle.mst_graph.proofs.Members.{from_filter}
 use Rattle.mst_lag.specs.Viewed.{Viewed}
-use Rattle.mst_plan_text.specs.Bodies.{NumberEach}
-use Rattle.mst_plan_text.specs.PlanText.{all_vids}
+use Rattle.mst_classes.specs.AllVids.{NumberEach}
+use Rattle.mst_classes.specs.AllVids.{all_vids}
 use Rattle.mst_classes.specs.Classes.{AreClasses}
 use Rattle.mst_diff.specs.Classes.{flag_at}
 use Rattle.mst_sweep.specs.Cuts.{names_of, parts_at}

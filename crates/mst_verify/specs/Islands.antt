@@ -5,7 +5,7 @@ use Rattle.std.specs.Map.{lookup}
 use Rattle.std.specs.Option.{option_map, option_map_or}
 use Rattle.std.specs.FinMap as fin
 use Rattle.std.specs.HashMap.{HashMap}
-use Rattle.mst_carried.specs.Carried.{ViewWithTrees, CarryAlike}
+use Rattle.mst_vlan.specs.Carried.{ViewWithTrees, CarryAlike}
 use Rattle.mst_graph.specs.Groups.{AreGroups}
 use Rattle.mst_lag.specs.declared.in_view.BridgeInView.{BridgeInView}
 use Rattle.mst_net.specs.Tables.{Net, Numbers}

@@ -9,7 +9,7 @@ use Rattle.mst_net.specs.Tables.{IsNetwork, Net, port_eq}
 use Rattle.mst_trees.specs.Outcome.{Outcome}
 use Rattle.mst_lag.specs.Aggregation.{same_name}
 use Rattle.mst_lag.specs.View.{LogicalPort, view_ports}
-use Rattle.mst_plan_text.specs.PlanText.{all_vids}
+use Rattle.mst_classes.specs.AllVids.{all_vids}
 use Rattle.mst_policy.specs.Items as policy
 use Rattle.mst_policy.specs.declared.item.NameItem.{NameItem}
 use Rattle.mst_policy.specs.declared.item.PortItem.{PortItem}

@@ -20,9 +20,9 @@ use Rattle.mst_note_text.specs.Children.{HasSteps}
 use Rattle.mst_note_text.specs.Depths.{ParentIn}
 use Rattle.mst_note_text.specs.NotesText.{AreNoteRows}
 use Rattle.mst_trees.specs.Outcome.{Outcome, trees_of}
-use Rattle.mst_vlan.specs.roles.Roles.{role_in}
-use Rattle.mst_vlan.specs.roles.declared.kind.Role.{Role}
-use Rattle.mst_vlan.specs.roles.declared.kind.Role.TheVariants as a_role
+use Rattle.mst_vlan.specs.trees.Roles.{role_in}
+use Rattle.mst_vlan.specs.trees.declared.kind.Role.{Role}
+use Rattle.mst_vlan.specs.trees.declared.kind.Role.TheVariants as a_role
 use Rattle.mst_vlan.specs.Reach.{bridges_on}
 use Rattle.mst_sweep.specs.Parts.{ArePartsOf}
 use Rattle.mst_diff.specs.changes.Values.{role_number}

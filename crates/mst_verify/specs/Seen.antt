@@ -20,8 +20,8 @@ use Rattle.mst_note_text.specs.declared.children.Child.{Child}
 use Rattle.mst_trees.specs.Forest.{Forest}
 use Rattle.mst_trees.specs.InUse.{id_in}
 use Rattle.mst_trees.specs.Outcome.{Outcome}
-use Rattle.mst_vlan.specs.roles.Seen.{seen_role}
-use Rattle.mst_vlan.specs.roles.declared.kind.Role.{Role}
+use Rattle.mst_vlan.specs.trees.SeenRoles.{seen_role}
+use Rattle.mst_vlan.specs.trees.declared.kind.Role.{Role}
 use Rattle.mst_diff.specs.Reach.{has_any}
 use Rattle.mst_summary.specs.Roots.{follower}
 use Rattle.mst_summary.specs.declared.roots.Follower.{Follower}

@@ -8,11 +8,11 @@ ghost use Rattle.mst_verify.specs.Islands.{AreAlike, AreKept, AreMade, AreMadeBy
 use crate::before::Before;
 use crate::vids::classes_asked;
 use indexmap::IndexMap;
-use mst_carried::{Carriage, differing};
 use mst_diff::Planned;
 use mst_ids::{BridgeNo, Vid, VidSet};
 use mst_sweep::{homes_by, homes_of};
 use mst_trees::Settled;
+use mst_vlan::{Carriage, differing};
 use std::alloc::{AllocError, Global};
 
 /// The islands of some classes of VIDs in a network, made once for all expectations that ask for them.

@@ -44,6 +44,7 @@ pub use homes::Homes;
 pub use judged::Judged;
 pub use lacking::{Missing, has_bridge, has_failure, has_lan, has_port, missing_in};
 pub use lists::{BridgeNames, Parts, PortNames, Word};
+pub use mst_summary::Follower;
 pub use prior::Prior;
 pub use reason::Reason;
 pub use roots::{all_but, bridge_named, followers};

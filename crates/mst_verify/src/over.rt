@@ -14,7 +14,7 @@ use crate::vids::vids_of;
 use mst_diff::flagged;
 use mst_ids::{Name, Vid, VidSet};
 use mst_lag::{MemberLan, PortInView, View};
-use mst_plan_text::set_of;
+use mst_classes::set_of;
 use mst_summary::goes_over;
 use mst_trees::Settled;
 use std::alloc::{AllocError, Global};

@@ -6,10 +6,10 @@ use crate::before::Before;
 use crate::beside::Beside;
 use crate::homes::Homes;
 use indexmap::IndexMap;
-use mst_carried::Carriage;
 use mst_graph::Numbering;
 use mst_ids::BridgeNo;
 use mst_trees::Settled;
+use mst_vlan::Carriage;
 
 /// What is kept of the network that is prior to the one which is judged: what carries its VIDs, the classes of VIDs that nothing tells apart in
 /// either network, and islands of both.

@@ -1,12 +1,12 @@
 ghost use Rattle.std.specs.Prelude.{◌≡◌, ◌-◌, ◌<◌, ℕ, IfOk, length, map, slice_index, true};
 ghost use Rattle.std.specs.List.{All, Contains};
 ghost use Rattle.mst_diff.specs.Classes.{flag_at};
-ghost use Rattle.mst_plan_text.specs.Bodies.{NumberEach};
+ghost use Rattle.mst_classes.specs.AllVids.{NumberEach};
 ghost use Rattle.mst_verify.specs.Named.{vids_in};
 
 use mst_graph::Numbering;
 use mst_ids::{Vid, VidSet};
-use mst_plan_text::vids;
+use mst_classes::vids;
 use std::alloc::{AllocError, Global};
 
 /// The VIDs of a set, rising. `AllocError`: memory was wanted and refused.

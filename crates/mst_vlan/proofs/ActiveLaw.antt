@@ -12,30 +12,30 @@ use Rattle.mst_vector.specs.Msti.{msti_rules}
 use Rattle.mst_vector.specs.declared.cist.CistBridge.{CistBridge}
 use Rattle.mst_vector.specs.declared.cist.CistPort.{CistPort}
 use Rattle.mst_vector.specs.declared.msti.MstiBridge.{MstiBridge}
-use Rattle.mst_topology.specs.Topology.{TreePort, HasBridge, KeyTests}
+use Rattle.mst_trees.specs.topology.Topology.{TreePort, HasBridge, KeyTests}
 use Rattle.mst_graph.specs.Joined.{IsJoined, HasNoLoop, Other}
 use Rattle.mst_graph.proofs.Members.{in_filter, from_filter}
-use Rattle.mst_nested.specs.Ports.{port_ends as plug_ends}
-use Rattle.mst_nested.specs.Trees.{Trees, IsSettled, IsFree, IsEnabled as IsEnabledPlug, HasTree, SameRegion}
-use Rattle.mst_nested.specs.Roles.{Forwards}
-use Rattle.mst_nested.specs.Active.{IsTreeOfVid, IsActive}
+use Rattle.mst_trees.specs.nested.Ports.{port_ends as plug_ends}
+use Rattle.mst_trees.specs.nested.Trees.{Trees, IsSettled, IsFree, IsEnabled as IsEnabledPlug, HasTree, SameRegion}
+use Rattle.mst_trees.specs.nested.Roles.{Forwards}
+use Rattle.mst_trees.specs.nested.Active.{IsTreeOfVid, IsActive}
 use Rattle.mst_net.specs.Tables.{Net, BridgeRow, IsNetwork}
 use Rattle.mst_net.specs.ByTree.{by_tree}
 use Rattle.mst_lag.specs.View.{LogicalPort, view_ports}
-use Rattle.mst_roles.specs.config.Regions.{same_region, region_of}
-use Rattle.mst_roles.proofs.config_lemmas.SameRegion.{told}
-use Rattle.mst_roles.specs.trees.Sight.{tree_port}
-use Rattle.mst_roles.specs.trees.Cist.{cist_bridge, cist_port, cist_sight, cist_of}
-use Rattle.mst_roles.specs.trees.Msti.{msti_bridge, msti_sight, has_msti}
-use Rattle.mst_roles.specs.trees.Outcome.{Outcome, trees_of}
-use Rattle.mst_roles.proofs.trees_lemmas.CistTopology.{given, cist_is_sight}
-use Rattle.mst_roles.proofs.trees_lemmas.MstiTopology.{msti_is_sight}
-use Rattle.mst_roles.proofs.trees_lemmas.Lists.{apart_cases}
-use Rattle.mst_roles.proofs.trees_lemmas.Sights.{bridge_from, bridge_in, port_from}
-use Rattle.mst_roles.proofs.trees_lemmas.Views.{ports_rise, port_names_differ}
-use Rattle.mst_roles.specs.Roles.{cist_role, msti_role, role_in, forwards, tree_of_vid, forwards_for}
-use Rattle.mst_roles.specs.declared.kind.Role.{Role}
-use Rattle.mst_roles.specs.declared.kind.Role.TheVariants.{Disabled}
+use Rattle.mst_trees.specs.config.Regions.{same_region, region_of}
+use Rattle.mst_trees.proofs.config_lemmas.SameRegion.{told}
+use Rattle.mst_trees.specs.Sight.{tree_port}
+use Rattle.mst_trees.specs.Cist.{cist_bridge, cist_port, cist_sight, cist_of}
+use Rattle.mst_trees.specs.Msti.{msti_bridge, msti_sight, has_msti}
+use Rattle.mst_trees.specs.Outcome.{Outcome, trees_of}
+use Rattle.mst_trees.proofs.CistTopology.{given, cist_is_sight}
+use Rattle.mst_trees.proofs.MstiTopology.{msti_is_sight}
+use Rattle.mst_trees.proofs.Lists.{apart_cases}
+use Rattle.mst_trees.proofs.Sights.{bridge_from, bridge_in, port_from}
+use Rattle.mst_trees.proofs.Views.{ports_rise, port_names_differ}
+use Rattle.mst_trees.specs.Roles.{cist_role, msti_role, role_in, forwards, tree_of_vid, forwards_for}
+use Rattle.mst_trees.specs.declared.kind.Role.{Role}
+use Rattle.mst_trees.specs.declared.kind.Role.TheVariants.{Disabled}
 use Rattle.mst_vlan.specs.Active.{active_ports, port_ends, JoinWithoutLoop}
 use Rattle.mst_vlan.proofs.Carried.{HasEnds, carried}
 use Rattle.mst_vlan.proofs.Names.{tests}

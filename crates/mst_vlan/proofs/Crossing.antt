@@ -4,22 +4,22 @@ use Rattle.std.specs.Prelude.{if◌then◌else◌, ◌↔◌}
 use Rattle.mst_ids.specs.declared.name.PortName.{PortName}
 use Rattle.mst_vector.specs.Msti.{msti_rules}
 use Rattle.mst_vector.specs.declared.cist.CistPort.{CistPort}
-use Rattle.mst_topology.specs.Topology.{TreePort}
+use Rattle.mst_trees.specs.topology.Topology.{TreePort}
 use Rattle.mst_graph.specs.Walks.{bridge_at, lan_at}
-use Rattle.mst_nested.specs.Exits.{IsCrossing, IsExit}
-use Rattle.mst_nested.specs.Roles.{Forwards}
-use Rattle.mst_nested.specs.Trees.{IsSettled, SamePart, HasTree}
+use Rattle.mst_trees.specs.nested.Exits.{IsCrossing, IsExit}
+use Rattle.mst_trees.specs.nested.Roles.{Forwards}
+use Rattle.mst_trees.specs.nested.Trees.{IsSettled, SamePart, HasTree}
 use Rattle.mst_net.specs.Tables.{Net, IsNetwork}
 use Rattle.mst_net.specs.ByTree.{by_tree}
 use Rattle.mst_lag.specs.View.{LogicalPort, view_ports}
-use Rattle.mst_roles.specs.trees.Msti.{msti_bridge, has_msti, msti_sight}
-use Rattle.mst_roles.specs.trees.Outcome.{Outcome, trees_of}
-use Rattle.mst_roles.proofs.trees_lemmas.Lists.{no_some, all_contained}
-use Rattle.mst_roles.proofs.trees_lemmas.MstiTopology.{msti_is_sight}
-use Rattle.mst_roles.proofs.trees_lemmas.Sights.{bridge_in}
-use Rattle.mst_roles.proofs.trees_lemmas.Views.{IsPort, ports_are, row_on}
-use Rattle.mst_roles.specs.Roles.{cist_role, msti_role, role_in, forwards}
-use Rattle.mst_roles.specs.declared.kind.Role.{Role}
+use Rattle.mst_trees.specs.Msti.{msti_bridge, has_msti, msti_sight}
+use Rattle.mst_trees.specs.Outcome.{Outcome, trees_of}
+use Rattle.mst_trees.proofs.Lists.{no_some, all_contained}
+use Rattle.mst_trees.proofs.MstiTopology.{msti_is_sight}
+use Rattle.mst_trees.proofs.Sights.{bridge_in}
+use Rattle.mst_trees.proofs.Views.{IsPort, ports_are, row_on}
+use Rattle.mst_trees.specs.Roles.{cist_role, msti_role, role_in, forwards}
+use Rattle.mst_trees.specs.declared.kind.Role.{Role}
 use Rattle.mst_vlan.specs.Active.{IsEnabled}
 use Rattle.mst_vlan.proofs.ActiveLaw.{Forwarding, not_zero}
 use Rattle.mst_vlan.proofs.Plugs.{plug, enabled_plug}

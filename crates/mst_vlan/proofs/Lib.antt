@@ -1,5 +1,4 @@
-pub use Rattle.mst_roles.proofs.trees_lemmas as trees_lemmas
-pub use Rattle.mst_roles.proofs as roles_lemmas
+pub use Rattle.mst_trees.proofs as trees_lemmas
 pub mod Names
 pub mod Carried
 pub mod Plugs
@@ -12,3 +11,9 @@ pub mod Listed
 pub mod Reached
 pub mod IslandLaw
 pub mod Crossing
+pub mod Lists
+pub mod VidsAlike
+pub mod Links
+pub mod ByNumber
+pub mod NamedInView
+pub mod LinksAlike

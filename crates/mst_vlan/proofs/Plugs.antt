@@ -4,15 +4,15 @@ use Rattle.std.specs.Prelude.{if◌then◌else◌}
 use Rattle.mst_ids.specs.declared.name.PortName.{PortName}
 use Rattle.mst_vector.specs.Cist.{cist_rules}
 use Rattle.mst_vector.specs.declared.cist.CistPort.{CistPort}
-use Rattle.mst_topology.specs.Topology.{TreePort}
-use Rattle.mst_nested.specs.Trees.{TakesPart}
+use Rattle.mst_trees.specs.topology.Topology.{TreePort}
+use Rattle.mst_trees.specs.nested.Trees.{TakesPart}
 use Rattle.mst_net.specs.Tables.{Net, IsNetwork}
 use Rattle.mst_net.specs.ByTree.{by_tree}
 use Rattle.mst_lag.specs.View.{LogicalPort}
-use Rattle.mst_roles.specs.trees.Sight.{tree_port}
-use Rattle.mst_roles.specs.trees.Cist.{cist_port, cist_sight, cist_of}
-use Rattle.mst_roles.proofs.trees_lemmas.CistTopology.{cist_is_sight}
-use Rattle.mst_roles.proofs.trees_lemmas.Sights.{port_in}
+use Rattle.mst_trees.specs.Sight.{tree_port}
+use Rattle.mst_trees.specs.Cist.{cist_port, cist_sight, cist_of}
+use Rattle.mst_trees.proofs.CistTopology.{cist_is_sight}
+use Rattle.mst_trees.proofs.Sights.{port_in}
 use Rattle.mst_vlan.specs.Active.{IsEnabled}
 
 abbrev pub plug : Net → LogicalPort → TreePort (List ℕ) (List ℕ) PortName CistPort

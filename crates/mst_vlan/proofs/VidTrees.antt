@@ -13,9 +13,9 @@ use Rattle.mst_net.specs.Tables.{Net, BridgeRow, IsNetwork}
 use Rattle.mst_net.specs.After.{table_of}
 use Rattle.mst_net.proofs.TableFits.{tree_in-no_table}
 use Rattle.mst_lag.specs.Trees.{mstis_of, is_among}
-use Rattle.mst_roles.specs.config.Regions.{same_region, same_configuration}
-use Rattle.mst_roles.specs.trees.Msti.{has_msti}
-use Rattle.mst_roles.specs.Roles.{tree_of_vid}
+use Rattle.mst_trees.specs.config.Regions.{same_region, same_configuration}
+use Rattle.mst_trees.specs.Msti.{has_msti}
+use Rattle.mst_trees.specs.Roles.{tree_of_vid}
 
 or_right : (a b : Bool) → b ≡ true → (a || b) ≡ true
 or_right true b e = refl

@@ -1,6 +1,7 @@
-pub use Rattle.mst_roles.specs.settle as settle
-pub use Rattle.mst_roles.specs.trees as trees
-pub use Rattle.mst_roles.specs as roles
+pub use Rattle.mst_trees.specs.settle as settle
+pub use Rattle.mst_trees.specs as trees
 pub mod Active
 pub mod Reach
 pub mod Seen
+pub mod Carried
+pub mod Kept

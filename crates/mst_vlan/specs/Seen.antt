@@ -1,13 +1,15 @@
 -- The active ports of a VID and what they link, under the numbers of records.
-use Rattle.std.specs.Prelude.{ℕ, Bool, List, map, filter}
+use Rattle.std.specs.Prelude.{ℕ, ◌==◌, Bool, List, Option, map, filter}
+use Rattle.std.specs.List.{find}
+use Rattle.std.specs.Option.{option_map}
 use Rattle.mst_ids.specs.Vids.{has}
 use Rattle.mst_graph.specs.Islands.{Link, Island}
 use Rattle.mst_net.specs.ByTree.{vlans_in}
 use Rattle.mst_net.specs.Seen.{bridge_row}
 use Rattle.mst_lag.specs.Viewed.{Viewed}
 use Rattle.mst_lag.specs.declared.in_view.PortInView.{PortInView}
-use Rattle.mst_roles.specs.trees.Forest.{Forest}
-use Rattle.mst_roles.specs.Seen.{seen_forwards}
+use Rattle.mst_trees.specs.Forest.{Forest}
+use Rattle.mst_trees.specs.SeenRoles.{seen_forwards}
 use Rattle.mst_vlan.specs.declared.island.Island.{Island as IslandNos}
 
 -- the bridges that are on, and the logical LANs that are up
@@ -34,3 +36,10 @@ seen_links v f vid = map seen_link (filter (seen_member v vid) (seen_active v f 
 -- an island by its lists
 abbrev pub as_island : IslandNos → Island ℕ ℕ
 as_island i = record { bridges = i.bridges; lans = i.lans }
+
+-- the names of the bridge and of the logical LAN of this number, if there is one
+abbrev pub seen_bridge : Viewed → ℕ → Option (List ℕ)
+seen_bridge v bridge = option_map (λ b. b.name) (find (λ b. bridge == b.bridge.number) v.bridges)
+
+abbrev pub seen_lan : Viewed → ℕ → Option (List ℕ)
+seen_lan v lan = option_map (λ l. l.name) (find (λ l. lan == l.number) v.lans)

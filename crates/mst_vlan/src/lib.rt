@@ -1,15 +1,23 @@
-//! The active topology of a VID, and which bridges and LANs its frames reach (802.1Q-2022, 8.8 and 13.12).
+//! The active topology of a VID, and which bridges and LANs its frames reach (802.1Q-2022, 8.8 and 13.12). Which logical ports carry each
+//! VID is read from a table that is made once ([`Carriage`]).
 #![tactic(auto)]
 
+mod carriage;
+mod comparing;
 mod island;
 pub mod laws;
+mod named;
 mod reaching;
+mod rows;
 mod topology;
 
+pub use carriage::Carriage;
+pub use comparing::differing;
 pub use island::{BridgeList, Island, LanList};
-pub use mst_roles::{
-    Forest, Role, Settled, bridge_id, cist_port, is_had, msti_port, mstis_in_use, port_forwards,
-    port_role, role_of, trees_in_use, trees_laws,
+pub use mst_trees::{
+    Forest, Role, Settled, bridge_id, cist_port, is_had, laws as trees_laws, msti_port,
+    mstis_in_use, port_forwards, port_role, role_of, trees_in_use,
 };
+pub use named::{bridge_names, lan_names};
 pub use reaching::{bridges_on, is_member, islands_of, lans_up, reach, reach_from};
 pub use topology::{active, active_ports, forwarding};

@@ -4,7 +4,7 @@ use Rattle.std.proofs.lemmas.Result.{IfOk-weaker}
 use Rattle.mst_net.specs.Tables.{BridgeRow}
 use Rattle.mst_trees.specs.Settled.{outcome_of}
 use Rattle.mst_trees.proofs.Seen.{bridge_seen}
-use Rattle.mst_summary.specs.declared.roots.Follower.{Follower}
+use Rattle.mst_verify.specs.summary.declared.roots.Follower.{Follower}
 use Rattle.mst_advise.specs.Priorities.{greatest_priority, greatest_upto, others, priorities}
 use Rattle.mst_advise.specs.Seen.{ids_of, seen_first}
 use Rattle.mst_advise.proofs.OthersSeen.{greatest_same}

@@ -1,8 +1,8 @@
 use Rattle.std.proofs.Common.{[], map, ◌++◌, sym, ap, ◌∙◌, append-nil}
 use Rattle.std.specs.List.{flat_map}
 use Rattle.std.proofs.lemmas.List.{flat_map_more}
-use Rattle.mst_roles.specs.Seen.{seen_role}
-use Rattle.mst_roles.proofs.trees_lemmas.SettledNet.{forest_of}
+use Rattle.mst_trees.specs.SeenRoles.{seen_role}
+use Rattle.mst_trees.proofs.SettledNet.{forest_of}
 use Rattle.mst_changes.specs.Seen.{seen_vector}
 use Rattle.mst_changes.specs.Stored.{kept_in, kept_of}
 use Rattle.mst_changes.proofs.InUse.{unused_by}

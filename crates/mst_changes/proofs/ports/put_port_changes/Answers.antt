@@ -1,8 +1,8 @@
 use Rattle.std.proofs.Common.{map, ◌++◌, ◌∙◌}
 use Rattle.std.specs.List.{filter_map}
 use Rattle.mst_ids.specs.Names.{port_cmp}
-use Rattle.mst_roles.specs.trees.Settled.{outcome_of}
-use Rattle.mst_roles.proofs.trees_lemmas.SettledNet.{forest_of}
+use Rattle.mst_trees.specs.Settled.{outcome_of}
+use Rattle.mst_trees.proofs.SettledNet.{forest_of}
 use Rattle.mst_changes.specs.Subjects.{port_in, port_names, names_of_either}
 use Rattle.mst_changes.specs.Seen.{seen_port_entry}
 use Rattle.mst_changes.specs.Values.{value_at}

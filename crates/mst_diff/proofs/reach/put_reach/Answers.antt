@@ -2,10 +2,10 @@ use Rattle.std.proofs.Common.{Vec, Global, ◌≡◌, ℕ, ◌++◌, List, lengt
 use Rattle.std.specs.List.{flat_map, count_by}
 use Rattle.std.proofs.lemmas.List.{length-map}
 use Rattle.std.proofs.lemmas.List.Folds.{flat_map-map}
-use Rattle.mst_plan_text.specs.Bodies.{NumberEach}
-use Rattle.mst_plan_text.specs.PlanText.{all_vids}
-use Rattle.mst_plan_text.proofs.Grouped.{vids_long}
-use Rattle.mst_plan_text.proofs.Classes.{numbers_below, each_below}
+use Rattle.mst_classes.specs.AllVids.{NumberEach}
+use Rattle.mst_classes.specs.AllVids.{all_vids}
+use Rattle.mst_classes.proofs.VidPlaces.{vids_long}
+use Rattle.mst_classes.proofs.VidPlaces.{numbers_below, each_below}
 use Rattle.mst_rows.specs.Rows.{Row}
 use Rattle.mst_classes.specs.Classes.{HasOnly}
 use Rattle.mst_diff.specs.Reach.{Sides, differ, group_rows}

@@ -6,7 +6,7 @@ use Rattle.mst_vlan.specs.trees.Settled.{outcome_of}
 use Rattle.mst_vlan.specs.Reach.{AreReached}
 use Rattle.mst_vlan.proofs.trees_lemmas.SettledNet.{forest_of}
 use Rattle.mst_net.specs.Tables.{Net, Numbers}
-use Rattle.mst_carried.specs.Carried.{ViewWithTrees}
+use Rattle.mst_vlan.specs.Carried.{ViewWithTrees}
 use Rattle.mst_diff.specs.Seen.{seen_groups}
 use Rattle.mst_diff.proofs.NamedSides.{groups_named}
 use Rattle.mst_diff.proofs.sides.groups_of.Goals as goal

@@ -8,11 +8,11 @@ use Rattle.mst_text.specs.trees.Agrees.{AreOf}
 use Rattle.mst_text.specs.trees.Settled.{outcome_of}
 use Rattle.mst_text.specs.VlanText.{ports_of_vid}
 use Rattle.mst_classes.proofs.Firsts.{firsts_below}
-use Rattle.mst_plan_text.specs.Bodies.{NumberEach, pair_of, pairs_at, pairs_of}
-use Rattle.mst_plan_text.specs.PlanText.{all_vids}
-use Rattle.mst_plan_text.proofs.Classes.{numbers_below, each_below, are_pairs}
-use Rattle.mst_plan_text.proofs.Grouped.{vids_long, groups_given}
-use Rattle.mst_plan_text.proofs.OnePlan.{is_vid_there}
+use Rattle.mst_plan_text.specs.Bodies.{pair_of, pairs_at, pairs_of}
+use Rattle.mst_classes.specs.AllVids.{all_vids, NumberEach}
+use Rattle.mst_classes.proofs.VidPlaces.{vids_long, is_vid_there, numbers_below, each_below}
+use Rattle.mst_plan_text.proofs.Classes.{are_pairs}
+use Rattle.mst_plan_text.proofs.Grouped.{groups_given}
 use Rattle.mst_plan_text.proofs.Pairs.{same_pairs, pairs_decide, ports_from_pairs}
 use Rattle.mst_plan_text.proofs.plan.groups_of_vids.Goals as goal
 

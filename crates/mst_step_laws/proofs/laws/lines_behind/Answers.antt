@@ -1,6 +1,6 @@
 use Rattle.std.proofs.Common.{ap, ◌∙◌}
 use Rattle.mst_change.specs.Steps.{change_of}
-use Rattle.mst_stepping.specs.Setting.{after_lines}
+use Rattle.mst_verdict.specs.Setting.{after_lines}
 use Rattle.mst_step_laws.proofs.Courses.{lines_behind, steps_lines, steps_then}
 use Rattle.mst_step_laws.proofs.laws.lines_behind.Goals as goal
 

@@ -5,10 +5,10 @@ use Rattle.mst_trees.proofs.Entries.{all_weaker}
 use Rattle.mst_trees.proofs.Lists.{all_contained, all_there}
 use Rattle.mst_trees.proofs.Looking.{filter_alike}
 use Rattle.mst_trees.specs.Settled.{outcome_of}
-use Rattle.mst_diff.specs.plan_text.PlanText.{all_vids}
-use Rattle.mst_diff.proofs.plan_text_lemmas.OnePlan.{is_vid_there}
+use Rattle.mst_classes.specs.AllVids.{all_vids}
+use Rattle.mst_classes.proofs.VidPlaces.{is_vid_there}
 use Rattle.mst_vlan.proofs.Renumbered.{all_members}
-use Rattle.mst_carried.specs.Carried.{ViewWithTrees}
+use Rattle.mst_vlan.specs.Carried.{ViewWithTrees}
 use Rattle.mst_summary.specs.Carries.{goes_over, carried}
 use Rattle.mst_diff.specs.Classes.{flag_at}
 use Rattle.mst_summary.specs.Places.{places_on, with_places}

@@ -5,7 +5,7 @@ use Rattle.mst_trees.specs.Forest.{IsForest}
 use Rattle.mst_trees.specs.Settled.{outcome_of}
 use Rattle.mst_trees.proofs.SettledNet.{forest_of}
 use Rattle.mst_vlan.specs.Reach.{AreReached}
-use Rattle.mst_carried.specs.Carried.{ViewWithTrees}
+use Rattle.mst_vlan.specs.Carried.{ViewWithTrees}
 use Rattle.mst_summary.specs.Seen.{seen_with_bridge}
 use Rattle.mst_summary.proofs.VidClasses.{islands_counted}
 use Rattle.mst_summary.proofs.islands.islands_of.Goals as goal

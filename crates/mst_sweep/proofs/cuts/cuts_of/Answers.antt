@@ -2,10 +2,10 @@ use Rattle.std.proofs.Common.{Vec, Global, ◌≡◌, ℕ, ◌-◌, ◌++◌, na
 use Rattle.std.specs.Cmp.Lexicographic.{pointwise}
 use Rattle.std.specs.List.{filter, flat_map, list_any}
 use Rattle.std.proofs.lemmas.List.{length-map}
-use Rattle.mst_diff.specs.plan_text.Bodies.{NumberEach}
-use Rattle.mst_diff.specs.plan_text.PlanText.{all_vids}
-use Rattle.mst_diff.proofs.plan_text_lemmas.Grouped.{vids_long}
-use Rattle.mst_diff.proofs.plan_text_lemmas.Classes.{numbers_below, each_below}
+use Rattle.mst_classes.specs.AllVids.{NumberEach}
+use Rattle.mst_classes.specs.AllVids.{all_vids}
+use Rattle.mst_classes.proofs.VidPlaces.{vids_long}
+use Rattle.mst_classes.proofs.VidPlaces.{numbers_below, each_below}
 use Rattle.mst_diff.specs.Reach.{has_any}
 use Rattle.mst_rows.specs.Rows.{Row}
 use Rattle.mst_sweep.specs.Cuts.{group_rows, names_of, parts_at, AreCutsBy}

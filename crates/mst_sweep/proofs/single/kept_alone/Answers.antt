@@ -2,7 +2,7 @@ use Rattle.std.proofs.Common.{◌≡◌, ◌+◌, ◌-◌, ◌<◌, ℕ, Bool, L
 use Rattle.std.specs.Option.{ForSome, option_map}
 use Rattle.std.proofs.lemmas.List.{length-map}
 use Rattle.mst_classes.specs.Classes.{HasOnly}
-use Rattle.mst_diff.proofs.plan_text_lemmas.Bodied.{zip_at}
+use Rattle.mst_classes.proofs.VidPlaces.{zip_at}
 use Rattle.mst_sweep.specs.Breaking.{HasNoParts, IsCarriageOf}
 use Rattle.mst_sweep.specs.CutClasses.{IsKeptAlone}
 use Rattle.mst_sweep.specs.Touched.{AreWhereTouched}

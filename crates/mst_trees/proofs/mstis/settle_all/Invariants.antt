@@ -1,7 +1,7 @@
 use Rattle.std.proofs.Common.{◌≡◌, ℕ, true, is_some, nat_eq, take}
 use Rattle.std.specs.List.{AllByRecursion, list_any}
 use Rattle.std.specs.Map.{lookup}
-use Rattle.mst_repair.specs.Differences.{HasSpaceForBoth}
+use Rattle.mst_settle.specs.Differences.{HasSpaceForBoth}
 use Rattle.mst_lag.specs.Trees.{is_among}
 use Rattle.mst_trees.specs.Ground.{rewiring_of}
 use Rattle.mst_trees.specs.Seen.{trees_at}

@@ -1,20 +1,20 @@
-use Rattle.std.proofs.Common.{◌≡◌, None, true, subst, sym}
-use Rattle.mst_verdict.proofs.MadeNets.{makes_net}
-use Rattle.mst_verdict.specs.Verified.{IsVerified}
-use Rattle.mst_verdict.proofs.OneTold.{found_same, some_found, verified_same, verified_some}
+use Rattle.mst_verdict.specs.Verified.{IsToldWhereBroken, IsVerdict}
+use Rattle.mst_verdict.proofs.Judgements.{zip_weaker}
 use Rattle.mst_verdict.proofs.laws.one_verification.Goals as goal
 
 pub returns-clause-some : goal.returns-clause-some
-returns-clause-some c net o lines is are =
-    verified_some net o lines
-    (λ line. some_found net o is are
-    (makes_net net is c.networks.ensures.after)
-    None tt c.has_outcome.ensures c.reason_lists.ensures.some true line)
+returns-clause-some c = λ net lines ok.
+    let o = c.has_outcome.ensures net ok in
+    let v = c.one_verified.ensures.some net o.0 lines ok o.1 in (
+      v.0,
+      v.1,
+      record {
+        outcome = o.0;
+        is_outcome = o.1;
+        told = v.2;
+        broken = zip_weaker (IsVerdict net o.0) (IsToldWhereBroken net o.0) (λ line rows is. c.told_where_unkept.ensures net o.0 line rows ok o.1 is) lines v.2.told v.2.each;
+      },
+    )
 
 pub returns-clause-one : goal.returns-clause-one
-returns-clause-one c net o p lines n m rows other is are too x y =
-    let same : o ≡ p = c.one_outcome.ensures net o p is are too in
-    verified_same net o lines
-    (λ line. found_same net o is are
-    (makes_net net is c.networks.ensures.after)
-    None c.one_outcome.ensures c.reason_lists.ensures.one true line) n m rows other x (subst (λ q. IsVerified net q lines m other) (sym same) y)
+returns-clause-one c = λ net lines n m rows other ok a b. c.one_verified.ensures.one net a.outcome b.outcome lines n m rows other ok a.is_outcome b.is_outcome a.told b.told

@@ -7,8 +7,8 @@ use Rattle.mst_trees.proofs.Entries.{all_weaker}
 use Rattle.mst_trees.proofs.Lists.{all_there}
 use Rattle.mst_trees.proofs.Looking.{filter_alike}
 use Rattle.mst_trees.specs.Settled.{outcome_of}
-use Rattle.mst_plan_text.specs.PlanText.{all_vids}
-use Rattle.mst_plan_text.proofs.OnePlan.{is_vid_there}
+use Rattle.mst_classes.specs.AllVids.{all_vids}
+use Rattle.mst_classes.proofs.VidPlaces.{is_vid_there}
 use Rattle.mst_diff.specs.Classes.{flag_at}
 use Rattle.mst_summary.specs.Seen.{seen_on, seen_over}
 use Rattle.mst_summary.proofs.VidClasses.{AtPlaces, things_have, over_alike}

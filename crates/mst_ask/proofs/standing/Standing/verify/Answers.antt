@@ -1,5 +1,5 @@
 use Rattle.std.proofs.Common.{ap, inl}
-use Rattle.mst_engine.specs.report.State.{State}
+use Rattle.mst_tool.specs.report.State.{State}
 use Rattle.mst_tool.specs.Verify.{counts_of}
 use Rattle.mst_ask.specs.Kept.{standing_of}
 use Rattle.mst_ask.specs.Replies.{replied}

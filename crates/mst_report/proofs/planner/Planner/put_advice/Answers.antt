@@ -1,6 +1,6 @@
 use Rattle.std.proofs.Common.{subst}
 use Rattle.std.proofs.lemmas.Result.{IfOk-weaker}
-use Rattle.mst_advising.specs.Advising.{Advises}
+use Rattle.mst_advise.specs.Advising.{Advises}
 use Rattle.mst_report.specs.Planned.{Planned}
 use Rattle.mst_report.proofs.planner.Planner.put_advice.Goals as goal
 

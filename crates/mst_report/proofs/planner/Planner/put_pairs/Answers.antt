@@ -1,7 +1,7 @@
 use Rattle.std.proofs.Common.{subst}
 use Rattle.std.proofs.lemmas.Result.{IfOk-weaker}
 use Rattle.mst_net.specs.Contents.{Contents}
-use Rattle.mst_sweeping.specs.Pairing.{SweepsPairs}
+use Rattle.mst_verdict.specs.sweeping.Pairing.{SweepsPairs}
 use Rattle.mst_report.proofs.planner.Planner.put_pairs.Goals as goal
 
 pub returns : goal.returns

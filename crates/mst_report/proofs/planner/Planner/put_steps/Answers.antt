@@ -9,8 +9,8 @@ use Rattle.mst_policy.specs.declared.expectation.Promise.{Promise}
 use Rattle.mst_policy.specs.declared.policy.PolicyLine.{PolicyLine}
 use Rattle.mst_rows.specs.Rows.{Row}
 use Rattle.mst_report.specs.Planned.{Planned}
-use Rattle.mst_stepping.specs.Stepping.{Steps, front_rows_if, lines_of}
-use Rattle.mst_stepping.specs.declared.stepping.Course.{Course}
+use Rattle.mst_verdict.specs.Stepping.{Steps, front_rows_if, lines_of}
+use Rattle.mst_verdict.specs.declared.stepping.Course.{Course}
 use Rattle.mst_verdict.specs.Rows.{behind}
 use Rattle.mst_verdict.specs.Steps.{nothing_rows}
 use Rattle.mst_verdict.specs.Told.{unread_by, unread_rows}

@@ -1,7 +1,7 @@
 use Rattle.std.proofs.Common.{subst}
 use Rattle.std.proofs.lemmas.Result.{IfOk-weaker}
 use Rattle.mst_net.specs.Contents.{Contents}
-use Rattle.mst_sweeping.specs.Sweeping.{SweepsPart}
+use Rattle.mst_verdict.specs.sweeping.Sweeping.{SweepsPart}
 use Rattle.mst_report.proofs.planner.Planner.put_sweep.Goals as goal
 
 pub returns : goal.returns

@@ -2,7 +2,7 @@ use Rattle.std.proofs.Common.{◌+◌, ◌≤◌, length, List, subst}
 use Rattle.std.proofs.lemmas.Result.{IfOk-weaker}
 use Rattle.mst_net.specs.Contents.{Contents}
 use Rattle.mst_policy.specs.declared.policy.PolicyLine.{PolicyLine}
-use Rattle.mst_judging.specs.Verifying.{Verifies}
+use Rattle.mst_verdict.specs.Verifying.{Verifies}
 use Rattle.mst_verdict.specs.Judged.{counts_of}
 use Rattle.mst_report.proofs.planner.Planner.put_verification.Goals as goal
 

@@ -1,6 +1,6 @@
 use Rattle.std.proofs.Common.{◌≡◌, ◌<◌, length, sym, ap, subst}
 use Rattle.std.specs.List.{All}
-use Rattle.mst_carried.specs.Carried.{AreFlags}
+use Rattle.mst_vlan.specs.Carried.{AreFlags}
 use Rattle.mst_classes.specs.Classes.{AreClasses}
 use Rattle.mst_verify.specs.Islands.{AreMade}
 use Rattle.mst_verify.proofs.ClassesOfBoth.{of_new, of_old}

@@ -1,9 +1,0 @@
-use Rattle.std.proofs.Common.{◌≡◌, map, filter, take}
-use Rattle.mst_roles.specs.Seen.{seen_forwards}
-use Rattle.mst_vlan.specs.Seen.{seen_member}
-use Rattle.mst_carried.specs.Carried.{names_of}
-use Rattle.mst_carried.proofs.carriage.Carriage.carried.Given as goal
-
--- those of the ports so far
-abbrev pub invariant-loop-place : goal.invariant-loop-place
-invariant-loop-place l = l.carried.items ≡ map names_of (filter (seen_member l.self.view l.vid) (filter (seen_forwards l.self.view l.self.forest l.vid) (take l.place l.ports)))

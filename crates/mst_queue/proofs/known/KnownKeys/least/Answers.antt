@@ -1,4 +1,0 @@
-use Rattle.mst_queue.proofs.known.KnownKeys.least.Goals as goal
-
-pub returns-clause-none : goal.returns-clause-none
-returns-clause-none g c = rw (← c.self.view_is) c.least.ensures.none

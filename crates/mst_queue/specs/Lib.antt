@@ -1,4 +1,0 @@
-pub mod Space
-pub mod Repairable
-pub mod Known
-pub mod Mixed

@@ -1,3 +1,0 @@
-pub mod Differences
-pub mod Held
-pub mod Shared

@@ -1,0 +1,42 @@
+use Rattle.std.proofs.Common.{ap, ◌≡◌, ℕ, ◌+◌, List, length, slice_index_or, Bool, false, arith}
+use Rattle.std.specs.List.{Contains}
+use Rattle.mst_topology.specs.Slots.{HasRoom}
+use Rattle.mst_progress.specs.Progress.{vector_of}
+use Rattle.mst_topology.specs.Effects.{LooksAnew, IsNearMarked}
+use Rattle.mst_topology.proofs.Effects.{Before, before_none, before_more, before_all, item_is, item_in, looks_none, looks_more, looks_fewer}
+use Rattle.mst_settle.proofs.queue.Queue.look_around_marked.Goals as goal
+
+pub loop-entry-init : goal.loop-entry-init
+loop-entry-init g c = record {
+  looked = looks_none g.M.Metric.rules c.args.progress.now.topology (vector_of c.args.progress.now) c.args.self.now.keys (Before c.args.bridges.now (IsNearMarked c.args.progress.now.topology) 0) (before_none c.args.bridges.now (IsNearMarked c.args.progress.now.topology));
+  seen = λ n s. absurd (c.clear-2.ensures n s);
+  lans_seen = λ lan s n on. absurd (c.clear.ensures lan s);
+}
+
+pub look_around_if_marked-requires-clause-rooms : goal.look_around_if_marked-requires-clause-rooms
+look_around_if_marked-requires-clause-rooms g c = λ p h. c.loop-entry.invariant.looked.rooms p.bridge (c.requires.rooms p h)
+
+has : {T : Type 0} (xs : List (ℕ × T)) (e : ℕ × T) → Contains xs e → HasRoom xs e.0
+has xs e c = (e.1, c)
+
+pub look_around_if_marked-requires-clause-room : goal.look_around_if_marked-requires-clause-room
+look_around_if_marked-requires-clause-room g c = rw c.entries-entry-items.ensures.value (c.loop-entry.invariant.looked.rooms (slice_index_or c.args.bridges.now c.loop-entry.entry-index (0, false)).0 (c.requires.room (slice_index_or c.args.bridges.now c.loop-entry.entry-index (0, false)).0 (has c.args.bridges.now (slice_index_or c.args.bridges.now c.loop-entry.entry-index (0, false)) (item_in c.args.bridges.now c.loop-entry.entry-index (0, false) (rw c.entries-entry-items.ensures.value at c.loop-entry-test.true)))))
+
+pub loop-entry-preserved : goal.loop-entry-preserved
+loop-entry-preserved g c =
+    let before = c.loop-entry.invariant in
+    let looked : LooksAnew g.M.Metric.rules c.args.progress.now.topology (vector_of c.args.progress.now) c.loop-entry.self.keys c.look_around_if_marked.new.self.keys (IsNearMarked c.args.progress.now.topology (slice_index_or c.args.bridges.now c.loop-entry.entry-index (0, false))) = rw c.entries-entry-items.ensures.value at c.look_around_if_marked.ensures.looked in
+    record {
+      looked = looks_more g.M.Metric.rules c.args.progress.now.topology (vector_of c.args.progress.now) c.args.self.now.keys c.loop-entry.self.keys c.look_around_if_marked.new.self.keys
+          (Before c.args.bridges.now (IsNearMarked c.args.progress.now.topology) c.loop-entry.entry-index) (IsNearMarked c.args.progress.now.topology (slice_index_or c.args.bridges.now c.loop-entry.entry-index (0, false))) (Before c.args.bridges.now (IsNearMarked c.args.progress.now.topology) (c.loop-entry.entry-index + 1)) before.looked looked
+          (before_more c.args.bridges.now (IsNearMarked c.args.progress.now.topology) c.loop-entry.entry-index (slice_index_or c.args.bridges.now c.loop-entry.entry-index (0, false)) (item_is c.args.bridges.now c.loop-entry.entry-index (0, false) (rw c.entries-entry-items.ensures.value at c.loop-entry-test.true)) (rw c.entries-entry-items.ensures.value at c.loop-entry-test.true));
+      seen = c.look_around_if_marked.ensures.seen;
+      lans_seen = c.look_around_if_marked.ensures.lans_seen;
+    }
+
+pub returns : goal.returns
+returns g c =
+    let e : length c.entries-entry-items.result.now ≡ length c.args.bridges.now = ap length c.entries-entry-items.ensures.value in
+    let at : c.loop-entry.entry-index ≡ length c.args.bridges.now = omega arith in
+    looks_fewer g.M.Metric.rules c.args.progress.now.topology (vector_of c.args.progress.now) c.args.self.now.keys c.loop-entry.self.keys (Before c.args.bridges.now (IsNearMarked c.args.progress.now.topology) (length c.args.bridges.now)) (λ k. (e : ℕ × Bool) × Contains c.args.bridges.now e × IsNearMarked c.args.progress.now.topology e k)
+    (rw at at c.loop-entry.invariant.looked) (λ k h. before_all c.args.bridges.now (IsNearMarked c.args.progress.now.topology) k h.0 h.1 h.2)

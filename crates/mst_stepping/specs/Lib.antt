@@ -1,3 +1,0 @@
-pub mod Setting
-pub mod Stepping
-pub mod Taking

@@ -1,5 +1,0 @@
-pub mod Links
-pub mod MovedVids
-pub mod Restarts
-pub mod StepText
-pub mod Seen

@@ -1,0 +1,16 @@
+use Rattle.std.proofs.Common.{◌≡◌, ◌≤◌, ◌*◌}
+use Rattle.std.specs.List.{count_by, sum_by, range_with_len}
+use Rattle.mst_net.specs.Tables.{Net, Numbers}
+use Rattle.mst_trees.specs.Agrees.{AreOf}
+use Rattle.mst_trees.specs.Forest.{IsForest}
+use Rattle.mst_diff.specs.changes.Subjects.{port_names}
+use Rattle.mst_sweep.specs.Moved.{port_moved}
+use Rattle.mst_sweeping.proofs.ports.moved_ports.Given as goal
+
+-- those of the trees so far
+abbrev pub invariant-loop-number : goal.invariant-loop-number
+invariant-loop-number l = record {
+  few : l.count ≤ l.number * 16384;
+  moved : (a b : Net) (n k : Numbers) (is : IsForest a n l.old.forest.now) (are : IsForest b k l.new.forest.now) → AreOf a n l.old.view.now l.old.forest.now.regions → AreOf b k l.new.view.now l.new.forest.now.regions
+      → l.count ≡ sum_by (λ tree. count_by (port_moved a is.outcome b are.outcome tree) (port_names a)) (range_with_len 0 l.number);
+}

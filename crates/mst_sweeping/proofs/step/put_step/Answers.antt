@@ -1,0 +1,39 @@
+use Rattle.std.proofs.Common.{◌≡◌, ℕ, List, ◌∷◌, ◌++◌, refl, subst, ◌∙◌}
+use Rattle.std.proofs.lemmas.Result.{IfOk-weaker}
+use Rattle.mst_rows.specs.Rows.{Row}
+use Rattle.mst_sweep.specs.Cuts.{rows_of, runs_of}
+use Rattle.mst_sweep.specs.Moved.{moved_roots, moved_ports}
+use Rattle.mst_ids.specs.declared.name.PortName.{PortName}
+use Rattle.mst_sweeping.specs.Restarts.{restarting}
+use Rattle.mst_sweeping.specs.StepText.{cut_by, deed_row, restart_rows}
+use Rattle.mst_sweeping.proofs.step.put_step.Goals as goal
+
+pub returns : goal.returns
+returns g c = IfOk-weaker c.put_told.result _ _
+    (λ stepped is_told a b n k is are of so.
+    let step = c.args.deed.now in
+    let told = c.in_ok-told.told in
+    let R : List ℕ = moved_roots a is.outcome b are.outcome in
+    let P : ℕ = moved_ports a is.outcome b are.outcome in
+    let roots : c.as_slice-6.result.now ≡ R = c.as_slice-6.ensures.value ∙ c.in_ok-roots.ensures a b n k is are of so in
+    let ports : c.moved_ports-ports.result ≡ P = c.moved_ports-ports.ensures a b n k is are of so in
+    let cuts : List Row = rows_of (cut_by step) told.classes.numbers.items told.cuts in
+    let anew : c.as_slice-restarting.result.now ≡ restarting a b = c.as_slice-restarting.ensures.value ∙ c.in_ok-anew.ensures a b n k is are of so in (
+      deed_row step R P (runs_of told.moved.items) (runs_of told.cuts.vids.items) (runs_of told.joined.items) ∷ cuts ++ restart_rows step (restarting a b),
+      record {
+        moved = told.moved.items;
+        cut = told.cuts.vids.items;
+        joined = told.joined.items;
+        cut_rows = cuts;
+        are_moved = c.in_ok-told.ensures.moved a b n k is are of so;
+        are_cut = c.in_ok-told.ensures.cut a b n k is are of so (cut_by step);
+        are_joined = c.in_ok-told.ensures.joined a b n k is are of so;
+        moves = is_told.0;
+        cuts = is_told.1;
+        are = refl;
+      },
+      λ first rows grew.
+          subst (λ (all : List Row). g.R.Rows.grew first c.put_told.new.out all)
+          (λ i. rows ++ (deed_row step (roots i) (ports i) (runs_of told.moved.items) (runs_of told.cuts.vids.items) (runs_of told.joined.items) ∷ cuts ++ restart_rows step (anew i)))
+          (is_told.2 first rows grew),
+    )) c.put_told.ensures

@@ -1,0 +1,31 @@
+-- The VIDs that a change cuts, joins and moves.
+use Rattle.std.specs.Prelude.{◌≡◌, ℕ, ◌||◌, not, Bool, true, List, filter}
+use Rattle.mst_ids.specs.Vids.{is_vid}
+use Rattle.mst_net.specs.Tables.{Net}
+use Rattle.mst_trees.specs.Outcome.{Outcome}
+use Rattle.mst_classes.specs.AllVids.{all_vids}
+use Rattle.mst_diff.specs.Reach.{has_any}
+use Rattle.mst_sweep.specs.Parts.{AreParts}
+use Rattle.mst_sweeping.specs.Links.{links_between, same_links, stays}
+
+-- whether a VID is cut: it has parts
+abbrev pub IsCut : Net → Outcome → Net → Outcome → ℕ → Bool → Type 0
+IsCut a o b p vid cut = (parts : List (List (List ℕ))) × AreParts a o b p vid parts × (cut ≡ has_any parts)
+
+-- whether it is joined: it would be cut with before and after changed over
+abbrev pub IsJoined : Net → Outcome → Net → Outcome → ℕ → Bool → Type 0
+IsJoined a o b p vid joined = IsCut b p a o vid joined
+
+-- its links between bridges that are on before and afterwards aren't the same
+abbrev pub links_differ : Net → Outcome → Net → Outcome → ℕ → Bool
+links_differ a o b p vid = not (same_links (links_between (stays a b) a o vid) (links_between (stays a b) b p vid))
+
+-- whether it moves: it is cut or joined, or these links aren't the same
+abbrev pub IsMoved : Net → Outcome → Net → Outcome → ℕ → Bool → Type 0
+IsMoved a o b p vid moved = (cut joined : Bool) × IsCut a o b p vid cut × IsJoined a o b p vid joined × (moved ≡ (cut || joined || links_differ a o b p vid))
+
+-- these are the VIDs that are so
+pub record AreVidsWhere (Is : ℕ → Bool → Type 0) (vids : List ℕ) : Type 0 where
+  pub flags : ℕ → Bool
+  pub each : (vid : ℕ) → is_vid vid ≡ true → Is vid (flags vid)
+  pub are : vids ≡ filter flags all_vids

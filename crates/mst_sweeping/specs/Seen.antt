@@ -1,0 +1,83 @@
+-- What is seen of a step in two views with their forests, and how it is kept.
+use Rattle.std.specs.Prelude.{◌≡◌, ℕ, ◌==◌, ◌&&◌, ◌||◌, not, Bool, false, List, Option, Some, map, filter, filter_map, nat_eq}
+use Rattle.std.specs.Cmp.Lexicographic.{pointwise}
+use Rattle.std.specs.List.{Contains, find, list_any}
+use Rattle.std.specs.Map.{lookup}
+use Rattle.std.specs.Option.{option_map, option_map_or}
+use Rattle.mst_ids.specs.declared.name.PortName.{PortName}
+use Rattle.mst_net.specs.ByTree.{table_in}
+use Rattle.mst_net.specs.Seen.{bridge_row}
+use Rattle.mst_net.specs.Tables.{port_eq}
+use Rattle.mst_lag.specs.Aggregation.{same_name}
+use Rattle.mst_lag.specs.Viewed.{Viewed}
+use Rattle.mst_lag.specs.declared.in_view.PortInView.{PortInView}
+use Rattle.mst_vlan.specs.Seen.{seen_active, seen_member}
+use Rattle.mst_trees.specs.Forest.{Forest}
+use Rattle.mst_diff.specs.declared.both.Both.{Both}
+use Rattle.mst_diff.specs.Regions.{same_told}
+use Rattle.mst_sweep.specs.Seen.{seen_port_moved}
+use Rattle.mst_sweeping.specs.Links.{shared, staying, same_links}
+use Rattle.mst_sweeping.specs.declared.links.Link.{Link}
+use Rattle.mst_sweeping.specs.declared.ports.BothPorts.{BothPorts}
+
+-- ---- links
+-- what carries a VID
+abbrev pub seen_link_of : PortInView → Link
+seen_link_of p = record { port = p.name; lan = p.lan }
+
+-- of a port and its logical LAN, by name
+abbrev pub link_by : PortName × List ℕ → Link
+link_by names = record { port = names.0; lan = names.1 }
+
+abbrev pub seen_carried : Viewed → Forest → ℕ → List Link
+seen_carried v f vid = map seen_link_of (filter (seen_member v vid) (seen_active v f vid))
+
+-- a bridge of this name is on, and is so in both
+abbrev pub seen_on : Viewed → List ℕ → Bool
+seen_on v name = list_any (λ b. (bridge_row b.bridge).is_on && same_name b.name name) v.bridges
+
+abbrev pub seen_stays : Viewed → Viewed → List ℕ → Bool
+seen_stays v w name = seen_on v name && seen_on w name
+
+-- the links between bridges that stay aren't the same, of these before and afterwards
+abbrev pub seen_differ : Viewed → Viewed → List Link → List Link → Bool
+seen_differ v w before afterwards = not (same_links (shared (staying (seen_stays v w) before)) (shared (staying (seen_stays v w) afterwards)))
+
+-- under the LAN of each link the bridge of one of them is kept
+abbrev pub AreUsers : List Link → List (List ℕ × List ℕ) → Type 0
+AreUsers links users = (k : Link) → Contains links k → (j : Link) × Contains links j × (j.lan ≡ k.lan) × (lookup (same_name k.lan) users ≡ Some j.port.bridge)
+
+-- it is another one than that of the link
+abbrev pub is_other : List (List ℕ × List ℕ) → Link → Bool
+is_other users k = option_map_or (λ bridge. not (same_name k.port.bridge bridge)) (lookup (same_name k.lan) users) false
+
+-- ---- logical ports
+-- under each name the first of these ports that has it
+abbrev pub ArePortsByName : List PortInView → List (PortName × PortInView) → Type 0
+ArePortsByName ports entries = (name : PortName) → lookup (port_eq name) entries ≡ find (λ y. port_eq y.name name) ports
+
+-- a port of one view, if one of that name is in the other, too
+abbrev pub seen_port_in_both : List PortInView → PortInView → Option BothPorts
+seen_port_in_both news x = option_map (λ y. record { old = x; new = y }) (find (λ y. port_eq y.name x.name) news)
+
+abbrev pub seen_both_ports : Viewed → Viewed → List BothPorts
+seen_both_ports v w = filter_map (seen_port_in_both w.ports) v.ports
+
+-- it has another role in a tree afterwards, and neither is Disabled
+abbrev pub seen_moved : Viewed → Forest → Viewed → Forest → ℕ → BothPorts → Bool
+seen_moved v f w g tree both = seen_port_moved v f w g tree both.old both.new
+
+-- ---- what starts anew
+-- a bridge stays what it was, or doesn't
+abbrev pub seen_as_it_was : Viewed → Viewed → Both → Bool
+seen_as_it_was v w both =
+    let old = bridge_row both.old.bridge in
+    let new = bridge_row both.new.bridge in
+    old.mac == new.mac && same_told old new && (old.is_rstp || pointwise nat_eq (table_in v.settings.tables both.old.name) (table_in w.settings.tables both.old.name))
+
+abbrev pub seen_anew : Viewed → Viewed → Both → Bool
+seen_anew v w both = not (seen_as_it_was v w both)
+
+-- a port that is enabled in both: its bridge is one of these, or its LAN is another one
+abbrev pub seen_restarts : (List ℕ → Bool) → BothPorts → Bool
+seen_restarts is_anew p = p.old.is_enabled && p.new.is_enabled && (is_anew p.old.name.bridge || not (same_name p.old.lan p.new.lan))

@@ -1,0 +1,115 @@
+ghost use Rattle.std.specs.Prelude.{◌≡◌, ◌||◌, false, map, IfOk};
+ghost use Rattle.mst_vlan.specs.Carried.{CarryAlike};
+ghost use Rattle.mst_diff.specs.Reach.{has_any};
+ghost use Rattle.mst_sweep.specs.Between.{OfNetworks};
+ghost use Rattle.mst_sweep.specs.Cuts.{names_of};
+ghost use Rattle.mst_sweep.specs.Parts.{AreParts};
+ghost use Rattle.mst_sweeping.specs.MovedVids.{IsJoined, IsMoved};
+ghost use Rattle.mst_sweeping.specs.Seen.{seen_carried, seen_differ};
+
+use crate::change::Change;
+use crate::links::{Link, are_same, between, carried};
+use crate::parts::{is_any, parts};
+use mst_ids::{Name, Vid};
+use mst_sweep::homes_by;
+use mst_vlan::laws::islands_of_vid;
+use std::alloc::{AllocError, Global};
+
+/// What becomes of a VID: the parts that it is cut into, whether it is joined, and whether it moves.
+#[derive(Drop)]
+pub(crate) struct Fate {
+    pub(crate) parts: Vec<Vec<Name>>,
+    pub(crate) joins: bool,
+    pub(crate) moves: bool,
+}
+
+/// Whether the links between bridges that are on in both networks, of these before and afterwards, aren't the same.
+fn differ(
+    alloc: Global,
+    change: &Change,
+    before: &[Link],
+    afterwards: &[Link],
+) -> Result<bool, AllocError>
+    ensures { IfOk result (λ differ. differ ≡ seen_differ change.now.old.now.view.now change.now.new.now.view.now before.now afterwards.now) }
+{
+    let olds = between(alloc, change, before)?;
+    let news = between(alloc, change, afterwards)?;
+    Ok(!are_same(olds.as_slice(), news.as_slice()))
+}
+
+/// Whether a VID of these parts moves.
+fn is_moved(parts: &[Vec<Name>], joins: bool, differ: bool) -> bool
+    ensures { result ≡ (has_any (map (λ names. names.items) parts.now) || joins || differ) }
+{
+    is_any(parts) || joins || differ
+}
+
+/// What becomes of a VID, by what carries it before and afterwards.
+fn fate_by(
+    alloc: Global,
+    change: &Change,
+    before: &[Link],
+    afterwards: &[Link],
+    vid: Vid,
+) -> Result<Fate, AllocError>
+    requires before { before.now ≡ seen_carried change.now.old.now.view.now change.now.old.now.forest.now vid }
+    requires afterwards { afterwards.now ≡ seen_carried change.now.new.now.view.now change.now.new.now.forest.now vid }
+    ensures parts { IfOk result (λ fate. OfNetworks change.now.old.now change.now.new.now (λ a before b afterwards. AreParts a before b afterwards vid (names_of fate.parts))) }
+    ensures joins { IfOk result (λ fate. OfNetworks change.now.old.now change.now.new.now (λ a before b afterwards. IsJoined a before b afterwards vid fate.joins)) }
+    ensures moves { IfOk result (λ fate. OfNetworks change.now.old.now change.now.new.now (λ a before b afterwards. IsMoved a before b afterwards vid fate.moves)) }
+{
+    let olds = homes_by(alloc, change.before, vid)?;
+    let news = homes_by(alloc, change.afterwards, vid)?;
+    let apart = parts(
+        alloc,
+        change.old,
+        change.new,
+        &olds,
+        &news,
+        change.both,
+        vid,
+    )?;
+    let joined = parts(
+        alloc,
+        change.new,
+        change.old,
+        &news,
+        &olds,
+        change.turned,
+        vid,
+    )?;
+    let joins = is_any(joined.as_slice());
+    let differ = differ(alloc, change, before, afterwards)?;
+    let moves = is_moved(apart.as_slice(), joins, differ);
+    Ok(Fate {
+        parts: apart,
+        joins,
+        moves,
+    })
+}
+
+/// What becomes of a VID. Where the same ports carry it on the same LANs before and afterwards, no islands are made. `AllocError`:
+/// memory was wanted and refused.
+pub(crate) fn fate_of(
+    alloc: Global,
+    change: &Change,
+    vid: Vid,
+    differs: bool,
+) -> Result<Fate, AllocError>
+    requires { differs ≡ false → CarryAlike change.now.before.now change.now.afterwards.now vid }
+    ensures parts { IfOk result (λ fate. OfNetworks change.now.old.now change.now.new.now (λ a before b afterwards. AreParts a before b afterwards vid (names_of fate.parts))) }
+    ensures joins { IfOk result (λ fate. OfNetworks change.now.old.now change.now.new.now (λ a before b afterwards. IsJoined a before b afterwards vid fate.joins)) }
+    ensures moves { IfOk result (λ fate. OfNetworks change.now.old.now change.now.new.now (λ a before b afterwards. IsMoved a before b afterwards vid fate.moves)) }
+{
+    islands_of_vid();
+    if !differs {
+        return Ok(Fate {
+            parts: Vec::new(alloc),
+            joins: false,
+            moves: false,
+        });
+    }
+    let before = carried(alloc, change.before, vid)?;
+    let afterwards = carried(alloc, change.afterwards, vid)?;
+    fate_by(alloc, change, before.as_slice(), afterwards.as_slice(), vid)
+}

@@ -1,0 +1,312 @@
+ghost use Rattle.std.specs.Prelude.{◌≡◌, ◌++◌, ◌∷◌, [], List, true, IfOk, OnOk, None, Some, vec_len};
+ghost use Rattle.mst_ids.specs.Vids.{runs_from};
+ghost use Rattle.mst_rows.specs.Rows.{Row};
+ghost use Rattle.mst_trees.specs.Agrees.{Known};
+ghost use Rattle.mst_classes.specs.AllVids.{NumberEach};
+ghost use Rattle.mst_diff.specs.Reach.{has_any};
+ghost use Rattle.mst_diff.specs.Seen.{seen_both};
+ghost use Rattle.mst_sweep.specs.Between.{OfNetworks};
+ghost use Rattle.mst_sweep.specs.declared.cuts.CutBy.{CutBy as CutByOf};
+ghost use Rattle.mst_sweep.specs.Cuts.{rows_of, runs_of, AreCutsBy};
+ghost use Rattle.mst_sweep.specs.Parts.{AreParts};
+ghost use Rattle.mst_sweeping.specs.MovedVids.{AreVidsWhere, IsJoined, IsMoved};
+ghost use Rattle.mst_sweeping.specs.StepText.{cut_by as cut_by_of, deed_row, does_row, last_row, restart_rows, step_row, AreStepRows};
+ghost use Rattle.mst_sweeping.specs.declared.step.Deed.TheVariants.{Step as StepOf};
+
+use crate::change::Change;
+use crate::fates::are_some;
+use crate::on::bridges_on;
+use crate::ports::{moved_ports, ports_of_both};
+use crate::restarts::restarting;
+use crate::told::{Told, told_of};
+use mst_classes::set_of;
+use mst_diff::{Both, Planned, bridges_of_both};
+use mst_ids::{PortName, Tree, VidSet};
+use mst_kinds::{AdviseLine, Kind, StepLine};
+use mst_rows::{Rows, Value, put};
+use mst_sweep::{CutBy, moved_roots, put_cuts};
+use mst_vlan::Carriage;
+use std::alloc::{AllocError, Global};
+
+/// A step of a change.
+#[derive(Clone, Copy)]
+pub struct Step {
+    /// Its number, counted from 1.
+    pub number: u64,
+    /// The number of its first line with an edit.
+    pub first: u64,
+    /// And of its last.
+    pub last: u64,
+}
+
+/// What makes one network of another: a step of a change, or edits that are advised.
+#[derive(Clone, Copy)]
+pub enum Deed {
+    /// A step.
+    Step(Step),
+    /// Edits.
+    Edits,
+}
+
+/// Whether a step moves some VID, and whether it cuts some.
+#[derive(Clone, Copy)]
+pub struct Stepped {
+    pub moves: bool,
+    pub cuts: bool,
+}
+
+/// Behind how many steps a policy isn't kept that was kept before, and how many of its lines aren't in the end.
+#[derive(Clone, Copy)]
+pub struct PolicyCounts {
+    pub failing: u64,
+    pub unkept: u64,
+}
+
+/// How many steps a change has, how many of them move some VID, and how many cut some.
+#[derive(Clone, Copy)]
+pub struct Walked {
+    pub steps: u64,
+    pub moving: u64,
+    pub cutting: u64,
+}
+
+/// Puts the row of a step.
+fn put_row<'a, R: Rows>(
+    step: &Step,
+    roots: &'a [Tree],
+    ports: u64,
+    moved: &'a VidSet,
+    cut: &'a VidSet,
+    joined: &'a VidSet,
+    out: &mut R,
+) -> Result<(), AllocError>
+    ensures { (first : R) (rows : List Row) → R.grew first out.old rows
+        → OnOk result (R.grew first out.new (rows ++ step_row step.now roots.now ports (runs_from 0 moved.now) (runs_from 0 cut.now) (runs_from 0 joined.now) ∷ [])) }
+{
+    let values = [
+        Value::Number(step.number),
+        Value::Lines(step.first, step.last),
+        Value::Trees(roots),
+        Value::Number(ports),
+        Value::Vids(moved),
+        Value::Vids(cut),
+        Value::Vids(joined),
+    ];
+    put::<R>(Kind::Step(StepLine::Step), &values, out)
+}
+
+/// Puts the row of edits that are advised.
+fn put_does<'a, R: Rows>(
+    roots: &'a [Tree],
+    ports: u64,
+    moved: &'a VidSet,
+    cut: &'a VidSet,
+    joined: &'a VidSet,
+    out: &mut R,
+) -> Result<(), AllocError>
+    ensures { (first : R) (rows : List Row) → R.grew first out.old rows
+        → OnOk result (R.grew first out.new (rows ++ does_row roots.now ports (runs_from 0 moved.now) (runs_from 0 cut.now) (runs_from 0 joined.now) ∷ [])) }
+{
+    let values = [
+        Value::Trees(roots),
+        Value::Number(ports),
+        Value::Vids(moved),
+        Value::Vids(cut),
+        Value::Vids(joined),
+    ];
+    put::<R>(Kind::Advise(AdviseLine::Does), &values, out)
+}
+
+/// Puts the row of either.
+fn put_deed<R: Rows>(
+    deed: &Deed,
+    roots: &[Tree],
+    ports: u64,
+    moved: &VidSet,
+    cut: &VidSet,
+    joined: &VidSet,
+    out: &mut R,
+) -> Result<(), AllocError>
+    ensures { (first : R) (rows : List Row) → R.grew first out.old rows
+        → OnOk result (R.grew first out.new (rows ++ deed_row deed.now roots.now ports (runs_from 0 moved.now) (runs_from 0 cut.now) (runs_from 0 joined.now) ∷ [])) }
+{
+    match deed {
+        Deed::Step(step) => put_row(step, roots, ports, moved, cut, joined, out),
+        Deed::Edits => put_does(roots, ports, moved, cut, joined, out),
+    }
+}
+
+/// By what VIDs are cut.
+fn cut_by(deed: &Deed) -> CutBy
+    ensures { result ≡ cut_by_of deed.now }
+{
+    match deed {
+        Deed::Step(step) => CutBy::Step(step.number),
+        Deed::Edits => CutBy::Edits,
+    }
+}
+
+/// Puts the row of the ports that start anew in a step.
+fn put_restart_row<'a, R: Rows>(
+    step: &Step,
+    ports: &'a [PortName],
+    out: &mut R,
+) -> Result<(), AllocError>
+    requires { has_any ports.now ≡ true }
+    ensures { (first : R) (rows : List Row) → R.grew first out.old rows → OnOk result (R.grew first out.new (rows ++ restart_rows (StepOf step.now) ports.now)) }
+{
+    let values = [Value::Number(step.number), Value::Ports(ports)];
+    put::<R>(Kind::Step(StepLine::Restarts), &values, out)
+}
+
+/// Puts that row behind a step, if there are such ports.
+fn put_restarts<R: Rows>(deed: &Deed, ports: &[PortName], out: &mut R) -> Result<(), AllocError>
+    ensures { (first : R) (rows : List Row) → R.grew first out.old rows → OnOk result (R.grew first out.new (rows ++ restart_rows deed.now ports.now)) }
+{
+    match (deed, ports) {
+        (Deed::Edits, _) => Ok(()),
+        (Deed::Step(_), []) => Ok(()),
+        (Deed::Step(step), [..]) => put_restart_row(step, ports, out),
+    }
+}
+
+/// Puts the rows of a step, by what is told of it.
+fn put_told<R: Rows>(
+    deed: &Deed,
+    roots: &[Tree],
+    ports: u64,
+    told: &Told,
+    restarting: &[PortName],
+    out: &mut R,
+) -> Result<Stepped, AllocError>
+    requires { NumberEach told.now.classes.numbers.items (vec_len told.now.cuts.parts) }
+    ensures { IfOk result (λ stepped. (stepped.moves ≡ has_any told.now.moved.items) × (stepped.cuts ≡ has_any told.now.cuts.vids.items)
+        × ((first : R) (rows : List Row) → R.grew first out.old rows
+        → R.grew first out.new (rows ++ (deed_row deed.now roots.now ports (runs_of told.now.moved.items) (runs_of told.now.cuts.vids.items) (runs_of told.now.joined.items) ∷ rows_of (cut_by_of deed.now) told.now.classes.numbers.items told.now.cuts ++ restart_rows deed.now restarting.now)))) }
+{
+    let moved = told.moved.as_slice();
+    let cut = told.cuts.vids.as_slice();
+    let joined = told.joined.as_slice();
+    put_deed(
+        deed,
+        roots,
+        ports,
+        &set_of(moved),
+        &set_of(cut),
+        &set_of(joined),
+        out,
+    )?;
+    put_cuts(&cut_by(deed), &told.classes, &told.cuts, out)?;
+    put_restarts(deed, restarting, out)?;
+    Ok(Stepped {
+        moves: are_some(moved),
+        cuts: are_some(cut),
+    })
+}
+
+/// The VIDs that a step cuts, joins and moves, by the bridges that both networks have.
+fn told_between(
+    alloc: Global,
+    old: &Planned,
+    new: &Planned,
+    both: &[Both],
+) -> Result<Told, AllocError>
+    requires old { Known old.now.view.now old.now.forest.now.regions }
+    requires new { Known new.now.view.now new.now.forest.now.regions }
+    requires both { both.now ≡ seen_both old.now.view.now new.now.view.now }
+    ensures numbered { IfOk result (λ told. NumberEach told.classes.numbers.items (vec_len told.cuts.parts)) }
+    ensures cut { IfOk result (λ told. OfNetworks old.now new.now (λ a before b afterwards.
+        (by : CutByOf) → AreCutsBy (AreParts a before b afterwards) by told.cuts.vids.items (rows_of by told.classes.numbers.items told.cuts))) }
+    ensures joined { IfOk result (λ told. OfNetworks old.now new.now (λ a before b afterwards. AreVidsWhere (IsJoined a before b afterwards) told.joined.items)) }
+    ensures moved { IfOk result (λ told. OfNetworks old.now new.now (λ a before b afterwards. AreVidsWhere (IsMoved a before b afterwards) told.moved.items)) }
+{
+    let before = Carriage::new(alloc, old.view, old.forest)?;
+    let afterwards = Carriage::new(alloc, new.view, new.forest)?;
+    let turned = bridges_of_both(alloc, new.view, old.view)?;
+    let old_on = bridges_on(alloc, old.view)?;
+    let new_on = bridges_on(alloc, new.view)?;
+    let change = Change {
+        old,
+        new,
+        before: &before,
+        afterwards: &afterwards,
+        both,
+        turned: turned.as_slice(),
+        old_on: &old_on,
+        new_on: &new_on,
+    };
+    told_of(alloc, &change)
+}
+
+/// Puts the rows of a step, or of edits that are advised: which trees' roots move, how many roles, which VIDs move, which are cut and into which parts, and which are
+/// joined, and of a step which logical ports start anew, and answers whether some move and whether some are cut. `old` is the plan of the network before the step, `new` that of the
+/// network after it. `AllocError`: memory was wanted and refused; some of the rows may have been put.
+///
+/// It looks at the roles of each logical port once for each tree, and once at what carries each class of VIDs that nothing tells apart in
+/// either network. Islands are made only of a class of which that isn't the same.
+pub fn put_step<R: Rows>(
+    alloc: Global,
+    deed: &Deed,
+    old: &Planned,
+    new: &Planned,
+    out: &mut R,
+) -> Result<Stepped, AllocError>
+    requires old { Known old.now.view.now old.now.forest.now.regions }
+    requires new { Known new.now.view.now new.now.forest.now.regions }
+    ensures { IfOk result (λ told. OfNetworks old.now new.now (λ a before b afterwards.
+        (own : List Row) × AreStepRows a before b afterwards deed.now own told × ((first : R) (rows : List Row) → R.grew first out.old rows → R.grew first out.new (rows ++ own)))) }
+{
+    let both = bridges_of_both(alloc, old.view, new.view)?;
+    let told = told_between(alloc, old, new, both.as_slice())?;
+    let roots = moved_roots(alloc, old, new, both.as_slice())?;
+    let shared = ports_of_both(alloc, old.view, new.view)?;
+    let ports = moved_ports(old, new, shared.as_slice());
+    let anew = restarting(alloc, old, new, both.as_slice(), shared.as_slice())?;
+    let restarting = anew.as_slice();
+    put_told(deed, roots.as_slice(), ports, &told, restarting, out)
+}
+
+/// Puts the row of how many steps there are, how many of them move some VID and how many cut some.
+fn put_counts<R: Rows>(walked: &Walked, out: &mut R) -> Result<(), AllocError>
+    ensures { (first : R) (rows : List Row) → R.grew first out.old rows → OnOk result (R.grew first out.new (rows ++ last_row walked.now None ∷ [])) }
+{
+    let values = [
+        Value::Number(walked.steps),
+        Value::Number(walked.moving),
+        Value::Number(walked.cutting),
+    ];
+    put::<R>(Kind::Step(StepLine::Counts), &values, out)
+}
+
+/// Puts that row with what a policy comes to.
+fn put_judged_counts<R: Rows>(
+    walked: &Walked,
+    policy: &PolicyCounts,
+    out: &mut R,
+) -> Result<(), AllocError>
+    ensures { (first : R) (rows : List Row) → R.grew first out.old rows → OnOk result (R.grew first out.new (rows ++ last_row walked.now (Some policy.now) ∷ [])) }
+{
+    let values = [
+        Value::Number(walked.steps),
+        Value::Number(walked.moving),
+        Value::Number(walked.cutting),
+        Value::Number(policy.failing),
+        Value::Number(policy.unkept),
+    ];
+    put::<R>(Kind::Step(StepLine::JudgedCounts), &values, out)
+}
+
+/// Puts the last row: how many steps there are, how many of them move some VID, how many cut some, and with a policy what it comes to.
+/// `AllocError`: memory was wanted and refused; part of the row may have been put.
+pub fn put_last<R: Rows>(
+    walked: &Walked,
+    judged: Option<PolicyCounts>,
+    out: &mut R,
+) -> Result<(), AllocError>
+    ensures { (first : R) (rows : List Row) → R.grew first out.old rows → OnOk result (R.grew first out.new (rows ++ last_row walked.now judged ∷ [])) }
+{
+    match judged {
+        None => put_counts(walked, out),
+        Some(policy) => put_judged_counts(walked, &policy, out),
+    }
+}

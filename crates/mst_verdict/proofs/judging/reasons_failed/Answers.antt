@@ -1,0 +1,85 @@
+use Rattle.std.proofs.Common.{◌≡◌, ◌∷◌, [], Ok, Some, subst, sym}
+use Rattle.std.specs.List.{AllZip}
+use Rattle.std.proofs.lemmas.Result.{IfOk-weaker}
+use Rattle.mst_vlan.specs.Carried.{ViewWithTrees}
+use Rattle.mst_classes.specs.Classes.{AreClasses}
+use Rattle.mst_net.specs.After.{after}
+use Rattle.mst_net.specs.Contents.{Tables}
+use Rattle.mst_sweep.specs.Failures.{edit_of}
+use Rattle.mst_sweep.specs.Pairs.{failed}
+use Rattle.mst_trees.specs.Agrees.{AreOf}
+use Rattle.mst_trees.specs.Forest.{IsForest}
+use Rattle.mst_trees.specs.Settled.{SettledNet, outcome_of}
+use Rattle.mst_verdict.specs.Judged.{reasons_in}
+use Rattle.mst_verify.specs.Islands.{HasIslandsOf, IsOneOf}
+use Rattle.mst_verdict.specs.Verifying.{AreReasonsIf, HaveLans, expected_in, plan_outcome}
+use Rattle.mst_verdict.proofs.Judgements.{as_many, classes_stay, failed_ahead, failed_plan, have_lans_failed, lines_after, prior_of}
+use Rattle.mst_verdict.proofs.judging.reasons_failed.Goals as goal
+
+pub ahead-plan-requires-clause-of : goal.ahead-plan-requires-clause-of
+ahead-plan-requires-clause-of c =
+    let trees = c.in_ok-trees.trees in
+    subst (λ (t : Tables). AreOf t.net t.numbers c.trees_failed.new.seen trees.regions) (sym (failed_ahead c.args.failure.now c.edit-edit.result c.args.network.now c.edit-edit.ensures)) c.in_ok-trees.ensures.trees.of
+
+pub ahead-plan-requires-clause-forest : goal.ahead-plan-requires-clause-forest
+ahead-plan-requires-clause-forest c =
+    let trees = c.in_ok-trees.trees in
+    subst (λ (t : Tables). IsForest t.net t.numbers trees) (sym (failed_ahead c.args.failure.now c.edit-edit.result c.args.network.now c.edit-edit.ensures)) c.in_ok-trees.ensures.trees.forest
+
+pub beside-requires-clause-classes : goal.beside-requires-clause-classes
+beside-requires-clause-classes c =
+    let old = c.args.network.now in
+    let f = c.args.failure.now in
+    let j = c.args.judging.now in
+    subst (λ (s : SettledNet). AreClasses s.view j.before.now.classes) (sym c.ahead-plan.ensures)
+    (classes_stay f old.net (failed (f ∷ []) old.net) old.numbers old.numbers j.plan.now.view c.trees_failed.new.seen c.requires.accepted c.requires.of.of.view c.in_ok-trees.ensures.seen j.before.now.classes
+    c.requires.judging.classes)
+
+pub beside-requires-clause-islands : goal.beside-requires-clause-islands
+beside-requires-clause-islands c =
+    let j = c.args.judging.now in
+    subst (λ (s : SettledNet). HasIslandsOf j.carriage.now s.numbers j.before.now)
+    (sym (failed_plan c.args.failure.now c.edit-edit.result c.args.network.now c.edit-edit.ensures c.trees_failed.new.seen c.in_ok-trees.trees c.ahead-plan.result c.ahead-plan.ensures)) c.requires.judging.islands
+
+pub failed-prior-requires-clause-classes : goal.failed-prior-requires-clause-classes
+failed-prior-requires-clause-classes c =
+    let j = c.args.judging.now in
+    subst (λ (v : ViewWithTrees). AreClasses v.view j.before.now.classes) (sym c.requires.judging.carriage) c.requires.judging.classes
+
+pub failed-prior-requires-clause-islands : goal.failed-prior-requires-clause-islands
+failed-prior-requires-clause-islands c =
+    let j = c.args.judging.now in
+    subst (λ (s : SettledNet). HasIslandsOf j.carriage.now s.numbers j.before.now)
+    (sym (failed_plan c.args.failure.now c.edit-edit.result c.args.network.now c.edit-edit.ensures c.trees_failed.new.seen c.in_ok-trees.trees c.ahead-plan.result c.ahead-plan.ensures)) c.requires.judging.islands
+
+pub judge_place-requires-clause-missing : goal.judge_place-requires-clause-missing
+judge_place-requires-clause-missing c = let j = c.args.judging.now in as_many c.args.network.now.net j.is_last j.lines.now j.missing.now c.requires.judging.lacking
+
+pub judge_place-requires-clause-lans : goal.judge_place-requires-clause-lans
+judge_place-requires-clause-lans c =
+    let net = c.args.network.now.net in
+    let f = c.args.failure.now in
+    let j = c.args.judging.now in (
+      net,
+      c.requires.judging.lacking,
+      subst (λ (s : SettledNet). HaveLans j net s.net (Some f))
+          (sym (failed_plan f c.edit-edit.result c.args.network.now c.edit-edit.ensures c.trees_failed.new.seen c.in_ok-trees.trees c.ahead-plan.result c.ahead-plan.ensures)) (have_lans_failed j net f (Some f)),
+    )
+
+pub returns-clause-reasons : goal.returns-clause-reasons
+returns-clause-reasons c =
+    let old = c.args.network.now in
+    let f = c.args.failure.now in
+    let j = c.args.judging.now in
+    let s = c.ahead-plan.result in
+    let o = plan_outcome old.net old.numbers j.plan.now in
+    let made =
+    subst (λ (t : SettledNet). after (edit_of f) old.net ≡ Ok t.net)
+    (sym (failed_plan f c.edit-edit.result old c.edit-edit.ensures c.trees_failed.new.seen c.in_ok-trees.trees s c.ahead-plan.ensures)) c.requires.accepted in
+    let one : IsOneOf old.net o c.failed-prior.result.old.now =
+    subst (λ (v : ViewWithTrees). IsOneOf old.net o v) (sym c.failed-prior.ensures.old) (prior_of old.net old.numbers j.plan.now j.carriage.now c.requires.of c.requires.judging.carriage) in
+    IfOk-weaker c.judge_place.result _ _
+    (λ all said prior is. lines_after j old.net old.numbers prior is s.net (outcome_of s) f made c.known.ensures.is_outcome j.lines.now (reasons_in all)
+    (subst (λ lost. AllZip (λ line those. AreReasonsIf s.net (outcome_of s) old.net lost (Some (old.net, o)) (expected_in j old.net line (Some f)) those) j.lines.now (reasons_in all)) c.gone.ensures
+    (said old.net old.net (Some (old.net, o)) c.requires.judging.lacking c.requires.judging.before one)))
+    c.judge_place.ensures

@@ -1,0 +1,518 @@
+ghost use Rattle.std.specs.Prelude.{◌≡◌, ◌++◌, ◌∷◌, [], ℕ, None, Some, IfOk, MatchOption, OnOk, filter, length, map, option_map, ⊤};
+ghost use Rattle.std.specs.List.{AllByRecursion, AllZip, list_any};
+ghost use Rattle.mst_lag.specs.Viewed.{IsView};
+ghost use Rattle.mst_net.specs.After.{after};
+ghost use Rattle.mst_net.specs.Tables.{Net};
+ghost use Rattle.mst_verify.specs.diff.Reach.{has_any};
+ghost use Rattle.mst_trees.specs.Outcome.{IsOutcome};
+ghost use Rattle.mst_trees.specs.Settled.{outcome_of};
+ghost use Rattle.mst_policy.specs.declared.expectation.Expectation.{Expectation as ExpectationOf};
+ghost use Rattle.mst_plan.specs.Plan.{IsPlan};
+ghost use Rattle.mst_verdict.specs.Verifying.{AreLacking, AreReasonsEach, AreReasonsIf, AreReasonsThere, FindsAt, FoundIn, HaveLans, IsCarriage, IsJudging, IsOpened, IsPrior, Judges, OfSittings, expected_by, expected_in, found_of, is_asked_by, lacks_in, plan_outcome};
+ghost use Rattle.mst_sweep.specs.Failures.{edit_of, failures as failures_of};
+ghost use Rattle.mst_sweep.specs.Pairs.{failed};
+ghost use Rattle.mst_verdict.specs.Judged.{AreLinesJudged, line_found, reasons_in, told_in};
+ghost use Rattle.mst_verdict.specs.Told.{has_reason, is_due as is_due_of};
+ghost use Rattle.mst_verify.specs.Islands.{AreKept, HasIslandsOf, IsBeside, IsKeptOf};
+ghost use Rattle.mst_verify.specs.Judged.{gone_of, places};
+ghost use Rattle.mst_verify.specs.Named.{Prior as PriorOf};
+ghost use Rattle.mst_verify.specs.Over.{HasItsLan};
+ghost use Rattle.mst_verify.specs.Seen.{IsBefore};
+
+use crate::judgement::{Finding, Judgement};
+use crate::laws::line_where_unkept;
+use crate::once::is_looked_at;
+use mst_ids::{Name, Vid, VidSet};
+use mst_lag::{View, view};
+use mst_net::Network;
+use mst_plan::Plan;
+use mst_policy::{Expectation, PolicyLine, Promise};
+use mst_sweep::{Failure, failures};
+use mst_sweeping::{trees_failed, without_failure};
+use mst_trees::Settled;
+use mst_verify::{Before, Beside, Homes, Judged, Missing, Prior, Reason, missing_in, reasons};
+use mst_vlan::Carriage;
+use std::alloc::{AllocError, Global};
+
+/// What the lines of a policy are judged by.
+#[derive(Clone, Copy)]
+pub(crate) struct Judging<'a> {
+    /// The plan of the network, what carries its VIDs, and what is kept of it for all failures.
+    pub(crate) plan: &'a Plan,
+    pub(crate) carriage: &'a Carriage<'a>,
+    pub(crate) before: &'a Before,
+    /// What carries the VIDs of the network before, if there is one.
+    pub(crate) prior: Option<&'a Carriage<'a>>,
+    /// The lines, and of each what it names and the network hasn't.
+    pub(crate) lines: &'a [PolicyLine],
+    pub(crate) missing: &'a [Option<Missing>],
+    /// Promises of the last of several networks are judged.
+    pub(crate) is_last: bool,
+    /// What the network itself gives is looked for, too, where it isn't told again of failures.
+    pub(crate) once: bool,
+}
+
+/// Whether a promise is judged: one of the last of several networks alone only in that.
+fn is_due(promise: &Promise, is_last: bool) -> bool
+    ensures { result ≡ is_due_of is_last (Ok promise.now) }
+{
+    is_last || !promise.is_final
+}
+
+/// What a line that is judged names and the network hasn't, or that nothing is judged of it there.
+fn lacking(plan: &Settled, line: &PolicyLine, is_last: bool) -> Option<Missing>
+    ensures { result ≡ lacks_in plan.now.net is_last line.now }
+{
+    match &line.read {
+        Ok(promise) if is_due(promise, is_last) => missing_in(plan, promise),
+        _ => None,
+    }
+}
+
+/// The same of each of these lines.
+fn all_lacking(
+    alloc: Global,
+    plan: &Settled,
+    lines: &[PolicyLine],
+    is_last: bool,
+) -> Result<Vec<Option<Missing>>, AllocError>
+    ensures { IfOk result (λ missing. AreLacking plan.now.net is_last lines.now missing.items) }
+{
+    lines
+        .iter()
+        .map(|line| lacking(plan, line, is_last))
+        .collect(alloc)
+}
+
+/// What a line expects in a place, if that is looked at for it.
+fn expected<'a>(
+    judging: &Judging,
+    line: &'a PolicyLine,
+    missing: &Option<Missing>,
+    place: &Option<Failure>,
+) -> Option<&'a Expectation>
+    ensures { option_map (λ e. e.now) result ≡ expected_by judging.now line.now missing.now place.now }
+{
+    match &line.read {
+        Ok(promise) if is_asked(judging, promise, missing, place) => Some(&promise.expectation),
+        _ => None,
+    }
+}
+
+/// Whether a place is looked at for a promise.
+fn is_asked(
+    judging: &Judging,
+    promise: &Promise,
+    missing: &Option<Missing>,
+    place: &Option<Failure>,
+) -> bool
+    ensures { result ≡ is_asked_by judging.now missing.now promise.now place.now }
+{
+    let has_prior = judging.prior.is_some();
+    is_due(promise, judging.is_last)
+        && (missing.is_none() && is_looked_at(judging.once, has_prior, promise, place))
+}
+
+/// Adds VIDs to a set.
+fn add_all(vids: &VidSet, set: &mut VidSet) {
+    if *vids == *set {
+        return;
+    }
+    for number in 1..4095u16 {
+        if vids.contains(number) {
+            set.insert(Vid::new(u64::from(number)).unwrap());
+        }
+    }
+}
+
+/// Adds the VIDs of whose islands an expectation asks.
+fn add_asked(expectation: &Expectation, set: &mut VidSet) {
+    match expectation {
+        Expectation::Reach { vids, .. } => add_all(vids, set),
+        Expectation::Apart { vids, .. } => add_all(vids, set),
+        Expectation::Together { vids, .. } => add_all(vids, set),
+        _ => {}
+    }
+}
+
+/// The VIDs of whose islands those lines ask that are judged and lack nothing.
+fn every_asked(lines: &[PolicyLine], missing: &[Option<Missing>], is_last: bool) -> VidSet
+    requires { length missing.now ≡ length lines.now }
+{
+    let mut vids = VidSet::none();
+    for n in 0..lines.len() {
+        match &lines[n].read {
+            Ok(promise) if missing[n].is_none() && is_due(promise, is_last) => {
+                add_asked(&promise.expectation, &mut vids)
+            }
+            _ => {}
+        }
+    }
+    vids
+}
+
+/// The VIDs of whose islands the lines ask for which a place is looked at, if it is for some line.
+fn asked_vids(judging: &Judging, place: &Option<Failure>) -> Option<VidSet>
+    requires { length judging.now.missing.now ≡ length judging.now.lines.now }
+    ensures { result ≡ None → (net : Net) → AreLacking net judging.now.is_last judging.now.lines.now judging.now.missing.now
+        → AllByRecursion (λ line. expected_in judging.now net line place.now ≡ None) judging.now.lines.now }
+{
+    let mut vids = VidSet::none();
+    let mut is_any = false;
+    for n in 0..judging.lines.len() {
+        match expected(judging, &judging.lines[n], &judging.missing[n], place) {
+            None => {}
+            Some(expectation) => {
+                is_any = true;
+                add_asked(expectation, &mut vids);
+            }
+        }
+    }
+    if is_any { Some(vids) } else { None }
+}
+
+/// The VIDs of whose islands the lines ask in the network before.
+fn looking_back(judging: &Judging) -> VidSet
+    requires { length judging.now.missing.now ≡ length judging.now.lines.now }
+{
+    let mut vids = VidSet::none();
+    for n in 0..judging.lines.len() {
+        match expected(judging, &judging.lines[n], &judging.missing[n], &None) {
+            Some(Expectation::Together { vids: own, .. }) => add_all(own, &mut vids),
+            _ => {}
+        }
+    }
+    vids
+}
+
+/// Why a line isn't kept in a place: for no reason, where that isn't looked at for it.
+fn line_reasons(
+    alloc: Global,
+    judging: &Judging,
+    judged: &Judged,
+    place: &Option<Failure>,
+    line: &PolicyLine,
+    missing: &Option<Missing>,
+) -> Result<Vec<Reason>, AllocError>
+    requires kept { AreKept judged.now.plan.now judged.now.before.now judged.now.homes.now }
+    requires lan { (e : ExpectationOf) → expected_by judging.now line.now missing.now place.now ≡ Some e → HasItsLan judged.now.plan.now.net e }
+    requires prior { MatchOption judged.now.prior ⊤ (IsBeside judged.now.plan.now) }
+    ensures { IfOk result (λ reasons. (before : Net) (prior : PriorOf) → IsBefore before judged.now.before.now → IsKeptOf prior judged.now.prior
+        → AreReasonsIf judged.now.plan.now.net (outcome_of judged.now.plan.now) before judged.now.gone prior (expected_by judging.now line.now missing.now place.now) reasons.items) }
+{
+    match expected(judging, line, missing, place) {
+        None => Ok(Vec::new(alloc)),
+        Some(expectation) => reasons(alloc, judged, expectation),
+    }
+}
+
+/// Why each line isn't kept in a place.
+fn judge_place(
+    alloc: Global,
+    judging: &Judging,
+    judged: &Judged,
+    place: &Option<Failure>,
+) -> Result<Vec<Vec<Reason>>, AllocError>
+    requires kept { AreKept judged.now.plan.now judged.now.before.now judged.now.homes.now }
+    requires missing { length judging.now.missing.now ≡ length judging.now.lines.now }
+    requires lans { (net : Net) × AreLacking net judging.now.is_last judging.now.lines.now judging.now.missing.now × HaveLans judging.now net judged.now.plan.now.net place.now }
+    requires prior { MatchOption judged.now.prior ⊤ (IsBeside judged.now.plan.now) }
+    ensures { IfOk result (λ all. (net before : Net) (prior : PriorOf) → AreLacking net judging.now.is_last judging.now.lines.now judging.now.missing.now → IsBefore before judged.now.before.now
+        → IsKeptOf prior judged.now.prior → AreReasonsThere judging.now net judged.now.plan.now before judged.now.gone prior place.now (reasons_in all)) }
+{
+    let mut all = Vec::new(alloc);
+    for n in 0..judging.lines.len() {
+        all.push(line_reasons(
+            alloc,
+            judging,
+            judged,
+            place,
+            &judging.lines[n],
+            &judging.missing[n],
+        )?)?;
+    }
+    Ok(all)
+}
+
+/// Whether some line has a reason.
+fn has_some(reasons: &[Vec<Reason>]) -> bool
+    ensures { result ≡ list_any (λ those. has_any those.items) reasons.now }
+{
+    reasons.iter().any(|those| !those.is_empty())
+}
+
+/// Keeps the reasons of lines in a place behind what was found, if there are some.
+fn add_finding(
+    place: Option<Failure>,
+    reasons: Vec<Vec<Reason>>,
+    found: &mut Vec<Finding>,
+) -> Result<(), AllocError>
+    ensures { OnOk result ((n : ℕ) → line_found n found.new.items ≡ line_found n found.old.items ++ filter has_reason (found_of place (reasons_in reasons) n ∷ [])) }
+{
+    if has_some(reasons.as_slice()) {
+        found.push(Finding { place, reasons })?;
+    } else {
+        drop(reasons);
+    }
+    Ok(())
+}
+
+/// Why each line isn't kept in the network itself, by what is kept of the network before, if there is one.
+fn judge_now(
+    alloc: Global,
+    judging: &Judging,
+    plan: &Settled,
+    homes: &Homes,
+    prior: Option<Prior>,
+) -> Result<Vec<Vec<Reason>>, AllocError>
+    requires kept { AreKept plan.now judging.now.before.now homes.now }
+    requires lacking { AreLacking plan.now.net judging.now.is_last judging.now.lines.now judging.now.missing.now }
+    requires before { IsBefore plan.now.net judging.now.before.now }
+    requires prior { MatchOption prior ⊤ (IsBeside plan.now) }
+    ensures { IfOk result (λ all. (before : PriorOf) → IsKeptOf before prior.entry → AreReasonsThere judging.now plan.now.net plan.now plan.now.net None before None (reasons_in all)) }
+{
+    let judged = Judged {
+        plan,
+        before: judging.before,
+        homes,
+        gone: None,
+        prior,
+    };
+    judge_place(alloc, judging, &judged, &None)
+}
+
+/// Why each line isn't kept in the network itself.
+fn reasons_now(
+    alloc: Global,
+    network: &Network,
+    judging: &Judging,
+    vids: &VidSet,
+) -> Result<Vec<Vec<Reason>>, AllocError>
+    requires of { IsPlan network.now.net network.now.numbers judging.now.plan.now }
+    requires judging { IsJudging network.now.net network.now.numbers judging.now }
+    ensures { IfOk result (λ all. OfSittings network.now.net network.now.numbers judging.now (λ s. AreReasonsEach s judging.now.lines.now None (reasons_in all))) }
+{
+    let plan = Settled::new(network, &judging.plan.view, &judging.plan.forest);
+    let homes = Homes::beside(alloc, judging.carriage, &plan, judging.before, vids)?;
+    match judging.prior {
+        None => judge_now(alloc, judging, &plan, &homes, None),
+        Some(old) => {
+            let back = looking_back(judging);
+            let beside = Beside::new(alloc, old, judging.carriage, &plan, &back)?;
+            let prior = Prior::beside(old, &plan, &beside);
+            judge_now(alloc, judging, &plan, &homes, Some(prior))
+        }
+    }
+}
+
+/// Keeps why lines aren't kept in the network itself, if that is looked at for some line.
+fn find_now(
+    alloc: Global,
+    network: &Network,
+    judging: &Judging,
+    found: &mut Vec<Finding>,
+) -> Result<(), AllocError>
+    requires of { IsPlan network.now.net network.now.numbers judging.now.plan.now }
+    requires judging { IsJudging network.now.net network.now.numbers judging.now }
+    ensures { OnOk result (OfSittings network.now.net network.now.numbers judging.now (λ s. FindsAt s judging.now.lines.now None found.old.items found.new.items)) }
+{
+    match asked_vids(judging, &None) {
+        None => Ok(()),
+        Some(vids) => {
+            let reasons = reasons_now(alloc, network, judging, &vids)?;
+            add_finding(None, reasons, found)
+        }
+    }
+}
+
+/// The bridge that a failure takes away.
+fn gone(failure: &Failure) -> Option<Name>
+    ensures { result ≡ gone_of failure.now }
+{
+    match failure {
+        Failure::Lan(_) => None,
+        Failure::Bridge(bridge) => Some(*bridge),
+    }
+}
+
+/// Why each line isn't kept in the network with a failure, by one repair of the trees that stand. The network itself is the one before.
+/// The view, which is that network's, is the other's then.
+fn reasons_failed(
+    alloc: Global,
+    network: &Network,
+    judging: &Judging,
+    failure: &Failure,
+    vids: &VidSet,
+    seen: &mut View,
+) -> Result<Vec<Vec<Reason>>, AllocError>
+    requires of { IsPlan network.now.net network.now.numbers judging.now.plan.now }
+    requires judging { IsJudging network.now.net network.now.numbers judging.now }
+    requires accepted { after (edit_of failure.now) network.now.net ≡ Ok (failed (failure.now ∷ []) network.now.net) }
+    requires seen { IsView network.now.net network.now.numbers seen.old }
+    ensures reasons { IfOk result (λ all. OfSittings network.now.net network.now.numbers judging.now (λ s. AreReasonsEach s judging.now.lines.now (Some failure.now) (reasons_in all))) }
+    ensures seen { OnOk result (IsView (failed (failure.now ∷ []) network.now.net) network.now.numbers seen.new) }
+{
+    let trees = trees_failed(alloc, network, judging.plan, failure, seen)?;
+    let edit = failure.edit();
+    let plan = Settled::ahead(network, &edit, seen, &trees);
+    plan.known();
+    let homes = Homes::beside(alloc, judging.carriage, &plan, judging.before, vids)?;
+    let prior = Prior::failed(judging.carriage, &plan, judging.before, &homes);
+    let judged = Judged {
+        plan: &plan,
+        before: judging.before,
+        homes: &homes,
+        gone: gone(failure),
+        prior: Some(prior),
+    };
+    judge_place(alloc, judging, &judged, &Some(*failure))
+}
+
+/// Keeps why lines aren't kept in the network with a failure, if that is looked at for some line. The view is that of the network
+/// itself, and stays so: it is renewed for the failure, and then back.
+fn find_after(
+    alloc: Global,
+    network: &Network,
+    judging: &Judging,
+    failure: &Failure,
+    seen: &mut View,
+    found: &mut Vec<Finding>,
+) -> Result<(), AllocError>
+    requires of { IsPlan network.now.net network.now.numbers judging.now.plan.now }
+    requires judging { IsJudging network.now.net network.now.numbers judging.now }
+    requires accepted { after (edit_of failure.now) network.now.net ≡ Ok (failed (failure.now ∷ []) network.now.net) }
+    requires seen { IsView network.now.net network.now.numbers seen.old }
+    ensures found { OnOk result (OfSittings network.now.net network.now.numbers judging.now (λ s. FindsAt s judging.now.lines.now (Some failure.now) found.old.items found.new.items)) }
+    ensures seen { OnOk result (IsView network.now.net network.now.numbers seen.new) }
+{
+    let place = Some(*failure);
+    match asked_vids(judging, &place) {
+        None => Ok(()),
+        Some(vids) => {
+            let reasons = reasons_failed(alloc, network, judging, failure, &vids, seen)?;
+            without_failure(alloc, network, failure, seen)?;
+            add_finding(place, reasons, found)
+        }
+    }
+}
+
+/// Why lines aren't kept, place by place: in the network itself, and then in that with each failure, in their order. A failure that no
+/// line asks for isn't looked at, and each other one is once, for all lines.
+fn find_all(
+    alloc: Global,
+    network: &Network,
+    judging: &Judging,
+    failures: &[Failure],
+) -> Result<Vec<Finding>, AllocError>
+    requires of { IsPlan network.now.net network.now.numbers judging.now.plan.now }
+    requires judging { IsJudging network.now.net network.now.numbers judging.now }
+    requires failures { failures.now ≡ failures_of network.now.net }
+    ensures { IfOk result (λ found. OfSittings network.now.net network.now.numbers judging.now (λ s. FoundIn s judging.now.lines.now (places network.now.net) found.items)) }
+{
+    let mut found = Vec::new(alloc);
+    find_now(alloc, network, judging, &mut found)?;
+    let mut seen = view(alloc, network)?;
+    for failure in failures {
+        find_after(alloc, network, judging, failure, &mut seen, &mut found)?;
+    }
+    Ok(found)
+}
+
+/// What is known of a policy before a line is judged.
+#[derive(Drop)]
+struct Opened {
+    before: Before,
+    missing: Vec<Option<Missing>>,
+}
+
+/// What lines are judged by that are judged in a network.
+fn opening(
+    alloc: Global,
+    network: &Network,
+    plan: &Plan,
+    carriage: &Carriage,
+    lines: &[PolicyLine],
+    is_last: bool,
+) -> Result<Opened, AllocError>
+    requires of { IsPlan network.now.net network.now.numbers plan.now }
+    requires carriage { IsCarriage plan.now carriage.now }
+    ensures opened { IfOk result (IsOpened network.now.net plan.now is_last lines.now) }
+    ensures islands { IfOk result (λ opened. HasIslandsOf carriage.now network.now.numbers opened.before) }
+{
+    let settled = Settled::new(network, &plan.view, &plan.forest);
+    let missing = all_lacking(alloc, &settled, lines, is_last)?;
+    let asked = every_asked(lines, missing.as_slice(), is_last);
+    let before = Before::with_islands(alloc, &settled, carriage, &asked)?;
+    Ok(Opened { before, missing })
+}
+
+/// How lines are judged in a network.
+#[derive(Clone, Copy)]
+pub(crate) struct Asking<'a> {
+    /// What carries the VIDs of the network before, if there is one.
+    pub(crate) prior: Option<&'a Carriage<'a>>,
+    /// Promises of the last of several networks are judged.
+    pub(crate) is_last: bool,
+    /// What the network itself gives is looked for, too, where it isn't told again of failures.
+    pub(crate) once: bool,
+}
+
+/// Why lines of a policy aren't kept in a network, by its plan and its failures.
+pub(crate) fn judge_lines(
+    alloc: Global,
+    network: &Network,
+    plan: &Plan,
+    lines: &[PolicyLine],
+    failures: &[Failure],
+    asking: &Asking,
+) -> Result<Judgement, AllocError>
+    requires of { IsPlan network.now.net network.now.numbers plan.now }
+    requires failures { failures.now ≡ failures_of network.now.net }
+    ensures { IfOk result (λ judgement. (prior : PriorOf) → IsPrior (option_map (λ c. c.now) asking.now.prior) prior
+        → AreLinesJudged asking.now.once network.now.net (plan_outcome network.now.net network.now.numbers plan.now) prior asking.now.is_last lines.now judgement) }
+{
+    let carriage = Carriage::new(alloc, &plan.view, &plan.forest)?;
+    let opened = opening(alloc, network, plan, &carriage, lines, asking.is_last)?;
+    let judging = Judging {
+        plan,
+        carriage: &carriage,
+        before: &opened.before,
+        prior: asking.prior,
+        lines,
+        missing: opened.missing.as_slice(),
+        is_last: asking.is_last,
+        once: asking.once,
+    };
+    let found = find_all(alloc, network, &judging, failures)?;
+    Ok(Judgement {
+        missing: opened.missing,
+        found,
+    })
+}
+
+/// Judges the lines of a policy in one of several networks, by its plan, and by what carries VIDs in the network before, if there is
+/// one: of each line what it lacks there, or why it isn't kept in the network itself, and in that of each failure for which it asks.
+/// `AllocError`: memory was wanted and refused.
+pub fn judge(
+    alloc: Global,
+    network: &Network,
+    plan: &Plan,
+    lines: &[PolicyLine],
+    is_last: bool,
+    prior: Option<&Carriage>,
+) -> Result<Judgement, AllocError>
+    requires { IsPlan network.now.net network.now.numbers plan.now }
+    ensures { IfOk result (λ judgement. (before : PriorOf) → IsPrior (option_map (λ c. c.now) prior.entry) before → Judges network.now.net before is_last lines.now (told_in lines.now judgement)) }
+{
+    line_where_unkept();
+    if lines.is_empty() {
+        return Ok(Judgement::none(alloc));
+    }
+    let failures = failures(alloc, &plan.view)?;
+    let asking = Asking {
+        prior,
+        is_last,
+        once: false,
+    };
+    judge_lines(alloc, network, plan, lines, failures.as_slice(), &asking)
+}

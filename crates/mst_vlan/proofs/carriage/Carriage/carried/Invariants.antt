@@ -1,0 +1,9 @@
+use Rattle.std.proofs.Common.{◌≡◌, map, filter, take}
+use Rattle.mst_trees.specs.SeenRoles.{seen_forwards}
+use Rattle.mst_vlan.specs.Seen.{seen_member}
+use Rattle.mst_vlan.specs.Carried.{names_of}
+use Rattle.mst_vlan.proofs.carriage.Carriage.carried.Given as goal
+
+-- those of the ports so far
+abbrev pub invariant-loop-place : goal.invariant-loop-place
+invariant-loop-place l = l.carried.items ≡ map names_of (filter (seen_member l.self.view l.vid) (filter (seen_forwards l.self.view l.self.forest l.vid) (take l.place l.ports)))
