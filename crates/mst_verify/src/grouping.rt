@@ -11,8 +11,8 @@ use crate::parting::{copy, grouped};
 use crate::reason::Reason;
 use crate::regions::has_two;
 use crate::vids::class_of;
-use mst_ids::{Name, Vid, VidSet};
 use mst_classes::set_of;
+use mst_ids::{Name, Vid, VidSet};
 use std::alloc::{AllocError, Global};
 
 /// What is told of VIDs that have parts.

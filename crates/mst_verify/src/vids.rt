@@ -4,9 +4,9 @@ ghost use Rattle.mst_diff.specs.Classes.{flag_at};
 ghost use Rattle.mst_classes.specs.AllVids.{NumberEach};
 ghost use Rattle.mst_verify.specs.Named.{vids_in};
 
+use mst_classes::vids;
 use mst_graph::Numbering;
 use mst_ids::{Vid, VidSet};
-use mst_classes::vids;
 use std::alloc::{AllocError, Global};
 
 /// The VIDs of a set, rising. `AllocError`: memory was wanted and refused.
