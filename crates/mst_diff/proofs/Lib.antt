@@ -13,6 +13,5 @@ pub mod AlikeNets
 pub mod SameSides
 pub mod SidesGrouped
 pub mod ReachTurned
-pub mod FirstNamed
 pub mod SameIslands
 pub mod MetSides

@@ -20,11 +20,12 @@ use Rattle.mst_changes.specs.Subjects.{bridge_names}
 use Rattle.mst_changes.proofs.InUse.{unused, unused_by}
 use Rattle.mst_changes.proofs.Lists.{filter_map-map}
 use Rattle.mst_rows.specs.Rows.{Row}
-use Rattle.mst_diff.specs.declared.both.Both.{Both}
+use Rattle.mst_facts.specs.declared.both.Both.{Both}
 use Rattle.mst_diff.specs.declared.roots.RootPair.{RootPair}
 use Rattle.mst_diff.specs.Regions.{region_unless, region_change, region_changes}
 use Rattle.mst_diff.specs.Roots.{root_name, paired, root_pair, same_pair, root_unless, each_once}
-use Rattle.mst_diff.specs.Seen.{seen_in_both, seen_both, IsBoth, region_of, pair_of, roots_of}
+use Rattle.mst_facts.specs.Both.{seen_in_both, seen_both, IsBoth}
+use Rattle.mst_diff.specs.Seen.{region_of, pair_of, roots_of}
 use Rattle.mst_diff.proofs.Lists.{flat_map-filter_map, filter_map-filter_map, filter_map-none, flat_map-same, find-found}
 use Rattle.mst_diff.proofs.Named.{found_named, names_are, no_root, no_root_in}
 

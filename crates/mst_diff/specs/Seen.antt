@@ -1,12 +1,10 @@
 -- What differs between two views with their forests.
 use Rattle.std.specs.Prelude.{◌≡◌, ℕ, ◌+◌, ◌-◌, ◌<◌, ◌==◌, Bool, false, length, List, [], ◌∷◌, Option, None, Some, map, filter, filter_map, slice_index, slice_index_or, if◌then◌else◌}
-use Rattle.std.specs.List.{Contains, find, list_any}
-use Rattle.std.specs.Map.{lookup}
+use Rattle.std.specs.List.{find, list_any}
 use Rattle.std.specs.Option.{option_map, unwrap_or}
 use Rattle.mst_net.specs.Seen.{bridge_row}
 use Rattle.mst_net.specs.Tables.{Net}
 use Rattle.mst_vlan.specs.settle.Assignment.{vector_of}
-use Rattle.mst_lag.specs.Aggregation.{same_name}
 use Rattle.mst_lag.specs.Trees.{is_among}
 use Rattle.mst_lag.specs.Viewed.{Viewed}
 use Rattle.mst_lag.specs.declared.in_view.BridgeInView.{BridgeInView}
@@ -23,7 +21,7 @@ use Rattle.mst_kinds.specs.declared.change_line.ChangeLine.TheVariants as change
 use Rattle.mst_kinds.specs.declared.kind.Kind.TheVariants as kind
 use Rattle.mst_rows.specs.Cells as cells
 use Rattle.mst_rows.specs.Rows.{Row, region, row_of}
-use Rattle.mst_diff.specs.declared.both.Both.{Both}
+use Rattle.mst_facts.specs.declared.both.Both.{Both}
 use Rattle.mst_diff.specs.declared.roots.Identified.{Identified}
 use Rattle.mst_diff.specs.declared.roots.RootPair.{RootPair}
 use Rattle.mst_diff.specs.declared.roots.RootChange.{RootChange}
@@ -35,24 +33,6 @@ use Rattle.mst_diff.specs.Roots.{root_pair, root_row, same_pair, with_new, tree_
 use Rattle.mst_vlan.specs.Carried.{ViewWithTrees}
 use Rattle.mst_diff.specs.Reach.{has_any, no_sides, same_names, AreSides, Sides}
 use Rattle.mst_diff.specs.declared.sides.Sides.{Sides as KeptSides}
-
--- ---- bridges
--- a bridge of one view, if one of that name is in the other, too
-abbrev pub seen_in_both : Viewed → BridgeInView → Option Both
-seen_in_both w x = option_map (λ y. record { old = x; new = y }) (find (λ y. same_name y.name x.name) w.bridges)
-
-abbrev pub seen_both : Viewed → Viewed → List Both
-seen_both v w = filter_map (seen_in_both w) v.bridges
-
--- under each name the first of these bridges that has it
-abbrev pub AreByName : List BridgeInView → List (List ℕ × BridgeInView) → Type 0
-AreByName bridges entries = (name : List ℕ) → lookup (same_name name) entries ≡ find (λ y. same_name y.name name) bridges
-
--- a bridge that two views have
-pub record IsBoth (v w : Viewed) (both : Both) : Type 0 where
-  pub old : Contains v.bridges both.old
-  pub new : Contains w.bridges both.new
-  pub same : both.new.name ≡ both.old.name
 
 -- ---- regions
 -- the first bridge of a bridge's region

@@ -1,8 +1,8 @@
 ghost use Rattle.std.specs.Prelude.{◌≡◌};
 ghost use Rattle.mst_vlan.specs.trees.InUse.{AreInUse};
-ghost use Rattle.mst_diff.specs.Seen.{seen_both};
+ghost use Rattle.mst_facts.specs.Both.{seen_both};
 
-use crate::both::Both;
+use mst_facts::Both;
 use mst_vlan::Settled;
 
 /// Two settled networks, one before a change and one after it, the bridges that both have, and the trees that each has

@@ -4,11 +4,11 @@ ghost use Rattle.mst_diff.specs.DiffText.{diff_row};
 ghost use Rattle.mst_diff.specs.Seen.{AreDiffRows};
 
 use crate::all_roots::{changed_roots, put_roots};
-use crate::both::bridges_of_both;
 use crate::change::Change;
 use crate::ports::put_ports;
 use crate::reach::put_reach;
 use crate::regions::{changed_regions, put_regions};
+use mst_facts::bridges_of_both;
 use mst_kinds::{ChangeLine, Kind};
 use mst_rows::{Rows, Value, put};
 use mst_vlan::{Settled, trees_in_use};

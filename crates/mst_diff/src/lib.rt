@@ -2,7 +2,6 @@
 #![tactic(auto)]
 
 mod all_roots;
-mod both;
 mod carriages;
 mod change;
 mod classes;
@@ -15,7 +14,6 @@ mod roots;
 mod sides;
 mod unlike;
 
-pub use both::{Both, bridges_of_both};
 pub use classes::flagged;
 pub use diff::{Differing, put_diff};
 pub use mst_changes::Planned;

@@ -4,10 +4,11 @@ ghost use Rattle.mst_net.specs.Seen.{bridge_row};
 ghost use Rattle.mst_config.specs.Regions.{first_of_region};
 ghost use Rattle.mst_rows.specs.Rows.{Row};
 ghost use Rattle.mst_diff.specs.Regions.{same_told, configuration as configuration_of, region_changes};
-ghost use Rattle.mst_diff.specs.Seen.{IsBoth, seen_found, region_of, row_of_region};
+ghost use Rattle.mst_facts.specs.Both.{IsBoth};
+ghost use Rattle.mst_diff.specs.Seen.{seen_found, region_of, row_of_region};
 
-use crate::both::Both;
 use crate::change::Change;
+use mst_facts::Both;
 use mst_ids::{ConfName, Name};
 use mst_kinds::{ChangeLine, Kind as RowKind};
 use mst_lag::{BridgeInView, View};

@@ -3,11 +3,12 @@ ghost use Rattle.std.specs.List.{AllByRecursion, Contains, flat_map, list_any};
 ghost use Rattle.mst_vlan.specs.trees.Settled.{outcome_of};
 ghost use Rattle.mst_rows.specs.Rows.{Row};
 ghost use Rattle.mst_diff.specs.Roots.{root_of as root_in, root_name as root_name_in, same_pair, with_new, each_once, root_unless};
-ghost use Rattle.mst_diff.specs.Seen.{IsBoth, seen_root, seen_named, name_by, pair_of, with_pair, roots_of, row_of_root};
+ghost use Rattle.mst_facts.specs.Both.{IsBoth};
+ghost use Rattle.mst_diff.specs.Seen.{seen_root, seen_named, name_by, pair_of, with_pair, roots_of, row_of_root};
 
-use crate::both::Both;
 use crate::change::Change;
 use mst_changes::Planned;
+use mst_facts::Both;
 use mst_ids::{BridgeId, BridgeNo, Name, Tree};
 use mst_kinds::{ChangeLine, Kind};
 use mst_lag::{BridgeInView, View};

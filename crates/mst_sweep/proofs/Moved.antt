@@ -29,9 +29,9 @@ use Rattle.mst_vlan.specs.trees.Roles.{role_of, role_in, cist_role, msti_role}
 use Rattle.mst_vlan.specs.trees.SeenRoles.{seen_role}
 use Rattle.mst_diff.specs.changes.Subjects.{all_trees, bridge_names, port_names}
 use Rattle.mst_diff.proofs.changes_lemmas.Orders.{trees_are}
-use Rattle.mst_diff.specs.declared.both.Both.{Both}
+use Rattle.mst_facts.specs.declared.both.Both.{Both}
 use Rattle.mst_diff.specs.Roots.{root_of}
-use Rattle.mst_diff.specs.Seen.{seen_in_both, seen_both}
+use Rattle.mst_facts.specs.Both.{seen_in_both, seen_both}
 use Rattle.mst_diff.proofs.Lists.{find-found, list_any-map}
 use Rattle.mst_diff.proofs.Named.{found_named, names_are, none_there, root_named}
 use Rattle.mst_sweep.specs.Moved.{is_other_root, root_moved, is_other_role, port_moved}

@@ -28,9 +28,9 @@ use Rattle.mst_trees.proofs.Seen.{bridge_seen}
 use Rattle.mst_diff.proofs.Named.{names_are}
 use Rattle.mst_diff.proofs.OneDiff.{OneList}
 use Rattle.mst_diff.specs.changes.Subjects.{bridge_names}
-use Rattle.mst_diff.specs.declared.both.Both.{Both}
+use Rattle.mst_facts.specs.declared.both.Both.{Both}
 use Rattle.mst_diff.specs.Reach.{has_any}
-use Rattle.mst_diff.specs.Seen.{seen_both, seen_in_both}
+use Rattle.mst_facts.specs.Both.{seen_both, seen_in_both}
 use Rattle.mst_sweep.specs.Baseline.{AreHomes}
 use Rattle.mst_sweep.specs.Cuts.{parts_at}
 use Rattle.mst_sweep.specs.CutClasses.{IsKeptAlone}

@@ -10,8 +10,8 @@ use Rattle.mst_lag.specs.declared.in_view.BridgeInView.{BridgeInView}
 use Rattle.mst_trees.proofs.Lists.{apart_cases}
 use Rattle.mst_trees.proofs.Seen.{BridgesRise, bridges_apart}
 use Rattle.mst_trees.proofs.Views.{names_differ}
-use Rattle.mst_diff.specs.declared.both.Both.{Both}
-use Rattle.mst_diff.specs.Seen.{seen_in_both}
+use Rattle.mst_facts.specs.declared.both.Both.{Both}
+use Rattle.mst_facts.specs.Both.{seen_in_both}
 use Rattle.mst_diff.proofs.Lists.{find-found}
 use Rattle.mst_sweep.proofs.Positions.{has_first}
 

@@ -28,8 +28,8 @@ use Rattle.mst_classes.specs.Alike.{AreAlike}
 use Rattle.mst_vlan.proofs.LinksAlike.{links_shared}
 use Rattle.mst_diff.specs.changes.Subjects.{bridge_names}
 use Rattle.mst_diff.proofs.changes_lemmas.Lists.{filter_map-map}
-use Rattle.mst_diff.specs.declared.both.Both.{Both}
-use Rattle.mst_diff.specs.Seen.{seen_in_both, seen_both}
+use Rattle.mst_facts.specs.declared.both.Both.{Both}
+use Rattle.mst_facts.specs.Both.{seen_in_both, seen_both}
 use Rattle.mst_diff.proofs.Lists.{filter_map-filter_map, find-found}
 use Rattle.mst_diff.proofs.Named.{found_named, names_are}
 use Rattle.mst_classes.specs.Classes.{HasOnly}

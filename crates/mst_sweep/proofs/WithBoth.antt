@@ -5,7 +5,7 @@ use Rattle.std.specs.Map.{lookup}
 use Rattle.std.specs.Option.{option_and_then, option_map, option_map_or, option_or}
 use Rattle.std.proofs.lemmas.Bool.{eqb-true, eq-eqb}
 use Rattle.std.proofs.lemmas.List.{length-take-le, take_more}
-use Rattle.mst_diff.specs.declared.both.Both.{Both}
+use Rattle.mst_facts.specs.declared.both.Both.{Both}
 use Rattle.mst_sweep.specs.Seen.{first_at, has_places, same_places, seen_with_both, with_both}
 use Rattle.mst_sweep.specs.declared.with_both.Places.{Places}
 use Rattle.mst_sweep.specs.declared.parts.Stays.{Stays}

@@ -1,9 +1,10 @@
 ghost use Rattle.std.specs.Prelude.{◌≡◌, Some, IfOk, IfSome};
 ghost use Rattle.mst_lag.specs.Aggregation.{same_name};
 ghost use Rattle.mst_trees.specs.Agrees.{Known};
-ghost use Rattle.mst_diff.specs.Seen.{seen_both, seen_in_both};
+ghost use Rattle.mst_facts.specs.Both.{seen_both, seen_in_both};
 
-use mst_diff::{Both, Planned};
+use mst_diff::Planned;
+use mst_facts::Both;
 use mst_lag::BridgeInView;
 use std::alloc::{AllocError, Global};
 

@@ -5,7 +5,7 @@ ghost use Rattle.mst_sweep.specs.Seen.{seen_stays};
 
 use crate::whole::is_whole;
 use indexmap::IndexMap;
-use mst_diff::Both;
+use mst_facts::Both;
 use mst_ids::{BridgeNo, Name};
 use std::alloc::{AllocError, Global};
 

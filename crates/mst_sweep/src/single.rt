@@ -2,7 +2,7 @@ ghost use Rattle.std.specs.Prelude.{◌≡◌, ◌<◌, ◌+◌, ℕ, false, tru
 ghost use Rattle.std.specs.List.{AllZip};
 ghost use Rattle.std.specs.Option.{ForSome, option_copied, option_map};
 ghost use Rattle.mst_trees.specs.Agrees.{Known};
-ghost use Rattle.mst_diff.specs.Seen.{seen_both};
+ghost use Rattle.mst_facts.specs.Both.{seen_both};
 ghost use Rattle.mst_sweep.specs.Between.{OfNumbered};
 ghost use Rattle.mst_sweep.specs.Baseline.{IsBaseline};
 ghost use Rattle.mst_sweep.specs.Breaking.{HasNoParts, IsCarriageOf};
@@ -19,7 +19,8 @@ use crate::parts::staying;
 use crate::touched::{places_of, touched};
 use crate::whole::is_whole;
 use indexmap::IndexMap;
-use mst_diff::{Both, Planned};
+use mst_diff::Planned;
+use mst_facts::Both;
 use mst_ids::BridgeNo;
 use mst_vlan::Carriage;
 use std::alloc::{AllocError, Global};

@@ -6,7 +6,7 @@ ghost use Rattle.mst_sweep.specs.declared.with_both.Places.{Places as PlacesOf};
 
 use crate::parts::Stays;
 use indexmap::IndexMap;
-use mst_diff::Both;
+use mst_facts::Both;
 use mst_ids::BridgeNo;
 use std::alloc::{AllocError, Global};
 

@@ -16,9 +16,9 @@ use Rattle.mst_lag.specs.declared.in_view.PortInView.{PortInView}
 use Rattle.mst_trees.specs.Agrees.{AreOf}
 use Rattle.mst_trees.specs.Forest.{Forest}
 use Rattle.mst_diff.specs.changes.Subjects.{bridge_names}
-use Rattle.mst_diff.specs.declared.both.Both.{Both}
+use Rattle.mst_facts.specs.declared.both.Both.{Both}
 use Rattle.mst_diff.specs.Regions.{same_told}
-use Rattle.mst_diff.specs.Seen.{seen_in_both, seen_both}
+use Rattle.mst_facts.specs.Both.{seen_in_both, seen_both}
 use Rattle.mst_trees.proofs.Entries.{all_weaker}
 use Rattle.mst_trees.proofs.Lists.{all_there, filter_mapped, mapped_twice}
 use Rattle.mst_trees.proofs.Seen.{bridge_seen}

@@ -1,12 +1,13 @@
 ghost use Rattle.std.specs.Prelude.{◌≡◌, ℕ, List};
 ghost use Rattle.std.specs.HashSet.{contains};
 ghost use Rattle.mst_lag.specs.Aggregation.{same_name};
-ghost use Rattle.mst_diff.specs.Seen.{seen_both};
+ghost use Rattle.mst_facts.specs.Both.{seen_both};
 ghost use Rattle.mst_sweep.specs.Breaking.{IsCarriageOf};
 ghost use Rattle.mst_sweeping.specs.Seen.{seen_on, seen_stays};
 
 use indexmap::IndexSet;
-use mst_diff::{Both, Planned};
+use mst_diff::Planned;
+use mst_facts::Both;
 use mst_ids::Name;
 use mst_vlan::Carriage;
 

@@ -4,8 +4,8 @@ use Rattle.std.specs.List.{filter, filter_map}
 use Rattle.std.specs.Option.{option_and_then, option_map}
 use Rattle.mst_vlan.specs.Carried.{CarryAlike, ViewWithTrees}
 use Rattle.mst_classes.specs.Classes.{AreClasses}
-use Rattle.mst_diff.specs.Seen.{seen_both}
-use Rattle.mst_diff.specs.declared.both.Both.{Both}
+use Rattle.mst_facts.specs.Both.{seen_both}
+use Rattle.mst_facts.specs.declared.both.Both.{Both}
 use Rattle.mst_graph.specs.Islands.{AreIslands, AreJoined, Island}
 use Rattle.mst_graph.specs.Walks.{bridge_at}
 use Rattle.mst_graph.specs.declared.keys.Numbering.{Numbering}

@@ -1,10 +1,10 @@
 ghost use Rattle.std.specs.Prelude.{◌≡◌, filter};
-ghost use Rattle.mst_diff.specs.Seen.{seen_both};
+ghost use Rattle.mst_facts.specs.Both.{seen_both};
 ghost use Rattle.mst_verify.specs.Named.{is_named};
 
 use crate::judged::Judged;
 use crate::prior::Prior;
-use mst_diff::Both;
+use mst_facts::Both;
 use mst_policy::NameList;
 
 /// The network that is judged and the one that is prior to it, with the bridges of some names that both have.

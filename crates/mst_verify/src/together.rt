@@ -1,5 +1,5 @@
 ghost use Rattle.std.specs.Prelude.{◌≡◌, ◌+◌, ◌<◌, IfOk, MatchOption, Some, false, filter, filter_map, length, map, slice_index, slice_index_or, true, vec_len, ⊤};
-ghost use Rattle.mst_diff.specs.Seen.{seen_both};
+ghost use Rattle.mst_facts.specs.Both.{seen_both};
 ghost use Rattle.mst_trees.specs.Settled.{outcome_of};
 ghost use Rattle.mst_sweep.specs.Cuts.{names_of};
 ghost use Rattle.mst_sweep.specs.Parts.{all_parts as all_parts_of};
@@ -18,7 +18,7 @@ use crate::prior::Prior;
 use crate::reason::Reason;
 use crate::vids::classes_asked;
 use indexmap::IndexMap;
-use mst_diff::{Both, bridges_of_both};
+use mst_facts::{Both, bridges_of_both};
 use mst_ids::{BridgeNo, Name, Vid, VidSet};
 use mst_policy::NameList;
 use mst_sweep::{all_parts, homes_by, staying};

@@ -1,7 +1,8 @@
 use Rattle.std.proofs.Common.{sym, ap, subst, ◌∙◌}
 use Rattle.std.specs.List.{AllByRecursion, flat_map}
 use Rattle.std.proofs.lemmas.Result.{IfOk-weaker}
-use Rattle.mst_diff.specs.Seen.{IsBoth, region_of}
+use Rattle.mst_facts.specs.Both.{IsBoth}
+use Rattle.mst_diff.specs.Seen.{region_of}
 use Rattle.mst_diff.proofs.Shared.{are_both, regions_named}
 use Rattle.mst_diff.proofs.regions.changed_regions.Goals as goal
 

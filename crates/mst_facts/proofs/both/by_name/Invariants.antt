@@ -1,6 +1,6 @@
 use Rattle.std.proofs.Common.{take}
-use Rattle.mst_diff.specs.Seen.{AreByName}
-use Rattle.mst_diff.proofs.both.by_name.Given as goal
+use Rattle.mst_facts.specs.Both.{AreByName}
+use Rattle.mst_facts.proofs.both.by_name.Given as goal
 
 -- the bridges so far
 abbrev pub invariant-loop-bridge : goal.invariant-loop-bridge

@@ -1,5 +1,5 @@
 ghost use Rattle.std.specs.Prelude.{◌≡◌, ◌++◌, IfOk, OnOk};
-ghost use Rattle.mst_diff.specs.Seen.{seen_both, seen_in_both, AreByName};
+ghost use Rattle.mst_facts.specs.Both.{seen_both, seen_in_both, AreByName};
 
 use indexmap::IndexMap;
 use mst_ids::Name;

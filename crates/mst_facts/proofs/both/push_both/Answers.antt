@@ -4,8 +4,8 @@ use Rattle.std.proofs.lemmas.Iterator.Consumers.{YieldsList-from_filter_map}
 use Rattle.std.proofs.lemmas.Iterator.{YieldsList-from_slice}
 use Rattle.std.proofs.lemmas.Result.{on_ok_weaker}
 use Rattle.std.specs.List.{filter_map}
-use Rattle.mst_diff.specs.Seen.{seen_in_both}
-use Rattle.mst_diff.proofs.both.push_both.Goals as goal
+use Rattle.mst_facts.specs.Both.{seen_in_both}
+use Rattle.mst_facts.proofs.both.push_both.Goals as goal
 
 pub returns : goal.returns
 returns c =

@@ -1,9 +1,9 @@
 use Rattle.std.proofs.Common.{ap, sym, ◌∙◌}
 use Rattle.std.specs.Map.{lookup}
 use Rattle.mst_lag.specs.Aggregation.{same_name}
-use Rattle.mst_diff.proofs.FirstNamed.{put, kept}
-use Rattle.mst_diff.proofs.both.by_name.Goals as goal
-use Rattle.mst_diff.proofs.both.by_name.Goals.{then-not-contains_key+in_ok-insert, else-not-contains_key}
+use Rattle.mst_facts.proofs.FirstNamed.{put, kept}
+use Rattle.mst_facts.proofs.both.by_name.Goals as goal
+use Rattle.mst_facts.proofs.both.by_name.Goals.{then-not-contains_key+in_ok-insert, else-not-contains_key}
 
 pub loop-bridge-preserved : goal.loop-bridge-preserved
 loop-bridge-preserved c = λ q.

@@ -8,7 +8,7 @@ use Rattle.std.proofs.lemmas.List.{take_more}
 use Rattle.std.proofs.lemmas.List.Folds.{find-append}
 use Rattle.mst_lag.specs.Aggregation.{same_name}
 use Rattle.mst_lag.specs.declared.in_view.BridgeInView.{BridgeInView}
-use Rattle.mst_diff.specs.Seen.{AreByName}
+use Rattle.mst_facts.specs.Both.{AreByName}
 
 -- what stands first, and then what may stand there
 abbrev with_one : Option BridgeInView → BridgeInView → Bool → Option BridgeInView
