@@ -7,7 +7,7 @@ use Rattle.mst_net.specs.ByTree.{by_tree}
 use Rattle.mst_net.specs.Tables.{Net}
 use Rattle.mst_trees.specs.InUse.{id_in}
 use Rattle.mst_trees.specs.Outcome.{Outcome}
-use Rattle.mst_verify.specs.diff.Roots.{root_of}
+use Rattle.mst_facts.specs.Roots.{root_of}
 use Rattle.mst_verify.specs.Roots.{concerned}
 use Rattle.mst_advise.specs.Costs.{port_named}
 use Rattle.mst_advise.specs.declared.goal.Goal.{Goal}

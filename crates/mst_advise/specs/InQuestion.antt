@@ -10,7 +10,7 @@ use Rattle.mst_trees.specs.Roles.{role_in}
 use Rattle.mst_trees.specs.declared.kind.Role.{Role}
 use Rattle.mst_trees.specs.Outcome.{Outcome}
 use Rattle.mst_explain.specs.Explained.{IsExplained}
-use Rattle.mst_verify.specs.diff.Roots.{each_once}
+use Rattle.mst_graph.specs.Lists.{each_once}
 use Rattle.mst_advise.specs.Contests.{contests_in, lost_by}
 use Rattle.mst_advise.specs.Costs.{against, contested, greatest_cost, least_cost}
 use Rattle.mst_advise.specs.PortPriorities.{port_priorities}

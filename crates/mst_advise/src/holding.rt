@@ -5,7 +5,7 @@ ghost use Rattle.mst_policy.specs.declared.expectation.Expectation.TheVariants a
 ghost use Rattle.mst_trees.specs.Roles.{role_in};
 ghost use Rattle.mst_net.specs.Tables.{Net};
 ghost use Rattle.mst_trees.specs.Settled.{outcome_of};
-ghost use Rattle.mst_verify.specs.diff.Reach.{has_any};
+ghost use Rattle.mst_graph.specs.Lists.{has_any};
 ghost use Rattle.mst_verify.specs.Holds.{Holds, is_wanted};
 ghost use Rattle.mst_verify.specs.Islands.{AreKept};
 ghost use Rattle.mst_verify.specs.Over.{HasItsLan};

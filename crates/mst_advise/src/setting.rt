@@ -1,6 +1,6 @@
 ghost use Rattle.std.specs.Prelude.{◌≡◌, IfOk, OnOk};
 ghost use Rattle.std.specs.List.{list_any};
-ghost use Rattle.mst_verify.specs.diff.Roots.{each_once, with_new};
+ghost use Rattle.mst_graph.specs.Lists.{each_once, with_new};
 ghost use Rattle.mst_advise.specs.Settings.{edit_of as its_edit, same_setting};
 
 use mst_ids::{Cost, Name, PortName, Priority, Tree};

@@ -19,7 +19,7 @@ use Rattle.mst_trees.specs.InUse.{id_in}
 use Rattle.mst_trees.specs.Outcome.{Outcome, IsOutcome}
 use Rattle.mst_trees.proofs.Lists.{all_contained, some_is}
 use Rattle.mst_trees.proofs.Views.{bridges_are, same_mac}
-use Rattle.mst_diff.specs.Roots.{named_by, root_of}
+use Rattle.mst_facts.specs.Roots.{named_by, root_of}
 use Rattle.mst_advise.specs.verify.Holds.{IsOneRoot}
 use Rattle.mst_advise.specs.verify.Roots.{concerned, identifier, is_concerned}
 use Rattle.mst_advise.proofs.verify_lemmas.Keys.{key_there}

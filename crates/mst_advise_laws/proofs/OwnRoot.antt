@@ -28,7 +28,7 @@ use Rattle.mst_trees.proofs.Lists.{kept_in, no_some}
 use Rattle.mst_trees.proofs.MstiTopology.{msti_is_sight}
 use Rattle.mst_trees.proofs.Sights.{bridge_from, changed_from}
 use Rattle.mst_trees.proofs.Views.{entry_there}
-use Rattle.mst_diff.specs.Roots.{root_of}
+use Rattle.mst_facts.specs.Roots.{root_of}
 
 -- ---- orders
 first_upto : (a b : ℕ) (xs ys : List ℕ) → is_gt (slice_cmp nat_cmp (a ∷ xs) (b ∷ ys)) ≡ false → a ≤ b

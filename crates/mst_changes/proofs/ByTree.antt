@@ -18,13 +18,16 @@ use Rattle.mst_changes.specs.declared.value.VectorOrRole.{VectorOrRole}
 use Rattle.mst_changes.specs.declared.value.VectorOrRole.TheVariants.{HasRole}
 use Rattle.mst_changes.specs.declared.subject.Entry.{Entry}
 use Rattle.mst_changes.specs.declared.kept.TreeEntries.{TreeEntries}
-use Rattle.mst_changes.specs.Subjects.{subjects_in, bridge_names, port_names}
+use Rattle.mst_changes.specs.Subjects.{subjects_in}
+use Rattle.mst_lag.specs.View.{bridge_names, port_names}
 use Rattle.mst_changes.specs.Values.{value_at}
 use Rattle.mst_changes.specs.Kept.{entry_at, entries_at, entries_of}
 use Rattle.mst_changes.specs.Stored.{bridge_entry, port_entry, kept_in}
-use Rattle.mst_changes.proofs.Lists.{all_append, filter_all, filter_none}
+use Rattle.mst_trees.proofs.Pieces.{all_append}
+use Rattle.mst_changes.proofs.Lists.{filter_all, filter_none}
 use Rattle.mst_changes.proofs.Changed.{entries_in_trees}
-use Rattle.mst_changes.proofs.Orders.{all_in, trees_are}
+use Rattle.mst_changes.proofs.Orders.{all_in}
+use Rattle.mst_trees.proofs.AllTrees.{trees_are}
 
 abbrev pub is_of : ℕ → Entry → Bool
 is_of tree entry = entry.tree == tree

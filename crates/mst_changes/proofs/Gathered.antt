@@ -10,7 +10,7 @@ use Rattle.mst_ids.specs.declared.name.PortName.{PortName}
 use Rattle.mst_trees.specs.settle.Assignment.{vector_of}
 use Rattle.mst_net.specs.Tables.{Net, Numbers, BridgeRow}
 use Rattle.mst_lag.specs.Trees.{is_among}
-use Rattle.mst_lag.specs.View.{LogicalPort, view_ports}
+use Rattle.mst_lag.specs.View.{LogicalPort, view_ports, bridge_names, port_names}
 use Rattle.mst_lag.specs.Viewed.{Viewed, named_bridge, named_port}
 use Rattle.mst_lag.specs.declared.in_view.BridgeInView.{BridgeInView}
 use Rattle.mst_lag.specs.declared.in_view.PortInView.{PortInView}
@@ -32,16 +32,18 @@ use Rattle.mst_changes.specs.declared.subject.Subject.{Subject}
 use Rattle.mst_changes.specs.declared.value.VectorOrRole.{VectorOrRole}
 use Rattle.mst_changes.specs.declared.value.VectorOrRole.TheVariants.{InCist, InMsti, HasRole}
 use Rattle.mst_changes.specs.declared.subject.Entry.{Entry}
-use Rattle.mst_changes.specs.Subjects.{all_trees, port_in, subjects_in, bridge_names, port_names}
+use Rattle.mst_trees.specs.AllTrees.{all_trees}
+use Rattle.mst_changes.specs.Subjects.{port_in, subjects_in}
 use Rattle.mst_changes.specs.Values.{vector_in, value_at}
 use Rattle.mst_changes.specs.Kept.{entries_at}
 use Rattle.mst_changes.specs.Seen.{seen_vector, seen_bridge_entry, seen_port_entry}
 use Rattle.mst_changes.specs.Stored.{bridge_entry, port_entry, kept_in}
 use Rattle.mst_changes.specs.declared.kept.TreeEntries.{TreeEntries}
-use Rattle.mst_changes.proofs.Lists.{filter_map-map, filter_map-zip}
+use Rattle.mst_trees.proofs.Pieces.{filter_map-map}
+use Rattle.mst_changes.proofs.Lists.{filter_map-zip}
 use Rattle.mst_changes.proofs.Changed.{bridge_at, port_at, entries_in}
-use Rattle.mst_changes.proofs.Orders.{trees_are}
-use Rattle.mst_changes.proofs.InUse.{unused}
+use Rattle.mst_trees.proofs.AllTrees.{trees_are}
+use Rattle.mst_trees.proofs.NotInUse.{unused}
 
 -- what is kept of one more
 pub kept_more : {A B : Type 0} (h : A → Option B) (xs : List A) (i : ℕ) (x : A) → i < length xs → x ≡ get_or xs i x → (before now : List B) → now ≡ before ++ filter_map h (take i xs)

@@ -1,13 +1,9 @@
 -- Lists in pieces.
 use Rattle.std.proofs.Common.{◌≡◌, Bool, true, false, cond, List, [], ◌∷◌, ◌++◌, map, Option, None, refl, sym, ap, ◌∙◌}
 use Rattle.std.specs.List.{AllByRecursion, filter, filter_map, flat_map, cons_option, zip}
-use Rattle.std.proofs.lemmas.Grind.{flat_map-append}
 use Rattle.std.proofs.lemmas.List.Elements.{filter_map-append}
 use Rattle.mst_trees.specs.Apart.{Apart}
-
-pub all_append : {A : Type 0} (P : A → Type 0) (xs ys : List A) → AllByRecursion P xs → AllByRecursion P ys → AllByRecursion P (xs ++ ys)
-all_append P [] ys h k = k
-all_append P (x ∷ xs) ys h k = (h.0, all_append P xs ys h.1 k)
+use Rattle.mst_trees.proofs.Pieces.{all_append}
 
 pub apart_append : {A : Type 0} (R : A → A → Type 0) (xs ys : List A) → Apart R xs → Apart R ys → AllByRecursion (λ x. AllByRecursion (R x) ys) xs → Apart R (xs ++ ys)
 apart_append R [] ys h k both = k
@@ -18,10 +14,6 @@ pub filter_map-flat_map : {A B C : Type 0} (h : B → Option C) (f : A → List 
 filter_map-flat_map h f [] = refl
 filter_map-flat_map h f (x ∷ xs) = filter_map-append h (f x) (flat_map f xs) ∙ ap (λ l. filter_map h (f x) ++ l) (filter_map-flat_map h f xs)
 
-pub filter_map-map : {A B C : Type 0} (h : B → Option C) (f : A → B) (xs : List A) → filter_map h (map f xs) ≡ filter_map (λ x. h (f x)) xs
-filter_map-map h f [] = refl
-filter_map-map h f (x ∷ xs) = ap (cons_option (h (f x))) (filter_map-map h f xs)
-
 -- a test that only passes over what isn't kept
 pub kept_passing : {A B : Type 0} (h : A → Option B) (test : A → Bool) → ((x : A) → test x ≡ false → h x ≡ None) → (xs : List A) → filter_map h (filter test xs) ≡ filter_map h xs
 kept_passing h test none [] = refl
@@ -30,10 +22,6 @@ kept_passing {A} {B} h test none (x ∷ xs) = go (test x) refl (kept_passing h t
     go : (b : Bool) → test x ≡ b → filter_map h (filter test xs) ≡ filter_map h xs → filter_map h (cond b (x ∷ filter test xs) (filter test xs)) ≡ cons_option (h x) (filter_map h xs)
     go true e rest = ap (cons_option (h x)) rest
     go false e rest = rest ∙ sym (ap (λ o. cons_option o (filter_map h xs)) (none x e))
-
-pub flat_map-flat_map : {A B C : Type 0} (h : B → List C) (f : A → List B) (xs : List A) → flat_map h (flat_map f xs) ≡ flat_map (λ x. flat_map h (f x)) xs
-flat_map-flat_map h f [] = refl
-flat_map-flat_map h f (x ∷ xs) = flat_map-append h (f x) (flat_map f xs) ∙ ap (λ l. flat_map h (f x) ++ l) (flat_map-flat_map h f xs)
 
 -- what is kept of two lists that are made of one
 pub filter_map-zip : {A B C D : Type 0} (h : B × C → Option D) (f : A → B) (g : A → C) (xs : List A) → filter_map h (zip (map f xs) (map g xs)) ≡ filter_map (λ x. h (f x, g x)) xs

@@ -13,7 +13,8 @@ use Rattle.mst_trees.specs.Apart.{Apart}
 use Rattle.mst_trees.proofs.Entries.{entries_apart}
 use Rattle.mst_trees.proofs.Lists.{apart_mapped}
 use Rattle.mst_changes.specs.Subjects.{names_of_either}
-use Rattle.mst_changes.proofs.Lists.{filter_map-map, kept_passing}
+use Rattle.mst_trees.proofs.Pieces.{filter_map-map}
+use Rattle.mst_changes.proofs.Lists.{kept_passing}
 
 tied : (o : Ordering) → is_eq o ≡ true → o ≡ Equal
 tied Less e = absurd (true≢false (sym e))

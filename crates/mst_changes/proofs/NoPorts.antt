@@ -8,12 +8,13 @@ use Rattle.mst_trees.specs.Settled.{SettledNet, outcome_of, IsSettledNet}
 use Rattle.mst_trees.proofs.SettledNet.{forest_of}
 use Rattle.mst_changes.specs.declared.subject.Subject.{Subject}
 use Rattle.mst_changes.specs.declared.value.VectorOrRole.{VectorOrRole}
-use Rattle.mst_changes.specs.Subjects.{port_in, names_of_either, port_names}
+use Rattle.mst_changes.specs.Subjects.{port_in, names_of_either}
+use Rattle.mst_lag.specs.View.{port_names}
 use Rattle.mst_changes.specs.PortChanges.{port_change_rows}
 use Rattle.mst_changes.specs.Values.{value_at}
 use Rattle.mst_changes.specs.ChangesText.{change_rows}
 use Rattle.mst_changes.proofs.Gathered.{no_value_there}
-use Rattle.mst_changes.proofs.InUse.{unused_by}
+use Rattle.mst_trees.proofs.NotInUse.{unused_by}
 
 none_changed : (x y : Subject → Option VectorOrRole) (tree : ℕ) → ((name : PortName) → x (port_in tree name) ≡ None) → ((name : PortName) → y (port_in tree name) ≡ None) → (names : List PortName)
     → flat_map (λ subject. change_rows subject (x subject) (y subject)) (map (port_in tree) names) ≡ []

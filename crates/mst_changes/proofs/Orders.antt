@@ -13,9 +13,12 @@ use Rattle.mst_trees.proofs.Views.{ports_total}
 use Rattle.mst_changes.specs.declared.subject.Item.{Item}
 use Rattle.mst_changes.specs.declared.subject.Item.TheVariants.{Bridge, Port}
 use Rattle.mst_changes.specs.declared.subject.Subject.{Subject}
-use Rattle.mst_changes.specs.Subjects.{all_trees, bridge_in, port_in, subjects_in, subjects, item_cmp, subject_cmp}
+use Rattle.mst_trees.specs.AllTrees.{all_trees}
+use Rattle.mst_changes.specs.Subjects.{bridge_in, port_in, subjects_in, subjects, item_cmp, subject_cmp}
 use Rattle.mst_changes.specs.Merging.{Rise}
-use Rattle.mst_changes.proofs.Lists.{all_append, apart_append}
+use Rattle.mst_trees.proofs.Pieces.{all_append}
+use Rattle.mst_changes.proofs.Lists.{apart_append}
+use Rattle.mst_trees.proofs.AllTrees.{trees_are}
 
 item_turned : (a b : Item) → item_cmp a b ≡ ordering_reverse (item_cmp b a)
 item_turned (Bridge a) (Bridge b) = nat_list_cmp_total.antisymm a b
@@ -42,9 +45,7 @@ in_one tree a b l = ap (λ o. ordering_then o (item_cmp a b)) (tied_itself nat_c
 by_trees : (a b : Subject) → a.tree < b.tree → subject_cmp a b ≡ Less
 by_trees a b l = ap (λ o. ordering_then o (item_cmp a.item b.item)) (sym (nat_cmp_is a.tree b.tree Less l))
 
-pub trees_are : range_with_len 0 4095 ≡ all_trees
 unfolding all_trees
-trees_are = refl
 
 module _ (bridges : List (List ℕ)) (ports : List PortName) where
   pub all_in : (tree : ℕ) → AllByRecursion (λ (p : Subject). p.tree ≡ tree) (subjects_in bridges ports tree)

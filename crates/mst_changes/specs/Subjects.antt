@@ -1,6 +1,6 @@
 -- Subjects: the bridges and the logical ports in each tree.
 use Rattle.std.specs.Prelude.{ℕ, List, map, ◌++◌}
-use Rattle.std.specs.List.{flat_map, range_with_len}
+use Rattle.std.specs.List.{flat_map}
 use Rattle.std.specs.Ordering.{nat_cmp, ordering_then}
 use Rattle.std.specs.declared.cmp.Ordering.{Ordering}
 use Rattle.std.specs.declared.cmp.Ordering.TheVariants.{Less, Greater}
@@ -8,15 +8,12 @@ use Rattle.std.specs.FinMap as fin
 use Rattle.mst_ids.specs.Names.{name_cmp, port_cmp}
 use Rattle.mst_ids.specs.declared.name.PortName.{PortName}
 use Rattle.mst_net.specs.Tables.{Net}
-use Rattle.mst_lag.specs.View.{view_ports}
 use Rattle.mst_changes.specs.declared.subject.Item.{Item}
 use Rattle.mst_changes.specs.declared.subject.Item.TheVariants.{Bridge, Port}
 use Rattle.mst_changes.specs.declared.subject.Subject.{Subject}
 use Rattle.mst_changes.specs.declared.subject.Entry.{Entry}
-
--- the trees 0 to 4094
-unfoldable pub all_trees : List ℕ
-all_trees = range_with_len 0 4095
+use Rattle.mst_trees.specs.AllTrees.{all_trees}
+use Rattle.mst_lag.specs.View.{bridge_names, port_names}
 
 abbrev pub bridge_in : ℕ → List ℕ → Subject
 bridge_in tree name = record { tree = tree; item = Bridge name }
@@ -35,13 +32,6 @@ subjects_in bridges ports tree = map (bridge_in tree) bridges ++ map (port_in tr
 -- in each tree, rising
 abbrev pub subjects : List (List ℕ) → List PortName → List Subject
 subjects bridges ports = flat_map (subjects_in bridges ports) all_trees
-
--- the names of a network's bridges, in byte order, and of its logical ports, by bridge and number
-abbrev pub bridge_names : Net → List (List ℕ)
-bridge_names net = fin.keys net.bridges
-
-abbrev pub port_names : Net → List PortName
-port_names net = map (λ p. p.name) (view_ports net)
 
 -- the names that stand in either list, each once, in this order
 abbrev pub names_of_either : {K : Type 0} → (K → K → Ordering) → List K → List K → List K

@@ -5,7 +5,8 @@ use Rattle.mst_rows.specs.Rows.{Row}
 use Rattle.mst_net.specs.Tables.{Net}
 use Rattle.mst_trees.specs.Outcome.{Outcome}
 use Rattle.mst_changes.specs.declared.subject.Subject.{Subject}
-use Rattle.mst_changes.specs.Subjects.{names_of_either, bridge_names, port_names, subjects_in}
+use Rattle.mst_changes.specs.Subjects.{names_of_either, subjects_in}
+use Rattle.mst_lag.specs.View.{bridge_names, port_names}
 use Rattle.mst_changes.specs.Values.{value_at}
 use Rattle.mst_changes.specs.ChangesText.{rows_at}
 

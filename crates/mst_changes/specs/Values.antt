@@ -8,13 +8,12 @@ use Rattle.mst_net.specs.Tables.{Net}
 use Rattle.mst_trees.specs.Msti.{has_msti}
 use Rattle.mst_trees.specs.Outcome.{Outcome}
 use Rattle.mst_trees.specs.Roles.{role_of}
-use Rattle.mst_trees.specs.declared.kind.Role.{Role}
-use Rattle.mst_trees.specs.declared.kind.Role.TheVariants.{Root, Designated, Alternate, Backup, Master, Disabled}
 use Rattle.mst_changes.specs.declared.subject.Item.{Item}
 use Rattle.mst_changes.specs.declared.subject.Item.TheVariants.{Bridge, Port}
 use Rattle.mst_changes.specs.declared.subject.Subject.{Subject}
 use Rattle.mst_changes.specs.declared.value.VectorOrRole.{VectorOrRole}
 use Rattle.mst_changes.specs.declared.value.VectorOrRole.TheVariants.{InCist, InMsti, HasRole}
+use Rattle.mst_trees.specs.RoleNumbers.{role_number}
 
 -- of a bridge in a tree, where it is there and has the tree. One that is off has no vector
 abbrev pub vector_in : Net → Outcome → ℕ → List ℕ → Option VectorOrRole
@@ -38,15 +37,6 @@ same_cist v w =
 
 abbrev pub same_msti : MstiVector → MstiVector → Bool
 same_msti v w = v.regional == w.regional && v.internal == w.internal && v.designated == w.designated && v.port == w.port && v.receiver == w.receiver
-
--- which of the roles one is
-abbrev pub role_number : Role → ℕ
-role_number Root = 0
-role_number Designated = 1
-role_number Alternate = 2
-role_number Backup = 3
-role_number Master = 4
-role_number Disabled = 5
 
 abbrev pub same_value : VectorOrRole → VectorOrRole → Bool
 same_value (InCist v) (InCist w) = same_cist v w

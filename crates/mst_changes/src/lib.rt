@@ -17,5 +17,5 @@ mod value;
 
 pub use changes::put_changes;
 pub use entries::Entries;
-pub use ports::{Planned, put_port_changes};
+pub use ports::put_port_changes;
 pub use subject::Entry;

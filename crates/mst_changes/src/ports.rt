@@ -6,17 +6,9 @@ ghost use Rattle.mst_changes.specs.PortChanges.{counted, port_change_rows};
 use crate::merge::put_merged;
 use crate::rows::push_ports;
 use mst_ids::Tree;
-use mst_lag::View;
 use mst_rows::Rows;
-use mst_trees::{Forest, Settled};
+use mst_trees::Settled;
 use std::alloc::{AllocError, Global};
-
-/// A network's view and its settled trees.
-#[derive(Clone, Copy)]
-pub struct Planned<'a> {
-    pub view: &'a View,
-    pub forest: &'a Forest,
-}
 
 /// Puts the rows of the logical ports of either of two settled networks whose roles in a tree differ, by bridge and
 /// number: those that the changes have of ports in that tree. It answers how many they are, to the greatest number of 64

@@ -3,3 +3,4 @@ pub mod Alike
 pub mod Classes
 pub mod Pairs
 pub mod Splitting
+pub mod Flags

@@ -6,7 +6,9 @@ mod all;
 mod by_table;
 mod classes;
 mod distinct;
+mod flagged_vids;
 mod splitting;
 
 pub use all::{set_of, vids};
 pub use classes::{classes_by_tables, classes_of_both, classes_of_vids};
+pub use flagged_vids::flagged;

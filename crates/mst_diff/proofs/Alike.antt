@@ -15,7 +15,9 @@ use Rattle.mst_vlan.proofs.trees_lemmas.Lists.{all_kept, all_there, some_is, no_
 use Rattle.mst_graph.proofs.Members.{here, in_whole, filter_none}
 use Rattle.mst_classes.specs.AllVids.{all_vids}
 use Rattle.mst_classes.proofs.VidPlaces.{is_vid_there}
-use Rattle.mst_changes.specs.Subjects.{all_trees, bridge_names, port_in, port_names, names_of_either}
+use Rattle.mst_trees.specs.AllTrees.{all_trees}
+use Rattle.mst_lag.specs.View.{bridge_names, port_names}
+use Rattle.mst_changes.specs.Subjects.{port_in, names_of_either}
 use Rattle.mst_changes.specs.PortChanges.{counted, port_change_rows}
 use Rattle.mst_changes.specs.Values.{value_at}
 use Rattle.mst_changes.proofs.Same.{none_at}
@@ -23,14 +25,17 @@ use Rattle.mst_ids.specs.Names.{port_cmp}
 use Rattle.mst_net.proofs.Keys.{names}
 use Rattle.mst_rows.specs.Rows.{Row}
 use Rattle.mst_diff.specs.declared.roots.RootPair.{RootPair}
-use Rattle.mst_diff.specs.Regions.{same_told, region_row, region_unless, region_change, region_changes}
-use Rattle.mst_diff.specs.Roots.{root_name, paired, root_pair, same_pair, root_row, root_unless, with_new, each_once, tree_roots, root_changes}
+use Rattle.mst_facts.specs.Told.{same_told}
+use Rattle.mst_diff.specs.Regions.{region_row, region_unless, region_change, region_changes}
+use Rattle.mst_facts.specs.Roots.{root_name}
+use Rattle.mst_diff.specs.Roots.{paired, root_pair, same_pair, root_row, root_unless, tree_roots, root_changes}
+use Rattle.mst_graph.specs.Lists.{with_new, each_once}
 use Rattle.mst_diff.specs.Ports.{port_rows}
 use Rattle.mst_diff.specs.declared.diff.Differing.{Differing}
 use Rattle.mst_diff.specs.Reach.{island_bridges, same_names, without, sides_of, differ, reach_unless, group_rows}
 use Rattle.mst_diff.specs.DiffText.{diff_row, AreDiffRowsOf}
-use Rattle.mst_diff.proofs.OneDiff.{OneList}
-use Rattle.mst_diff.proofs.Lists.{flat_map-none}
+use Rattle.mst_vlan.proofs.OneList.{OneList}
+use Rattle.mst_facts.proofs.Lists.{flat_map-none}
 use Rattle.mst_diff.proofs.SameSides.{names_decide}
 
 name_itself : (name : List ℕ) → same_name name name ≡ true

@@ -19,7 +19,7 @@ use Rattle.mst_net.specs.Tables.{Net, BridgeRow, port_eq}
 use Rattle.mst_net.proofs.Keyed.{flipped}
 use Rattle.mst_net.proofs.Keys.{names, ports}
 use Rattle.mst_lag.specs.Aggregation.{same_name}
-use Rattle.mst_lag.specs.View.{LogicalPort, view_ports}
+use Rattle.mst_lag.specs.View.{LogicalPort, view_ports, bridge_names, port_names}
 use Rattle.mst_config.specs.Regions.{first_of_region}
 use Rattle.mst_vlan.specs.trees.Outcome.{Outcome}
 use Rattle.mst_vlan.proofs.trees_lemmas.Entries.{all_weaker, entries_found}
@@ -32,24 +32,29 @@ use Rattle.mst_classes.specs.AllVids.{all_vids}
 use Rattle.mst_classes.proofs.VidPlaces.{place_of_vid}
 use Rattle.mst_classes.proofs.VidPlaces.{is_vid_there}
 use Rattle.mst_changes.specs.declared.value.VectorOrRole.TheVariants.{HasRole}
-use Rattle.mst_changes.specs.Subjects.{all_trees, bridge_names, port_in, port_names, names_of_either}
+use Rattle.mst_trees.specs.AllTrees.{all_trees}
+use Rattle.mst_changes.specs.Subjects.{port_in, names_of_either}
 use Rattle.mst_changes.specs.PortChanges.{counted, port_change_rows}
-use Rattle.mst_changes.specs.Values.{value_at, role_number, same_side}
+use Rattle.mst_changes.specs.Values.{value_at, same_side}
+use Rattle.mst_trees.specs.RoleNumbers.{role_number}
 use Rattle.mst_changes.specs.ChangesText.{item_row, change_rows}
 use Rattle.mst_rows.specs.Rows.{Row}
 use Rattle.mst_diff.specs.declared.diff.Differing.{Differing}
 use Rattle.mst_diff.specs.declared.roots.RootPair.{RootPair}
-use Rattle.mst_diff.specs.Regions.{same_told, region_row, region_unless, region_change, region_changes}
-use Rattle.mst_diff.specs.Roots.{root_name, paired, root_pair, same_pair, root_row, root_unless, with_new, each_once, tree_roots, root_changes}
+use Rattle.mst_facts.specs.Told.{same_told}
+use Rattle.mst_diff.specs.Regions.{region_row, region_unless, region_change, region_changes}
+use Rattle.mst_facts.specs.Roots.{root_name}
+use Rattle.mst_diff.specs.Roots.{paired, root_pair, same_pair, root_row, root_unless, tree_roots, root_changes}
+use Rattle.mst_graph.specs.Lists.{with_new, each_once, has_any}
 use Rattle.mst_diff.specs.Ports.{port_rows}
-use Rattle.mst_diff.specs.Reach.{has_any, island_bridges, same_names, without, sides_of, differ}
+use Rattle.mst_diff.specs.Reach.{island_bridges, same_names, without, sides_of, differ}
 use Rattle.mst_diff.specs.DiffText.{diff_row, AreDiffRowsOf}
 use Rattle.mst_diff.specs.AlikeNets.{AreAlike}
 use Rattle.mst_diff.proofs.Alike.{each_none, once_all, any_name, none_apart}
 use Rattle.mst_diff.proofs.LastLine.{no_counts, no_more, each_is_none, differs, in_count, alone, no_island, second, third, none_alike}
-use Rattle.mst_diff.proofs.Lists.{flat_map-none}
-use Rattle.mst_diff.proofs.Named.{no_root}
-use Rattle.mst_diff.proofs.OneDiff.{OneList}
+use Rattle.mst_facts.proofs.Lists.{flat_map-none}
+use Rattle.mst_facts.proofs.Named.{no_root}
+use Rattle.mst_vlan.proofs.OneList.{OneList}
 use Rattle.mst_diff.proofs.SameSides.{names_decide}
 use Rattle.mst_diff.proofs.Turned.{tied, found_twice}
 

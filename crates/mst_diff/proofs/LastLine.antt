@@ -19,7 +19,8 @@ use Rattle.mst_diff.specs.Regions.{region_changes}
 use Rattle.mst_diff.specs.Roots.{root_changes}
 use Rattle.mst_changes.specs.PortChanges.{counted}
 use Rattle.mst_diff.specs.Ports.{port_rows}
-use Rattle.mst_diff.specs.Reach.{has_any, Sides, differ, reach_row, reach_unless, group_rows}
+use Rattle.mst_graph.specs.Lists.{has_any}
+use Rattle.mst_diff.specs.Reach.{Sides, differ, reach_row, reach_unless, group_rows}
 use Rattle.mst_diff.specs.DiffText.{diff_row, AreDiffRowsOf}
 use Rattle.mst_diff.proofs.Alike.{each_none}
 

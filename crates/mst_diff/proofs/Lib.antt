@@ -1,6 +1,3 @@
-pub use Rattle.mst_changes.proofs as changes_lemmas
-pub mod Lists
-pub mod Named
 pub mod Shared
 pub mod Once
 pub mod NamedSides

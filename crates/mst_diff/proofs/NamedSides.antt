@@ -20,7 +20,8 @@ use Rattle.mst_vlan.proofs.Renumbered.{bridge_listed}
 use Rattle.mst_vlan.specs.Seen.{seen_bridge}
 use Rattle.mst_vlan.proofs.ByNumber.{by_number}
 use Rattle.mst_vlan.proofs.NamedInView.{bridge_named}
-use Rattle.mst_diff.specs.Reach.{has_any, island_bridges, same_names, without}
+use Rattle.mst_graph.specs.Lists.{has_any}
+use Rattle.mst_diff.specs.Reach.{island_bridges, same_names, without}
 use Rattle.mst_diff.specs.Seen.{seen_groups, one_group, apart_group}
 
 -- ---- those that aren't among others

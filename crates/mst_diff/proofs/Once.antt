@@ -5,7 +5,8 @@ use Rattle.std.proofs.lemmas.List.{take_more, append-nil}
 use Rattle.std.proofs.lemmas.List.Elements.{filter_map-append}
 use Rattle.std.proofs.lemmas.List.Sums.{fold-append}
 use Rattle.mst_diff.specs.declared.roots.RootPair.{RootPair}
-use Rattle.mst_diff.specs.Roots.{same_pair, with_new, each_once}
+use Rattle.mst_diff.specs.Roots.{same_pair}
+use Rattle.mst_graph.specs.Lists.{with_new, each_once}
 use Rattle.mst_diff.specs.Seen.{with_pair}
 
 module _ {A B : Type 0} (same : B → B → Bool) (h : A → Option B) (xs : List A) (i : ℕ) (x : A) (l : i < length xs) (is : x ≡ get_or xs i x) where

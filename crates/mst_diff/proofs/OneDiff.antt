@@ -23,12 +23,9 @@ use Rattle.mst_changes.specs.PortChanges.{counted}
 use Rattle.mst_diff.specs.Ports.{port_rows}
 use Rattle.mst_diff.specs.Reach.{island_bridges, Sides, sides_of, differ, AreSides, reach_unless, group_rows, AreReachRows}
 use Rattle.mst_diff.specs.DiffText.{diff_row, AreDiffRowsOf}
-use Rattle.mst_diff.proofs.Lists.{flat_map-same}
+use Rattle.mst_facts.proofs.Lists.{flat_map-same}
 use Rattle.mst_diff.proofs.SameSides.{same_sides, sides_decide, sides_equivalence}
-
--- there is one list of the islands of a VID
-abbrev pub OneList : Type 0
-OneList = (net : Net) (o : Outcome) (vid : ℕ) (islands others : List (Island (List ℕ) (List ℕ))) → AreIslandsOf net o vid islands → AreIslandsOf net o vid others → islands ≡ others
+use Rattle.mst_vlan.proofs.OneList.{OneList}
 
 each_rows : (f g : List ℕ → List Row) (xs : List (List ℕ)) → ((x : List ℕ) → Contains xs x → f x ≡ g x) → flat_map f xs ≡ flat_map g xs
 each_rows f g xs h = flat_map-same f g xs (all_weaker (Contains xs) (λ x. f x ≡ g x) h xs (all_there xs))

@@ -17,7 +17,7 @@ use Rattle.mst_rows.specs.Cells as cells
 use Rattle.mst_rows.specs.Rows.{Row}
 use Rattle.mst_diff.specs.Reach.{Sides, differ, reach_row, reach_unless, group_rows, AreReachRows}
 use Rattle.mst_diff.specs.Turned.{AreTurned, turned_sides}
-use Rattle.mst_diff.proofs.OneDiff.{OneList}
+use Rattle.mst_vlan.proofs.OneList.{OneList}
 use Rattle.mst_diff.proofs.SameSides.{same_sides, sides_decide}
 use Rattle.mst_diff.proofs.Turned.{any_turned, nothing_turned, turned_append, sides_turned}
 

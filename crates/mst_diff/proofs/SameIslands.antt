@@ -24,9 +24,9 @@ use Rattle.mst_vlan.specs.trees.SeenRoles.{seen_forwards}
 use Rattle.mst_vlan.specs.Active.{active_ports}
 use Rattle.mst_vlan.specs.Reach.{AreIslandsOf, bridges_on, is_member, lans_up, link_of, vid_links}
 use Rattle.mst_vlan.specs.Seen.{seen_active, seen_member}
-use Rattle.mst_vlan.specs.Carried.{CarryAlike, names_of, seen_carried}
+use Rattle.mst_vlan.specs.Carried.{CarryAlike, names_of, seen_carried, with_trees}
 use Rattle.mst_diff.specs.Reach.{island_bridges, no_sides}
-use Rattle.mst_diff.specs.Seen.{with_trees, seen_names_on, seen_names_up, AreSidesOf, HaveSameEnds}
+use Rattle.mst_diff.specs.Seen.{seen_names_on, seen_names_up, AreSidesOf, HaveSameEnds}
 use Rattle.mst_diff.proofs.Alike.{no_sides as none_between}
 
 -- a port that links its bridge and its LAN

@@ -16,18 +16,20 @@ use Rattle.mst_vlan.specs.trees.InUse.{is_in_use}
 use Rattle.mst_vlan.specs.trees.Settled.{SettledNet, outcome_of, IsSettledNet}
 use Rattle.mst_vlan.proofs.trees_lemmas.Entries.{all_weaker}
 use Rattle.mst_vlan.proofs.trees_lemmas.Lists.{all_there, kept_same, no_some, some_is}
-use Rattle.mst_changes.specs.Subjects.{bridge_names}
-use Rattle.mst_changes.proofs.InUse.{unused, unused_by}
-use Rattle.mst_changes.proofs.Lists.{filter_map-map}
+use Rattle.mst_lag.specs.View.{bridge_names}
+use Rattle.mst_trees.proofs.NotInUse.{unused, unused_by}
+use Rattle.mst_trees.proofs.Pieces.{filter_map-map}
 use Rattle.mst_rows.specs.Rows.{Row}
 use Rattle.mst_facts.specs.declared.both.Both.{Both}
 use Rattle.mst_diff.specs.declared.roots.RootPair.{RootPair}
 use Rattle.mst_diff.specs.Regions.{region_unless, region_change, region_changes}
-use Rattle.mst_diff.specs.Roots.{root_name, paired, root_pair, same_pair, root_unless, each_once}
+use Rattle.mst_facts.specs.Roots.{root_name}
+use Rattle.mst_diff.specs.Roots.{paired, root_pair, same_pair, root_unless}
+use Rattle.mst_graph.specs.Lists.{each_once}
 use Rattle.mst_facts.specs.Both.{seen_in_both, seen_both, IsBoth}
 use Rattle.mst_diff.specs.Seen.{region_of, pair_of, roots_of}
-use Rattle.mst_diff.proofs.Lists.{flat_map-filter_map, filter_map-filter_map, filter_map-none, flat_map-same, find-found}
-use Rattle.mst_diff.proofs.Named.{found_named, names_are, no_root, no_root_in}
+use Rattle.mst_facts.proofs.Lists.{flat_map-filter_map, filter_map-filter_map, filter_map-none, flat_map-same, find-found}
+use Rattle.mst_facts.proofs.Named.{found_named, names_are, no_root, no_root_in}
 
 no_pair : (old : Option (List ℕ)) → paired old None ≡ None
 no_pair None = refl

@@ -28,9 +28,12 @@ use Rattle.mst_vlan.specs.trees.declared.kind.Role.{Role}
 use Rattle.mst_classes.specs.AllVids.{all_vids}
 use Rattle.mst_classes.proofs.VidPlaces.{is_vid_there}
 use Rattle.mst_changes.specs.declared.value.VectorOrRole.TheVariants.{HasRole}
-use Rattle.mst_changes.specs.Subjects.{all_trees, bridge_names, port_in, port_names, names_of_either}
+use Rattle.mst_trees.specs.AllTrees.{all_trees}
+use Rattle.mst_lag.specs.View.{bridge_names, port_names}
+use Rattle.mst_changes.specs.Subjects.{port_in, names_of_either}
 use Rattle.mst_changes.specs.PortChanges.{port_change_rows}
-use Rattle.mst_changes.specs.Values.{value_at, role_number, same_side}
+use Rattle.mst_changes.specs.Values.{value_at, same_side}
+use Rattle.mst_trees.specs.RoleNumbers.{role_number}
 use Rattle.mst_changes.specs.ChangesText.{role_cell, change_rows}
 use Rattle.mst_changes.proofs.Names.{kept_left, kept_right}
 use Rattle.mst_kinds.specs.declared.change_line.ChangeLine.TheVariants as change_line
@@ -39,15 +42,19 @@ use Rattle.mst_rows.specs.Cells as cells
 use Rattle.mst_rows.specs.Rows.{Row, region}
 use Rattle.mst_diff.specs.declared.diff.Differing.{Differing}
 use Rattle.mst_diff.specs.declared.roots.RootPair.{RootPair}
-use Rattle.mst_diff.specs.Regions.{same_told, configuration, region_unless, region_change, region_changes}
-use Rattle.mst_diff.specs.Roots.{root_name, paired, root_pair, same_pair, root_unless, with_new, each_once, tree_roots, root_changes}
+use Rattle.mst_facts.specs.Told.{same_told}
+use Rattle.mst_diff.specs.Regions.{configuration, region_unless, region_change, region_changes}
+use Rattle.mst_facts.specs.Roots.{root_name}
+use Rattle.mst_diff.specs.Roots.{paired, root_pair, same_pair, root_unless, tree_roots, root_changes}
+use Rattle.mst_graph.specs.Lists.{with_new, each_once, has_any}
 use Rattle.mst_diff.specs.Ports.{port_rows}
-use Rattle.mst_diff.specs.Reach.{has_any, island_bridges, Sides, sides_of, differ, AreSides, AreReachRows}
+use Rattle.mst_diff.specs.Reach.{island_bridges, Sides, sides_of, differ, AreSides, AreReachRows}
 use Rattle.mst_diff.specs.DiffText.{AreDiffRowsOf}
 use Rattle.mst_diff.specs.Turned.{Sided, sided_row, turned_row, AreTurned, turned_sides}
-use Rattle.mst_diff.proofs.Lists.{flat_map-filter_map, flat_map-same, list_any-map}
-use Rattle.mst_diff.proofs.Named.{no_root}
-use Rattle.mst_diff.proofs.OneDiff.{OneList, each_count}
+use Rattle.mst_facts.proofs.Lists.{flat_map-filter_map, flat_map-same, list_any-map}
+use Rattle.mst_facts.proofs.Named.{no_root}
+use Rattle.mst_vlan.proofs.OneList.{OneList}
+use Rattle.mst_diff.proofs.OneDiff.{each_count}
 
 -- ---- rows that are turned
 -- they are as many

@@ -10,8 +10,8 @@ use Rattle.mst_config.specs.Regions.{first_of_region}
 use Rattle.mst_vlan.specs.trees.Outcome.{Outcome}
 use Rattle.mst_vlan.specs.trees.Roles.{role_of}
 use Rattle.mst_vlan.specs.Reach.{AreIslandsOf}
-use Rattle.mst_diff.specs.Regions.{same_told}
-use Rattle.mst_diff.specs.Roots.{root_name}
+use Rattle.mst_facts.specs.Told.{same_told}
+use Rattle.mst_facts.specs.Roots.{root_name}
 use Rattle.mst_diff.specs.Reach.{island_bridges}
 
 -- the two networks with these outcomes are alike

@@ -1,8 +1,6 @@
-pub use Rattle.mst_changes.specs as changes
 pub mod Regions
 pub mod Roots
 pub mod Ports
-pub mod Classes
 pub mod Reach
 pub mod Met
 pub mod DiffText

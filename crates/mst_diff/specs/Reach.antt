@@ -1,5 +1,5 @@
 -- The rows of VIDs whose islands are other ones.
-use Rattle.std.specs.Prelude.{◌≡◌, ℕ, ◌||◌, Bool, true, false, List, [], ◌∷◌, map, filter, not, if◌then◌else◌}
+use Rattle.std.specs.Prelude.{◌≡◌, ℕ, ◌||◌, Bool, true, List, [], ◌∷◌, map, filter, not, if◌then◌else◌}
 use Rattle.std.specs.Cmp.Lexicographic.{pointwise}
 use Rattle.std.specs.List.{count_by, flat_map, list_any}
 use Rattle.mst_ids.specs.Vids.{is_vid, runs_from, set_where}
@@ -15,11 +15,7 @@ use Rattle.mst_rows.specs.Rows.{Row, row_of}
 use Rattle.mst_vlan.specs.trees.Outcome.{Outcome}
 use Rattle.mst_vlan.specs.Reach.{AreIslandsOf}
 use Rattle.mst_classes.specs.AllVids.{all_vids}
-
--- there is something in a list
-abbrev pub has_any : {A : Type 0} → List A → Bool
-has_any [] = false
-has_any (x ∷ xs) = true
+use Rattle.mst_graph.specs.Lists.{has_any}
 
 -- the bridges of each island that has one
 abbrev pub island_bridges : List (Island (List ℕ) (List ℕ)) → List (List (List ℕ))

@@ -1,5 +1,5 @@
 -- The rows of bridges whose region is another one.
-use Rattle.std.specs.Prelude.{ℕ, ◌==◌, ◌&&◌, not, Bool, List, [], ◌∷◌, Option, None, Some, if◌then◌else◌}
+use Rattle.std.specs.Prelude.{ℕ, ◌&&◌, List, [], ◌∷◌, Option, None, Some, if◌then◌else◌}
 use Rattle.std.specs.List.{flat_map}
 use Rattle.std.specs.Option.{option_map_or}
 use Rattle.std.specs.FinMap as fin
@@ -10,10 +10,7 @@ use Rattle.mst_lag.specs.Aggregation.{same_name}
 use Rattle.mst_config.specs.Regions.{first_of_region}
 use Rattle.mst_rows.specs.Cells.{object, word}
 use Rattle.mst_rows.specs.Rows.{Row, region, row_of}
-
--- both bridges are of kind rstp, or both are of kind mstp, and their configurations have one name and one revision
-abbrev pub same_told : BridgeRow → BridgeRow → Bool
-same_told x y = if x.is_rstp then y.is_rstp else not y.is_rstp && same_name x.conf_name y.conf_name && x.revision == y.revision
+use Rattle.mst_facts.specs.Told.{same_told}
 
 -- the name and the revision of a bridge's configuration, if it is of kind mstp
 abbrev pub configuration : BridgeRow → Option (List ℕ × ℕ)

@@ -1,18 +1,10 @@
 -- What differs between two views with their forests.
-use Rattle.std.specs.Prelude.{◌≡◌, ℕ, ◌+◌, ◌-◌, ◌<◌, ◌==◌, Bool, false, length, List, [], ◌∷◌, Option, None, Some, map, filter, filter_map, slice_index, slice_index_or, if◌then◌else◌}
-use Rattle.std.specs.List.{find, list_any}
-use Rattle.std.specs.Option.{option_map, unwrap_or}
+use Rattle.std.specs.Prelude.{◌≡◌, ℕ, ◌+◌, ◌-◌, ◌<◌, Bool, false, length, List, [], ◌∷◌, Option, None, Some, map, filter, filter_map, slice_index, slice_index_or, if◌then◌else◌}
+use Rattle.std.specs.List.{list_any}
 use Rattle.mst_net.specs.Seen.{bridge_row}
 use Rattle.mst_net.specs.Tables.{Net}
-use Rattle.mst_vlan.specs.settle.Assignment.{vector_of}
-use Rattle.mst_lag.specs.Trees.{is_among}
 use Rattle.mst_lag.specs.Viewed.{Viewed}
-use Rattle.mst_lag.specs.declared.in_view.BridgeInView.{BridgeInView}
 use Rattle.mst_config.specs.Regions.{first_of_region}
-use Rattle.mst_config.specs.Shared.{same_in}
-use Rattle.mst_vlan.specs.trees.Forest.{Forest, msti_vector}
-use Rattle.mst_vlan.specs.trees.InUse.{id_in}
-use Rattle.mst_vlan.specs.trees.Seen.{trees_at}
 use Rattle.mst_vlan.specs.trees.Settled.{SettledNet, outcome_of}
 use Rattle.mst_vlan.specs.declared.island.Island.{Island}
 use Rattle.mst_vlan.specs.Seen.{seen_bridge}
@@ -22,25 +14,18 @@ use Rattle.mst_kinds.specs.declared.kind.Kind.TheVariants as kind
 use Rattle.mst_rows.specs.Cells as cells
 use Rattle.mst_rows.specs.Rows.{Row, region, row_of}
 use Rattle.mst_facts.specs.declared.both.Both.{Both}
-use Rattle.mst_diff.specs.declared.roots.Identified.{Identified}
 use Rattle.mst_diff.specs.declared.roots.RootPair.{RootPair}
 use Rattle.mst_diff.specs.declared.roots.RootChange.{RootChange}
 use Rattle.mst_diff.specs.declared.diff.Differing.{Differing}
 use Rattle.mst_diff.specs.declared.regions.RegionChange.{RegionChange}
 use Rattle.mst_diff.specs.DiffText.{AreDiffRowsOf}
 use Rattle.mst_diff.specs.Regions.{region_unless}
-use Rattle.mst_diff.specs.Roots.{root_pair, root_row, same_pair, with_new, tree_roots}
-use Rattle.mst_vlan.specs.Carried.{ViewWithTrees}
-use Rattle.mst_diff.specs.Reach.{has_any, no_sides, same_names, AreSides, Sides}
+use Rattle.mst_diff.specs.Roots.{root_pair, root_row, same_pair, tree_roots}
+use Rattle.mst_graph.specs.Lists.{with_new, has_any}
+use Rattle.mst_diff.specs.Reach.{no_sides, same_names, AreSides, Sides}
 use Rattle.mst_diff.specs.declared.sides.Sides.{Sides as KeptSides}
 
 -- ---- regions
--- the first bridge of a bridge's region
-abbrev pub seen_found : Viewed → List (ℕ × ℕ) → BridgeInView → Option (List ℕ)
-seen_found v classes b = option_map (λ c. c.name) (find (λ c. same_in classes b.bridge.number c.bridge.number) v.bridges)
-
-abbrev pub seen_first : Viewed → List (ℕ × ℕ) → BridgeInView → List ℕ
-seen_first v classes b = unwrap_or (seen_found v classes b) b.name
 
 -- the row of a bridge of two networks, by its name
 abbrev pub region_of : Net → Net → Both → List Row
@@ -54,17 +39,6 @@ row_of_region c = row_of (kind.Change change_line.Region) (cells.word c.bridge �
 -- the row of a tree of which a root is another one
 abbrev pub row_of_root : RootChange → Row
 row_of_root c = root_row c.tree c.pair
-
-abbrev pub seen_root : Viewed → Forest → ℕ → ℕ → Option ℕ
-seen_root v f tree bridge =
-    if tree == 0 then option_map (λ v. v.root) (vector_of f.cist bridge) else (if is_among (trees_at v bridge) tree then option_map (λ v. v.regional) (msti_vector f tree bridge) else None)
-
--- the bridges with their identifiers in a tree, and the name of one by its identifier
-abbrev pub seen_named : Viewed → ℕ → List Identified
-seen_named v tree = map (λ b. record { id = id_in v.settings tree b.name (bridge_row b.bridge); name = b.name }) v.bridges
-
-abbrev pub name_by : List Identified → ℕ → Option (List ℕ)
-name_by named id = option_map (λ n. n.name) (find (λ n. n.id == id) named)
 
 -- the names before and after of the root of a bridge of two networks, by its name
 abbrev pub pair_of : SettledNet → SettledNet → ℕ → Both → Option RootPair
@@ -105,10 +79,6 @@ one_group v i = if has_any i.bridges then filter_map (seen_bridge v) i.bridges �
 -- an island, unless it is among others
 abbrev pub apart_group : List (List (List ℕ)) → List (List ℕ) → List (List (List ℕ))
 apart_group others group = if list_any (λ other. same_names other group) others then [] else group ∷ []
-
--- the view with its trees
-abbrev pub with_trees : SettledNet → ViewWithTrees
-with_trees s = record { view = s.view; forest = s.forest }
 
 -- the bridges that are on and the logical LANs that are up, by name
 abbrev pub seen_names_on : Viewed → List (List ℕ)

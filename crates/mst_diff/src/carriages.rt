@@ -1,5 +1,5 @@
 ghost use Rattle.std.specs.Prelude.{◌≡◌};
-ghost use Rattle.mst_diff.specs.Seen.{with_trees};
+ghost use Rattle.mst_vlan.specs.Carried.{with_trees};
 
 use mst_vlan::{Carriage, Settled};
 

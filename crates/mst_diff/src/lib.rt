@@ -4,7 +4,6 @@
 mod all_roots;
 mod carriages;
 mod change;
-mod classes;
 mod diff;
 pub mod laws;
 mod ports;
@@ -14,8 +13,4 @@ mod roots;
 mod sides;
 mod unlike;
 
-pub use classes::flagged;
 pub use diff::{Differing, put_diff};
-pub use mst_changes::Planned;
-pub use roots::{root, root_of};
-pub use sides::has_bridge;

@@ -4,7 +4,8 @@ ghost use Rattle.mst_ids.specs.Vids.{runs_from};
 ghost use Rattle.mst_rows.specs.Rows.{Row};
 ghost use Rattle.mst_vlan.specs.trees.Settled.{outcome_of};
 ghost use Rattle.mst_classes.specs.AllVids.{NumberEach};
-ghost use Rattle.mst_diff.specs.Reach.{has_any, differ, reach_row, reach_unless, group_rows, AreReachRows};
+ghost use Rattle.mst_graph.specs.Lists.{has_any};
+ghost use Rattle.mst_diff.specs.Reach.{differ, reach_row, reach_unless, group_rows, AreReachRows};
 ghost use Rattle.mst_diff.specs.Seen.{AreSidesOf, seen_sides, sides_at as sides_at_vid};
 
 use crate::carriages::Carriages;

@@ -3,9 +3,11 @@ ghost use Rattle.std.specs.List.{AllByRecursion, Contains, flat_map};
 ghost use Rattle.mst_net.specs.Seen.{bridge_row};
 ghost use Rattle.mst_config.specs.Regions.{first_of_region};
 ghost use Rattle.mst_rows.specs.Rows.{Row};
-ghost use Rattle.mst_diff.specs.Regions.{same_told, configuration as configuration_of, region_changes};
+ghost use Rattle.mst_facts.specs.Told.{same_told};
+ghost use Rattle.mst_diff.specs.Regions.{configuration as configuration_of, region_changes};
 ghost use Rattle.mst_facts.specs.Both.{IsBoth};
-ghost use Rattle.mst_diff.specs.Seen.{seen_found, region_of, row_of_region};
+ghost use Rattle.mst_facts.specs.Named.{seen_found};
+ghost use Rattle.mst_diff.specs.Seen.{region_of, row_of_region};
 
 use crate::change::Change;
 use mst_facts::Both;

@@ -2,26 +2,21 @@ ghost use Rattle.std.specs.Prelude.{◌≡◌, ◌++◌, ◌∷◌, [], List, If
 ghost use Rattle.std.specs.List.{AllByRecursion, Contains, flat_map, list_any};
 ghost use Rattle.mst_vlan.specs.trees.Settled.{outcome_of};
 ghost use Rattle.mst_rows.specs.Rows.{Row};
-ghost use Rattle.mst_diff.specs.Roots.{root_of as root_in, root_name as root_name_in, same_pair, with_new, each_once, root_unless};
+ghost use Rattle.mst_facts.specs.Roots.{root_name as root_name_in};
+ghost use Rattle.mst_diff.specs.Roots.{same_pair, root_unless};
+ghost use Rattle.mst_graph.specs.Lists.{with_new, each_once};
 ghost use Rattle.mst_facts.specs.Both.{IsBoth};
-ghost use Rattle.mst_diff.specs.Seen.{seen_root, seen_named, name_by, pair_of, with_pair, roots_of, row_of_root};
+ghost use Rattle.mst_facts.specs.Named.{seen_named, name_by};
+ghost use Rattle.mst_diff.specs.Seen.{pair_of, with_pair, roots_of, row_of_root};
 
 use crate::change::Change;
-use mst_changes::Planned;
-use mst_facts::Both;
-use mst_ids::{BridgeId, BridgeNo, Name, Tree};
+use mst_facts::{Both, Identified, root_of};
+use mst_ids::{BridgeId, Name, Tree};
 use mst_kinds::{ChangeLine, Kind};
 use mst_lag::{BridgeInView, View};
 use mst_rows::{Rows, Value, put};
 use mst_vlan::{Settled, bridge_id};
 use std::alloc::{AllocError, Global};
-
-/// A bridge's identifier in a tree, and its name.
-#[derive(Clone, Copy)]
-pub(crate) struct Identified {
-    pub(crate) id: BridgeId,
-    pub(crate) name: Name,
-}
 
 /// The names of a bridge's root before and after.
 #[derive(Clone, Copy)]
@@ -68,36 +63,6 @@ fn name_of(named: &[Identified], id: BridgeId) -> Option<Name>
 {
     let found = named.iter().find(|bridge| bridge.id == id)?;
     Some(found.name)
-}
-
-/// The identifier of a bridge's root in the CIST, or of its regional root in an MSTI.
-pub fn root(plan: &Planned, tree: Tree, bridge: BridgeNo) -> Option<BridgeId>
-    ensures { result ≡ seen_root plan.now.view.now plan.now.forest.now tree bridge }
-{
-    if tree.value() == 0 {
-        return plan.forest.cist(bridge).map(|vector| vector.root);
-    }
-    if plan.view.has_tree(bridge, tree) {
-        plan.forest.msti(tree, bridge).map(|vector| vector.regional)
-    } else {
-        None
-    }
-}
-
-/// The identifier of the root of a bridge of the view in the CIST, or of its regional root in an MSTI.
-pub fn root_of(plan: &Settled, tree: Tree, bridge: &BridgeInView) -> Option<BridgeId>
-    requires { Contains plan.now.view.bridges bridge.now }
-    ensures { result ≡ root_in plan.now.net (outcome_of plan.now) tree bridge.now.name }
-{
-    plan.known();
-    if tree.value() == 0 {
-        return plan.cist(bridge).map(|vector| vector.root);
-    }
-    if plan.has_tree(tree, bridge) {
-        plan.msti(tree, bridge).map(|vector| vector.regional)
-    } else {
-        None
-    }
 }
 
 /// The name of the root of a bridge, where these are the bridges with their identifiers in the tree.

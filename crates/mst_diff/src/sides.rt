@@ -3,14 +3,15 @@ ghost use Rattle.mst_graph.specs.Islands.{Island as NamedIsland};
 ghost use Rattle.mst_vlan.specs.trees.Settled.{outcome_of};
 ghost use Rattle.mst_vlan.specs.Reach.{AreIslandsOf};
 ghost use Rattle.mst_diff.specs.Met.{AreMet};
-ghost use Rattle.mst_diff.specs.Reach.{has_any, island_bridges, no_sides, sides_of as sides_between, without};
-ghost use Rattle.mst_diff.specs.Seen.{apart_group, one_group, seen_groups, seen_sides, with_trees, AreSidesOf};
+ghost use Rattle.mst_diff.specs.Reach.{island_bridges, no_sides, sides_of as sides_between, without};
+ghost use Rattle.mst_diff.specs.Seen.{apart_group, one_group, seen_groups, seen_sides, AreSidesOf};
+ghost use Rattle.mst_vlan.specs.Carried.{with_trees};
 
 use crate::carriages::Carriages;
 use indexmap::IndexSet;
 use mst_ids::{Name, Vid};
 use mst_lag::View;
-use mst_vlan::{Carriage, Island, Settled, bridge_names};
+use mst_vlan::{Carriage, Island, Settled, bridge_names, has_bridge};
 use std::alloc::{AllocError, Global};
 
 /// The islands of a VID before that aren't there afterwards, and those afterwards that weren't there before, each by its
@@ -19,16 +20,6 @@ use std::alloc::{AllocError, Global};
 pub(crate) struct Sides {
     pub(crate) old: Vec<Vec<Name>>,
     pub(crate) new: Vec<Vec<Name>>,
-}
-
-/// Whether an island has a bridge.
-pub fn has_bridge(island: &Island) -> bool
-    ensures { result ≡ has_any island.now.bridges }
-{
-    match island.bridges.as_slice() {
-        [] => false,
-        [..] => true,
-    }
 }
 
 /// Puts the bridges of an island behind these, if it has one.

@@ -1,1 +1,3 @@
 pub mod FirstNamed
+pub mod Lists
+pub mod Named

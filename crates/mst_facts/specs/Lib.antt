@@ -1,1 +1,4 @@
 pub mod Both
+pub mod Roots
+pub mod Named
+pub mod Told

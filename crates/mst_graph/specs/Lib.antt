@@ -12,3 +12,4 @@ pub mod Places
 pub mod Renaming
 pub mod Split
 pub mod Walks
+pub mod Lists

@@ -12,7 +12,7 @@ use Rattle.mst_net.specs.ByTree.{table_in}
 use Rattle.mst_net.specs.Seen.{bridge_row}
 use Rattle.mst_net.specs.Table.{tree_in}
 use Rattle.mst_net.specs.Tables.{BridgeRow}
-use Rattle.mst_summary.specs.diff.Reach.{has_any}
+use Rattle.mst_graph.specs.Lists.{has_any}
 use Rattle.mst_trees.specs.Roles.{tree_of_vid}
 use Rattle.mst_trees.specs.SeenRoles.{seen_tree}
 use Rattle.mst_trees.specs.Outcome.{Outcome}

@@ -6,7 +6,7 @@ use Rattle.mst_net.specs.ByTree.{by_tree}
 use Rattle.mst_trees.specs.InUse.{id_in}
 use Rattle.mst_trees.specs.Outcome.{Outcome}
 use Rattle.mst_trees.specs.Msti.{has_tree}
-use Rattle.mst_summary.specs.diff.Roots.{root_of}
+use Rattle.mst_facts.specs.Roots.{root_of}
 use Rattle.mst_picture.specs.Pieces.{joined}
 
 -- a bridge is a root of the tree: it names itself, in an MSTI as its regional root

@@ -4,7 +4,7 @@ use Rattle.std.specs.List.{flat_map}
 use Rattle.std.specs.Option.{option_map_or}
 use Rattle.std.specs.FinMap as fin
 use Rattle.mst_net.specs.Tables.{Net}
-use Rattle.mst_summary.specs.diff.Reach.{has_any}
+use Rattle.mst_graph.specs.Lists.{has_any}
 use Rattle.mst_trees.specs.Roles.{tree_of_vid}
 use Rattle.mst_trees.specs.Outcome.{Outcome}
 use Rattle.mst_graph.specs.Islands.{Island}

@@ -7,10 +7,10 @@ ghost use Rattle.mst_picture.specs.Bridges.{bridge_line, is_root as is_root_in, 
 ghost use Rattle.mst_picture.specs.InView.{style_of as style_in, bridge_of, off_of};
 
 use crate::pieces::push_pieces;
+use mst_facts::root_of;
 use mst_ids::Tree;
 use mst_lag::BridgeInView;
 use mst_lang::Power;
-use mst_summary::root_of;
 use mst_trees::{Settled, bridge_id};
 use std::alloc::AllocError;
 

@@ -11,9 +11,8 @@ use crate::pieces::push_pieces;
 use itoa::Buffer;
 use mst_ids::{BridgeNo, Name, Tree, Vid, push_bytes};
 use mst_lag::BridgeInView;
-use mst_summary::has_bridge;
 use mst_trees::{Settled, vid_tree};
-use mst_vlan::{Island, active_ports, reach_from};
+use mst_vlan::{Island, active_ports, has_bridge, reach_from};
 use std::alloc::{AllocError, Global};
 
 /// The end of a node's text, which has two borders for a root.

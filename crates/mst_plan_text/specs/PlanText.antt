@@ -1,7 +1,6 @@
 -- The rows of a plan, by name.
-use Rattle.std.specs.Prelude.{◌≡◌, ℕ, Bool, List, [], ◌∷◌, ◌++◌, filter}
-use Rattle.std.specs.List.{flat_map, list_any, range_with_len}
-use Rattle.std.specs.FinMap as fin
+use Rattle.std.specs.Prelude.{◌≡◌, ℕ, List, [], ◌∷◌, ◌++◌, filter}
+use Rattle.std.specs.List.{flat_map, range_with_len}
 use Rattle.mst_ids.specs.Vids.{runs_from, set_where}
 use Rattle.mst_graph.specs.Groups.{AreGroups}
 use Rattle.mst_graph.specs.Islands.{Island}
@@ -9,17 +8,14 @@ use Rattle.mst_net.specs.Tables.{Net}
 use Rattle.mst_lag.specs.Trees.{is_among}
 use Rattle.mst_rows.specs.Rows.{Row}
 use Rattle.mst_classes.specs.AllVids.{all_vids}
-use Rattle.mst_text.specs.trees.Msti.{has_msti}
 use Rattle.mst_text.specs.trees.Outcome.{Outcome}
 use Rattle.mst_text.specs.vlan.Reach.{AreIslandsOf}
 use Rattle.mst_text.specs.TreeText.{tree_rows}
 use Rattle.mst_text.specs.VlanRows.{heading}
 use Rattle.mst_text.specs.VlanText.{body_rows, ports_of_vid}
+use Rattle.mst_trees.specs.Msti.{is_had}
 
 -- ---- trees
--- some bridge has the tree beside the CIST
-abbrev pub is_had : Net → ℕ → Bool
-is_had net tree = list_any (has_msti net tree) (fin.keys net.bridges)
 
 -- the MSTIs that some bridge has, in rising order
 unfoldable pub mstis : Net → List ℕ

@@ -13,15 +13,16 @@ use Rattle.mst_lag.specs.Aggregation.{same_name}
 use Rattle.mst_rows.specs.Rows.{Row}
 use Rattle.mst_vlan.specs.Reach.{AreIslandsOf, bridges_on, lans_up}
 use Rattle.mst_trees.specs.Outcome.{Outcome, IsOutcome}
-use Rattle.mst_changes.specs.Subjects.{bridge_names}
+use Rattle.mst_lag.specs.View.{bridge_names}
 use Rattle.mst_classes.specs.AllVids.{all_vids}
 use Rattle.mst_diff.specs.DiffText.{AreDiffRowsOf, diff_row}
 use Rattle.mst_diff.specs.Ports.{port_rows}
-use Rattle.mst_diff.specs.Reach.{AreSides, Sides, differ, group_rows, has_any, island_bridges, reach_row, reach_unless, same_names, without}
+use Rattle.mst_diff.specs.Reach.{AreSides, Sides, differ, group_rows, island_bridges, reach_row, reach_unless, same_names, without}
+use Rattle.mst_graph.specs.Lists.{has_any}
 use Rattle.mst_diff.specs.Regions.{region_changes}
 use Rattle.mst_diff.specs.Roots.{root_changes}
 use Rattle.mst_diff.specs.declared.diff.Differing.{Differing}
-use Rattle.mst_diff.proofs.OneDiff.{OneList}
+use Rattle.mst_vlan.proofs.OneList.{OneList}
 use Rattle.mst_diff.proofs.SameSides.{names_decide}
 use Rattle.mst_classes.proofs.VidPlaces.{is_vid_there}
 use Rattle.mst_trees.proofs.Lists.{kept_from, some_is}

@@ -9,9 +9,9 @@ use Rattle.mst_net.specs.Tables.{Net}
 use Rattle.mst_rows.specs.Rows.{Row}
 use Rattle.mst_vlan.specs.Reach.{AreIslandsOf}
 use Rattle.mst_trees.specs.Outcome.{Outcome}
-use Rattle.mst_changes.specs.Subjects.{bridge_names}
+use Rattle.mst_lag.specs.View.{bridge_names}
 use Rattle.mst_classes.specs.AllVids.{all_vids}
-use Rattle.mst_diff.specs.Reach.{has_any}
+use Rattle.mst_graph.specs.Lists.{has_any}
 use Rattle.mst_verdict.specs.sweep.Cuts.{runs_of}
 use Rattle.mst_verdict.specs.sweep.Moved.{moved_ports, moved_roots}
 use Rattle.mst_verdict.specs.sweep.Parts.{AreParts, all_parts, staying}

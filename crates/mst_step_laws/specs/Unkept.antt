@@ -2,7 +2,7 @@
 use Rattle.std.specs.Prelude.{◌≡◌, ◌&&◌, ◌||◌, not, Bool, false, ℕ, List, [], ◌∷◌, count_by, ⊤}
 use Rattle.std.specs.List.{AllZip, Contains}
 use Rattle.mst_rows.specs.Rows.{Row}
-use Rattle.mst_diff.specs.Reach.{has_any}
+use Rattle.mst_graph.specs.Lists.{has_any}
 use Rattle.mst_policy.specs.declared.policy.PolicyLine.{PolicyLine}
 use Rattle.mst_verdict.specs.Steps.{Change, is_broken, mends}
 use Rattle.mst_verdict.specs.Texts.{news, same_text}

@@ -3,7 +3,7 @@ ghost use Rattle.std.specs.Prelude.{◌≡◌, ◌+◌, ◌++◌, ℕ, Bool, tru
 ghost use Rattle.std.specs.List.{AllByRecursion, Contains, flat_map, sum_by};
 ghost use Rattle.mst_change.specs.Reading.{IsInRange, LineRead};
 ghost use Rattle.mst_change.specs.Steps.{all_lines, change_of, lines_from};
-ghost use Rattle.mst_diff.specs.Reach.{has_any};
+ghost use Rattle.mst_graph.specs.Lists.{has_any};
 ghost use Rattle.mst_lang.specs.declared.line.Version.TheVariants.{V1};
 ghost use Rattle.mst_net.specs.Tables.{Net, IsNetwork};
 ghost use Rattle.mst_policy.specs.declared.policy.PolicyLine.{PolicyLine as LineOf};

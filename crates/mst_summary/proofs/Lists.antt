@@ -7,9 +7,9 @@ use Rattle.std.proofs.lemmas.List.Sums.{length-filter, fold-append}
 use Rattle.mst_net.proofs.Rising.{range_more}
 use Rattle.mst_trees.proofs.Lists.{filter_mapped}
 use Rattle.mst_trees.proofs.Looking.{filter_alike}
-use Rattle.mst_diff.specs.changes.Subjects.{all_trees}
-use Rattle.mst_diff.proofs.changes_lemmas.Orders.{trees_are}
-use Rattle.mst_diff.specs.Reach.{has_any}
+use Rattle.mst_trees.specs.AllTrees.{all_trees}
+use Rattle.mst_trees.proofs.AllTrees.{trees_are}
+use Rattle.mst_graph.specs.Lists.{has_any}
 
 -- one more tree of those that pass, and all of them
 pub trees_more : (test : ℕ → Bool) (n : ℕ) → filter test (range_with_len 0 (n + 1)) ≡ filter test (range_with_len 0 n) ++ cond (test n) (n ∷ []) []

@@ -13,7 +13,7 @@ use Rattle.mst_net.specs.ByTree.{by_tree, vlans_in}
 use Rattle.mst_net.specs.Seen.{bridge_row}
 use Rattle.mst_net.specs.Tables.{Net, BridgeRow, IsNetwork}
 use Rattle.mst_lag.specs.Aggregation.{same_name}
-use Rattle.mst_lag.specs.View.{LogicalLan, LogicalPort}
+use Rattle.mst_lag.specs.View.{LogicalLan, LogicalPort, bridge_names}
 use Rattle.mst_lag.specs.Viewed.{named_bridge, named_lan, named_port}
 use Rattle.mst_lag.specs.declared.in_view.BridgeInView.{BridgeInView}
 use Rattle.mst_lag.specs.declared.in_view.LanInView.{LanInView}
@@ -33,9 +33,9 @@ use Rattle.mst_trees.specs.Msti.{has_tree}
 use Rattle.mst_vlan.proofs.trees_lemmas.Forwarded.{each_forwards}
 use Rattle.mst_vlan.specs.Reach.{is_member, lans_up}
 use Rattle.mst_vlan.specs.Seen.{seen_member}
-use Rattle.mst_diff.specs.changes.Subjects.{all_trees, bridge_names}
-use Rattle.mst_diff.proofs.changes_lemmas.Lists.{filter_map-map}
-use Rattle.mst_diff.proofs.Named.{names_are}
+use Rattle.mst_trees.specs.AllTrees.{all_trees}
+use Rattle.mst_trees.proofs.Pieces.{filter_map-map}
+use Rattle.mst_facts.proofs.Named.{names_are}
 use Rattle.mst_summary.specs.Blocked.{is_blocked, blocked, blocked_row}
 use Rattle.mst_summary.specs.Carries.{are_of_two, carriers, carries, goes_over, joins, joining_lans, ports_on}
 use Rattle.mst_summary.specs.Counts.{is_first, is_used, used_trees, counts_of}

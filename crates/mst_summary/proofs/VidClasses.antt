@@ -37,7 +37,7 @@ use Rattle.mst_classes.specs.AllVids.{all_vids}
 use Rattle.mst_classes.proofs.VidPlaces.{zip_at}
 use Rattle.mst_vlan.proofs.LinksAlike.{links_shared}
 use Rattle.mst_classes.proofs.VidPlaces.{place_of_vid, vids_long}
-use Rattle.mst_diff.specs.Reach.{has_any}
+use Rattle.mst_graph.specs.Lists.{has_any}
 use Rattle.mst_summary.specs.Carries.{are_of_two}
 use Rattle.mst_classes.specs.Classes.{AreClasses}
 use Rattle.mst_summary.specs.Kept.{count_at}

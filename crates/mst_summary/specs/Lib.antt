@@ -1,4 +1,3 @@
-pub use Rattle.mst_diff.specs as diff
 pub mod Counts
 pub mod Roots
 pub mod Blocked

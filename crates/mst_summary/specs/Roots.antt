@@ -11,8 +11,8 @@ use Rattle.mst_net.specs.Tables.{Net, BridgeRow}
 use Rattle.mst_net.specs.ByTree.{ByTree, by_tree, priority_in}
 use Rattle.mst_trees.specs.InUse.{id_in}
 use Rattle.mst_trees.specs.Outcome.{Outcome}
-use Rattle.mst_diff.specs.Roots.{root_of}
-use Rattle.mst_diff.specs.Reach.{has_any}
+use Rattle.mst_facts.specs.Roots.{root_of}
+use Rattle.mst_graph.specs.Lists.{has_any}
 use Rattle.mst_summary.specs.declared.roots.Follower.{Follower}
 
 -- a bridge that names a root in a tree, with its own identifier there and that of its root. One that is off names none

@@ -15,8 +15,8 @@ use Rattle.mst_trees.specs.Settled.{SettledNet, outcome_of}
 use Rattle.mst_vlan.specs.trees.SeenRoles.{seen_forwards}
 use Rattle.mst_vlan.specs.Seen.{seen_member}
 use Rattle.mst_vlan.specs.declared.island.Island.{Island}
-use Rattle.mst_diff.specs.changes.Subjects.{all_trees}
-use Rattle.mst_diff.specs.Reach.{has_any}
+use Rattle.mst_trees.specs.AllTrees.{all_trees}
+use Rattle.mst_graph.specs.Lists.{has_any}
 use Rattle.mst_slips.specs.Seen.{seen_first}
 use Rattle.mst_summary.specs.declared.roots.Follower.{Follower}
 use Rattle.mst_summary.specs.declared.counts.Counts.{Counts}

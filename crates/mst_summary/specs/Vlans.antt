@@ -13,7 +13,7 @@ use Rattle.mst_lag.specs.Trees.{is_among}
 use Rattle.mst_trees.specs.Outcome.{Outcome}
 use Rattle.mst_vlan.specs.Reach.{AreIslandsOf}
 use Rattle.mst_classes.specs.AllVids.{all_vids}
-use Rattle.mst_diff.specs.Reach.{has_any}
+use Rattle.mst_graph.specs.Lists.{has_any}
 
 -- how many islands have a bridge
 abbrev pub with_bridge : List (Island (List ℕ) (List ℕ)) → ℕ

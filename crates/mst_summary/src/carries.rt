@@ -2,7 +2,7 @@ ghost use Rattle.std.specs.Prelude.{◌≡◌, ◌++◌, ◌∷◌, [], ◌+◌,
 ghost use Rattle.std.specs.List.{All, AllZip, flat_map};
 ghost use Rattle.mst_lag.specs.Aggregation.{same_name};
 ghost use Rattle.mst_rows.specs.Rows.{Row};
-ghost use Rattle.mst_diff.specs.Seen.{with_trees};
+ghost use Rattle.mst_vlan.specs.Carried.{with_trees};
 ghost use Rattle.mst_classes.specs.AllVids.{all_vids};
 ghost use Rattle.mst_trees.specs.Settled.{outcome_of};
 ghost use Rattle.mst_summary.specs.Carries.{all_carries, are_all as all_vids_are, carried as carried_over, carries_row, carries_rows, full_carries, full_of, full_rows, joining_lans as joining_lans_of};
@@ -16,8 +16,7 @@ use crate::joining::joining_lans;
 use crate::kept::ports_by_lan;
 use crate::places::places_by_lan;
 use indexmap::IndexMap;
-use mst_classes::{set_of, vids};
-use mst_diff::flagged;
+use mst_classes::{flagged, set_of, vids};
 use mst_graph::Numbering;
 use mst_ids::{Name, Vid, VidSet};
 use mst_kinds::{Kind, SummaryLine};

@@ -1,6 +1,6 @@
 ghost use Rattle.std.specs.Prelude.{◌≡◌, ◌&&◌, IfOk};
 ghost use Rattle.mst_trees.specs.InUse.{AreInUse};
-ghost use Rattle.mst_diff.specs.Reach.{has_any};
+ghost use Rattle.mst_graph.specs.Lists.{has_any};
 ghost use Rattle.mst_summary.specs.Seen.{seen_used, seen_trees};
 
 use mst_ids::Tree;

@@ -1,7 +1,7 @@
 ghost use Rattle.std.specs.Prelude.{◌≡◌, ◌++◌, ◌∷◌, [], ◌+◌, ◌<◌, List, IfOk, OnOk, length, map, vec_len};
 ghost use Rattle.std.specs.List.{All, AllZip, flat_map};
 ghost use Rattle.mst_rows.specs.Rows.{Row};
-ghost use Rattle.mst_diff.specs.Seen.{with_trees};
+ghost use Rattle.mst_vlan.specs.Carried.{with_trees};
 ghost use Rattle.mst_trees.specs.Settled.{outcome_of};
 ghost use Rattle.mst_classes.specs.AllVids.{NumberEach};
 ghost use Rattle.mst_classes.specs.Classes.{AreClasses};
@@ -10,13 +10,12 @@ ghost use Rattle.mst_summary.specs.Seen.{seen_with_bridge};
 ghost use Rattle.mst_summary.specs.Vlans.{HasIslands, islands_row, group_rows, AreVlanRows};
 
 use mst_classes::{set_of, vids};
-use mst_diff::has_bridge;
 use mst_graph::{Numbering, groups_by_body};
 use mst_ids::Vid;
 use mst_kinds::{Kind, SummaryLine};
 use mst_rows::{Rows, Value, put};
 use mst_trees::Settled;
-use mst_vlan::{Carriage, Island};
+use mst_vlan::{Carriage, Island, has_bridge};
 use std::alloc::{AllocError, Global};
 
 /// How many of these islands have a bridge.

@@ -20,7 +20,6 @@ mod summary;
 
 pub use kept::ports_by_lan;
 pub use looked_up::role;
-pub use mst_diff::{has_bridge, root_of};
 pub use over::goes_over;
 pub use roots::{Follower, as_follower, least};
 pub use summary::put_summary;

@@ -3,7 +3,7 @@ ghost use Rattle.std.specs.List.{Contains, flat_map};
 ghost use Rattle.mst_lag.specs.Viewed.{named_bridge};
 ghost use Rattle.mst_rows.specs.Rows.{Row};
 ghost use Rattle.mst_net.specs.ByTree.{by_tree};
-ghost use Rattle.mst_diff.specs.Reach.{has_any};
+ghost use Rattle.mst_graph.specs.Lists.{has_any};
 ghost use Rattle.mst_trees.specs.Settled.{outcome_of};
 ghost use Rattle.mst_summary.specs.declared.roots.Follower.{Follower as FollowerIn};
 ghost use Rattle.mst_summary.specs.Grouped.{group_at};
@@ -12,7 +12,7 @@ ghost use Rattle.mst_summary.specs.Seen.{seen_root};
 
 use crate::grouped::{add, group_for};
 use indexmap::IndexMap;
-use mst_diff::root_of;
+use mst_facts::root_of;
 use mst_ids::{BridgeId, Name, Tree};
 use mst_kinds::{Kind, SummaryLine};
 use mst_lag::BridgeInView;

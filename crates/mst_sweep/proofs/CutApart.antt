@@ -12,7 +12,7 @@ use Rattle.mst_graph.proofs.Members.{in_map, from_map, in_filter, from_filter, p
 use Rattle.mst_net.specs.After.{after, effect}
 use Rattle.mst_net.specs.Tables.{Net, IsNetwork, BridgeRow, port_eq}
 use Rattle.mst_lag.specs.Aggregation.{plugs, same_name}
-use Rattle.mst_lag.specs.View.{LogicalPort, IsUnrestricted, logical_port, as_port, view_ports}
+use Rattle.mst_lag.specs.View.{LogicalPort, IsUnrestricted, logical_port, as_port, view_ports, bridge_names}
 use Rattle.mst_trees.specs.Outcome.{Outcome, IsOutcome}
 use Rattle.mst_trees.proofs.Lists.{kept_in, kept_from, no_some, some_is}
 use Rattle.mst_vlan.specs.trees.Roles.{forwards_for}
@@ -20,9 +20,8 @@ use Rattle.mst_vlan.specs.Active.{active_ports, port_ends, IsEnabled}
 use Rattle.mst_vlan.specs.Reach.{bridges_on, is_member, link_of, vid_links, AreIslandsOf}
 use Rattle.mst_vlan.proofs.ActiveLaw.{active_enabled}
 use Rattle.mst_vlan.proofs.Carried.{carried}
-use Rattle.mst_diff.specs.changes.Subjects.{bridge_names}
-use Rattle.mst_diff.specs.Reach.{has_any}
-use Rattle.mst_diff.proofs.Lists.{find-found}
+use Rattle.mst_graph.specs.Lists.{has_any}
+use Rattle.mst_facts.proofs.Lists.{find-found}
 use Rattle.mst_sweep.specs.Apart.{AllAreMembers, AreLinked, ComeApart}
 use Rattle.mst_sweep.specs.Failures.{edit_of}
 use Rattle.mst_sweep.specs.Parts.{home, stays_at, staying, are_together, came_apart, leads, part, part_led, all_parts, AreParts}

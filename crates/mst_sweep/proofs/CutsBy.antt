@@ -11,7 +11,7 @@ use Rattle.mst_trees.proofs.Lists.{all_there}
 use Rattle.mst_trees.proofs.Looking.{filter_alike}
 use Rattle.mst_classes.specs.AllVids.{all_vids}
 use Rattle.mst_classes.proofs.VidPlaces.{vids_once, is_vid_there, OneGrouping}
-use Rattle.mst_diff.specs.Reach.{has_any}
+use Rattle.mst_graph.specs.Lists.{has_any}
 use Rattle.mst_rows.specs.Rows.{Row}
 use Rattle.mst_sweep.specs.declared.cuts.CutBy.{CutBy}
 use Rattle.mst_sweep.specs.Cuts.{group_row, group_rows, AreCutsBy}

@@ -2,7 +2,7 @@
 use Rattle.std.proofs.Common.{ℕ, List, subst}
 use Rattle.mst_net.specs.Tables.{Net, Numbers}
 use Rattle.mst_vlan.specs.Carried.{ViewWithTrees}
-use Rattle.mst_diff.specs.changes.declared.ports.Planned.{Planned}
+use Rattle.mst_facts.specs.declared.planned.Planned.{Planned}
 use Rattle.mst_trees.specs.Agrees.{AreOf}
 use Rattle.mst_trees.specs.Forest.{IsForest}
 use Rattle.mst_sweep.specs.Baseline.{AreHomes}

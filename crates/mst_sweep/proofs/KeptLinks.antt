@@ -33,7 +33,7 @@ use Rattle.mst_vlan.proofs.trees_lemmas.Named.{each_same}
 use Rattle.mst_vlan.specs.Active.{active_ports}
 use Rattle.mst_vlan.specs.Reach.{is_member, link_of, vid_links}
 use Rattle.mst_vlan.specs.Seen.{seen_member}
-use Rattle.mst_diff.proofs.changes_lemmas.InUse.{unused}
+use Rattle.mst_trees.proofs.NotInUse.{unused}
 use Rattle.mst_sweep.specs.Touched.{AreWhereTouched, BreakNoLinks, seen_is_link, seen_beside_link}
 use Rattle.mst_sweep.specs.Left.{AreLeft}
 use Rattle.mst_sweep.proofs.Positions.{any_passes}

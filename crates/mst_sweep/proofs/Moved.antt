@@ -14,7 +14,7 @@ use Rattle.mst_ids.specs.declared.name.PortName.{PortName}
 use Rattle.mst_net.specs.Tables.{Net, Numbers, port_eq}
 use Rattle.mst_net.specs.Seen.{bridge_row}
 use Rattle.mst_lag.specs.Aggregation.{Plug, plug_of, plugs, same_name}
-use Rattle.mst_lag.specs.View.{LogicalPort, logical_port, as_port, view_ports}
+use Rattle.mst_lag.specs.View.{LogicalPort, logical_port, as_port, view_ports, bridge_names, port_names}
 use Rattle.mst_lag.specs.Viewed.{Viewed, named_port}
 use Rattle.mst_lag.specs.declared.in_view.BridgeInView.{BridgeInView}
 use Rattle.mst_lag.specs.declared.in_view.PortInView.{PortInView}
@@ -27,13 +27,13 @@ use Rattle.mst_trees.proofs.Lists.{all_there, mapped_twice}
 use Rattle.mst_vlan.proofs.trees_lemmas.Named.{own_role}
 use Rattle.mst_vlan.specs.trees.Roles.{role_of, role_in, cist_role, msti_role}
 use Rattle.mst_vlan.specs.trees.SeenRoles.{seen_role}
-use Rattle.mst_diff.specs.changes.Subjects.{all_trees, bridge_names, port_names}
-use Rattle.mst_diff.proofs.changes_lemmas.Orders.{trees_are}
+use Rattle.mst_trees.specs.AllTrees.{all_trees}
+use Rattle.mst_trees.proofs.AllTrees.{trees_are}
 use Rattle.mst_facts.specs.declared.both.Both.{Both}
-use Rattle.mst_diff.specs.Roots.{root_of}
+use Rattle.mst_facts.specs.Roots.{root_of}
 use Rattle.mst_facts.specs.Both.{seen_in_both, seen_both}
-use Rattle.mst_diff.proofs.Lists.{find-found, list_any-map}
-use Rattle.mst_diff.proofs.Named.{found_named, names_are, none_there, root_named}
+use Rattle.mst_facts.proofs.Lists.{find-found, list_any-map}
+use Rattle.mst_facts.proofs.Named.{found_named, names_are, none_there, root_named}
 use Rattle.mst_sweep.specs.Moved.{is_other_root, root_moved, is_other_role, port_moved}
 use Rattle.mst_sweep.specs.Seen.{seen_root_moved, seen_port_moved}
 

@@ -7,7 +7,7 @@ use Rattle.std.proofs.lemmas.Bool.{or_parts}
 use Rattle.mst_ids.specs.Vids.{is_vid}
 use Rattle.mst_graph.specs.Groups.{AreGroups}
 use Rattle.mst_classes.specs.AllVids.{all_vids}
-use Rattle.mst_diff.specs.Reach.{has_any}
+use Rattle.mst_graph.specs.Lists.{has_any}
 use Rattle.mst_sweep.specs.declared.cuts.CutBy.{CutBy}
 use Rattle.mst_sweep.specs.Cuts.{cut_row, group_rows, names_of, runs_of, AreCutsBy}
 use Rattle.mst_sweep.proofs.CutsBy.{cut_rows, groups, some_cuts}

@@ -8,9 +8,9 @@ use Rattle.mst_net.specs.Tables.{Net, IsNetwork}
 use Rattle.mst_trees.specs.Outcome.{Outcome, IsOutcome}
 use Rattle.mst_vlan.specs.Reach.{AreIslandsOf}
 use Rattle.mst_classes.proofs.VidPlaces.{OneGrouping}
-use Rattle.mst_diff.specs.changes.Subjects.{bridge_names}
-use Rattle.mst_diff.specs.Reach.{has_any}
-use Rattle.mst_diff.proofs.OneDiff.{OneList}
+use Rattle.mst_lag.specs.View.{bridge_names}
+use Rattle.mst_graph.specs.Lists.{has_any}
+use Rattle.mst_vlan.proofs.OneList.{OneList}
 use Rattle.mst_sweep.specs.Parts.{all_parts}
 use Rattle.mst_rows.specs.Rows.{Row}
 use Rattle.mst_sweep.specs.declared.cuts.CutBy.{CutBy}

@@ -17,9 +17,9 @@ use Rattle.mst_trees.proofs.Entries.{entries_found}
 use Rattle.mst_trees.proofs.Lists.{all_contained}
 use Rattle.mst_vlan.specs.Reach.{AreIslandsOf, bridges_on}
 use Rattle.mst_classes.proofs.VidPlaces.{OneGrouping}
-use Rattle.mst_diff.specs.changes.Subjects.{bridge_names}
-use Rattle.mst_diff.specs.Reach.{has_any}
-use Rattle.mst_diff.proofs.OneDiff.{OneList}
+use Rattle.mst_lag.specs.View.{bridge_names}
+use Rattle.mst_graph.specs.Lists.{has_any}
+use Rattle.mst_vlan.proofs.OneList.{OneList}
 use Rattle.mst_sweep.specs.declared.failure.Failure.{Failure}
 use Rattle.mst_sweep.specs.declared.failure.Failure.TheVariants.{Lan, Bridge}
 use Rattle.mst_sweep.specs.Failures.{edit_of, failures}

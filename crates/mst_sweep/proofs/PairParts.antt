@@ -25,11 +25,11 @@ use Rattle.mst_classes.proofs.VidPlaces.{place_of_vid}
 use Rattle.mst_classes.proofs.VidPlaces.{zip_at}
 use Rattle.mst_trees.proofs.Lists.{kept_in, kept_from, no_some, some_is}
 use Rattle.mst_trees.proofs.Seen.{bridge_seen}
-use Rattle.mst_diff.proofs.Named.{names_are}
-use Rattle.mst_diff.proofs.OneDiff.{OneList}
-use Rattle.mst_diff.specs.changes.Subjects.{bridge_names}
+use Rattle.mst_facts.proofs.Named.{names_are}
+use Rattle.mst_vlan.proofs.OneList.{OneList}
+use Rattle.mst_lag.specs.View.{bridge_names}
 use Rattle.mst_facts.specs.declared.both.Both.{Both}
-use Rattle.mst_diff.specs.Reach.{has_any}
+use Rattle.mst_graph.specs.Lists.{has_any}
 use Rattle.mst_facts.specs.Both.{seen_both, seen_in_both}
 use Rattle.mst_sweep.specs.Baseline.{AreHomes}
 use Rattle.mst_sweep.specs.Cuts.{parts_at}

@@ -12,7 +12,7 @@ use Rattle.mst_trees.proofs.Seen.{BridgesRise, bridges_apart}
 use Rattle.mst_trees.proofs.Views.{names_differ}
 use Rattle.mst_facts.specs.declared.both.Both.{Both}
 use Rattle.mst_facts.specs.Both.{seen_in_both}
-use Rattle.mst_diff.proofs.Lists.{find-found}
+use Rattle.mst_facts.proofs.Lists.{find-found}
 use Rattle.mst_sweep.proofs.Positions.{has_first}
 
 module _ (net : Net) (numbers : Numbers) (w : Viewed) (view : IsView net numbers w) where

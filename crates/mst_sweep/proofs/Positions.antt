@@ -3,7 +3,7 @@ use Rattle.std.proofs.Common.{◌≡◌, ℕ, ◌+◌, ◌≤◌, ◌||◌, Bool
 use Rattle.std.specs.List.{Contains, find, flat_map, list_any, position_from}
 use Rattle.mst_graph.proofs.Members.{in_none, here, there, cases}
 use Rattle.mst_trees.proofs.Lists.{no_some, some_is}
-use Rattle.mst_diff.specs.Reach.{has_any}
+use Rattle.mst_graph.specs.Lists.{has_any}
 
 -- ---- the first place at which a test passes
 module _ {A : Type 0} (p : A → Bool) where

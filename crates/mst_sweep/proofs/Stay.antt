@@ -12,7 +12,7 @@ use Rattle.mst_net.specs.Seen.{bridge_row}
 use Rattle.mst_net.specs.Tables.{Net, Numbers, BridgeRow}
 use Rattle.mst_ids.specs.declared.name.PortName.{PortName}
 use Rattle.mst_lag.specs.Aggregation.{same_name}
-use Rattle.mst_lag.specs.View.{LogicalPort}
+use Rattle.mst_lag.specs.View.{LogicalPort, bridge_names}
 use Rattle.mst_lag.specs.Viewed.{Viewed, named_port}
 use Rattle.mst_lag.specs.declared.in_view.BridgeInView.{BridgeInView}
 use Rattle.mst_lag.specs.declared.in_view.PortInView.{PortInView}
@@ -26,12 +26,11 @@ use Rattle.mst_vlan.specs.Reach.{bridges_on, lans_up, vid_links, AreIslandsOf}
 use Rattle.mst_vlan.proofs.Renumbered.{bridge_listed}
 use Rattle.mst_classes.specs.Alike.{AreAlike}
 use Rattle.mst_vlan.proofs.LinksAlike.{links_shared}
-use Rattle.mst_diff.specs.changes.Subjects.{bridge_names}
-use Rattle.mst_diff.proofs.changes_lemmas.Lists.{filter_map-map}
+use Rattle.mst_trees.proofs.Pieces.{filter_map-map}
 use Rattle.mst_facts.specs.declared.both.Both.{Both}
 use Rattle.mst_facts.specs.Both.{seen_in_both, seen_both}
-use Rattle.mst_diff.proofs.Lists.{filter_map-filter_map, find-found}
-use Rattle.mst_diff.proofs.Named.{found_named, names_are}
+use Rattle.mst_facts.proofs.Lists.{filter_map-filter_map, find-found}
+use Rattle.mst_facts.proofs.Named.{found_named, names_are}
 use Rattle.mst_classes.specs.Classes.{HasOnly}
 use Rattle.mst_net.proofs.Keys.{names}
 use Rattle.mst_sweep.specs.declared.parts.Stays.{Stays}

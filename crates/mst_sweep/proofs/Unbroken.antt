@@ -4,8 +4,8 @@ use Rattle.std.specs.List.{AllByRecursion}
 use Rattle.std.specs.Option.{option_map_or}
 use Rattle.std.proofs.lemmas.Bool.{eqb-true, eq-eqb}
 use Rattle.std.proofs.lemmas.List.{take_more, take_all}
-use Rattle.mst_diff.proofs.changes_lemmas.Lists.{all_append}
-use Rattle.mst_diff.specs.Reach.{has_any}
+use Rattle.mst_trees.proofs.Pieces.{all_append}
+use Rattle.mst_graph.specs.Lists.{has_any}
 use Rattle.mst_trees.proofs.Entries.{all_weaker}
 use Rattle.mst_trees.proofs.Lists.{all_contained, some_is}
 use Rattle.mst_sweep.specs.Parts.{all_parts}

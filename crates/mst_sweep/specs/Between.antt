@@ -2,7 +2,7 @@
 use Rattle.std.specs.Prelude.{[], ◌∷◌}
 use Rattle.mst_graph.specs.declared.keys.Numbering.{Numbering}
 use Rattle.mst_net.specs.Tables.{Net, Numbers}
-use Rattle.mst_diff.specs.changes.declared.ports.Planned.{Planned}
+use Rattle.mst_facts.specs.declared.planned.Planned.{Planned}
 use Rattle.mst_trees.specs.Agrees.{AreOf}
 use Rattle.mst_trees.specs.Forest.{IsForest}
 use Rattle.mst_trees.specs.Outcome.{Outcome}

@@ -1,7 +1,7 @@
 -- What is known after a failure before islands are made: which VIDs have no parts, and what carries each VID.
 use Rattle.std.specs.Prelude.{◌≡◌, ℕ, []}
 use Rattle.mst_vlan.specs.Carried.{ViewWithTrees}
-use Rattle.mst_diff.specs.changes.declared.ports.Planned.{Planned}
+use Rattle.mst_facts.specs.declared.planned.Planned.{Planned}
 use Rattle.mst_sweep.specs.Between.{OfNetworks}
 use Rattle.mst_sweep.specs.Left.{AreLeft}
 use Rattle.mst_sweep.specs.Parts.{AreParts}

@@ -15,7 +15,7 @@ use Rattle.mst_net.specs.Tables.{Net}
 use Rattle.mst_lag.specs.Trees.{is_among}
 use Rattle.mst_trees.specs.Outcome.{Outcome}
 use Rattle.mst_classes.specs.AllVids.{all_vids}
-use Rattle.mst_diff.specs.Reach.{has_any}
+use Rattle.mst_graph.specs.Lists.{has_any}
 use Rattle.mst_sweep.specs.declared.cuts.CutBy.{CutBy}
 use Rattle.mst_sweep.specs.declared.cuts.CutBy.TheVariants.{One, Both, Step, Edits}
 use Rattle.mst_sweep.specs.declared.cuts.Cuts.{Cuts}

@@ -7,9 +7,10 @@ use Rattle.mst_trees.specs.Outcome.{Outcome}
 use Rattle.mst_vlan.specs.trees.Roles.{role_of}
 use Rattle.mst_vlan.specs.trees.declared.kind.Role.{Role}
 use Rattle.mst_vlan.specs.trees.declared.kind.Role.TheVariants.{Disabled}
-use Rattle.mst_diff.specs.changes.Subjects.{all_trees, bridge_names, port_names}
-use Rattle.mst_diff.specs.changes.Values.{role_number}
-use Rattle.mst_diff.specs.Roots.{root_of}
+use Rattle.mst_trees.specs.AllTrees.{all_trees}
+use Rattle.mst_lag.specs.View.{bridge_names, port_names}
+use Rattle.mst_trees.specs.RoleNumbers.{role_number}
+use Rattle.mst_facts.specs.Roots.{root_of}
 
 -- there are two roots, and they aren't the same
 abbrev pub is_other_root : Option ℕ → Option ℕ → Bool

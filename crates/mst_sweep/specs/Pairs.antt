@@ -17,8 +17,8 @@ use Rattle.mst_net.specs.After.{after, change, bridge_with, lan_with}
 use Rattle.mst_net.specs.Tables.{Net, BridgeRow, LanRow}
 use Rattle.mst_trees.specs.Outcome.{Outcome, IsOutcome}
 use Rattle.mst_vlan.specs.Reach.{AreIslandsOf}
-use Rattle.mst_diff.specs.changes.Subjects.{bridge_names}
-use Rattle.mst_diff.specs.Reach.{has_any}
+use Rattle.mst_lag.specs.View.{bridge_names}
+use Rattle.mst_graph.specs.Lists.{has_any}
 use Rattle.mst_sweep.specs.declared.failure.Failure.{Failure}
 use Rattle.mst_sweep.specs.declared.failure.Failure.TheVariants.{Lan, Bridge}
 use Rattle.mst_sweep.specs.Failures.{edit_of, failures}

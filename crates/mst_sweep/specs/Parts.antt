@@ -7,7 +7,7 @@ use Rattle.mst_net.specs.Tables.{Net}
 use Rattle.mst_lag.specs.Aggregation.{same_name}
 use Rattle.mst_trees.specs.Outcome.{Outcome}
 use Rattle.mst_vlan.specs.Reach.{AreIslandsOf}
-use Rattle.mst_diff.specs.changes.Subjects.{bridge_names}
+use Rattle.mst_lag.specs.View.{bridge_names}
 use Rattle.mst_sweep.specs.declared.parts.Stays.{Stays}
 
 -- the place of a bridge's island among the islands: none where the bridge is in none, as it is off

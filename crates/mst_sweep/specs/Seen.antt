@@ -9,7 +9,7 @@ use Rattle.mst_trees.specs.Forest.{Forest}
 use Rattle.mst_vlan.specs.trees.SeenRoles.{seen_role}
 use Rattle.mst_vlan.specs.declared.island.Island.{Island}
 use Rattle.mst_facts.specs.declared.both.Both.{Both}
-use Rattle.mst_diff.specs.Seen.{seen_root}
+use Rattle.mst_facts.specs.Named.{seen_root}
 use Rattle.mst_sweep.specs.declared.with_both.Homes.{Homes}
 use Rattle.mst_sweep.specs.declared.with_both.Places.{Places}
 use Rattle.mst_sweep.specs.declared.parts.Stays.{Stays}

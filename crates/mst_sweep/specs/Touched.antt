@@ -8,7 +8,7 @@ use Rattle.mst_trees.specs.InUse.{seen_mstis}
 use Rattle.mst_vlan.specs.trees.SeenRoles.{seen_role, seen_forwards}
 use Rattle.mst_vlan.specs.trees.declared.kind.Role.{Role}
 use Rattle.mst_vlan.specs.Seen.{seen_member}
-use Rattle.mst_diff.specs.changes.Values.{role_number}
+use Rattle.mst_trees.specs.RoleNumbers.{role_number}
 
 -- ---- roles
 -- two roles aren't the same, or just one of them is there

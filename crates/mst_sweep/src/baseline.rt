@@ -8,7 +8,7 @@ ghost use Rattle.mst_sweep.specs.Baseline.{AreHomes, IsBaseline};
 use crate::homes::homes_by;
 use indexmap::IndexMap;
 use mst_classes::classes_of_vids;
-use mst_diff::Planned;
+use mst_facts::Planned;
 use mst_graph::Numbering;
 use mst_ids::{BridgeNo, Vid};
 use mst_vlan::Carriage;

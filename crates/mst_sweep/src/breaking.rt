@@ -7,7 +7,7 @@ ghost use Rattle.mst_sweep.specs.Touched.{AreWhereTouched};
 
 use crate::baseline::Baseline;
 use crate::links::breaks_no_link;
-use mst_diff::Planned;
+use mst_facts::Planned;
 use mst_ids::Vid;
 use mst_vlan::Carriage;
 use mst_vlan::laws::islands_of_vid;

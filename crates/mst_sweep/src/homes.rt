@@ -9,7 +9,7 @@ ghost use Rattle.mst_sweep.specs.Seen.{seen_home};
 ghost use Rattle.mst_sweep.specs.Baseline.{AreHomes};
 
 use indexmap::IndexMap;
-use mst_diff::Planned;
+use mst_facts::Planned;
 use mst_ids::{BridgeNo, Vid};
 use mst_vlan::{Carriage, Island, reach};
 use std::alloc::{AllocError, Global};

@@ -5,7 +5,7 @@ ghost use Rattle.mst_net.specs.After.{after};
 ghost use Rattle.mst_net.specs.Tables.{Net, IsNetwork};
 ghost use Rattle.mst_lag.specs.View.{IsUnrestricted};
 ghost use Rattle.mst_trees.specs.Outcome.{Outcome, IsOutcome};
-ghost use Rattle.mst_diff.specs.Reach.{has_any};
+ghost use Rattle.mst_graph.specs.Lists.{has_any};
 ghost use Rattle.mst_sweep.specs.Apart.{AllAreMembers, ComeApart};
 ghost use Rattle.mst_sweep.specs.Failures.{edit_of, failures};
 ghost use Rattle.mst_sweep.specs.Pairs.{AreMade, Pair as PairOf, pairs_of, IsPairs, IsPairsPart, ArePairsParts};

@@ -2,7 +2,7 @@ ghost use Rattle.std.specs.Prelude.{◌≡◌, false, true};
 ghost use Rattle.std.specs.List.{list_any};
 ghost use Rattle.mst_sweep.specs.Touched.{seen_is_link, seen_beside_link, seen_breaks, BreaksNoLink, BreakNoLinks};
 
-use mst_diff::Planned;
+use mst_facts::Planned;
 use mst_ids::Vid;
 use mst_lag::PortInView;
 use mst_vlan::{is_member, port_forwards};

@@ -3,8 +3,7 @@ ghost use Rattle.mst_lag.specs.Aggregation.{same_name};
 ghost use Rattle.mst_trees.specs.Agrees.{Known};
 ghost use Rattle.mst_facts.specs.Both.{seen_both, seen_in_both};
 
-use mst_diff::Planned;
-use mst_facts::Both;
+use mst_facts::{Both, Planned};
 use mst_lag::BridgeInView;
 use std::alloc::{AllocError, Global};
 

@@ -4,8 +4,8 @@ ghost use Rattle.mst_ids.specs.declared.name.PortName.{PortName};
 ghost use Rattle.mst_net.specs.After.{after};
 ghost use Rattle.mst_trees.specs.Agrees.{Known};
 ghost use Rattle.mst_trees.specs.InUse.{AreInUse, seen_mstis};
-ghost use Rattle.mst_diff.specs.changes.Subjects.{port_names};
-ghost use Rattle.mst_diff.specs.changes.Values.{role_number};
+ghost use Rattle.mst_lag.specs.View.{port_names};
+ghost use Rattle.mst_trees.specs.RoleNumbers.{role_number};
 ghost use Rattle.mst_sweep.specs.Between.{OfNetworks};
 ghost use Rattle.mst_sweep.specs.declared.failure.Failure.{Failure as FailureOf};
 ghost use Rattle.mst_sweep.specs.Failures.{edit_of};
@@ -13,7 +13,7 @@ ghost use Rattle.mst_sweep.specs.Moved.{takes_part as takes, is_other_role, port
 ghost use Rattle.mst_sweep.specs.Seen.{seen_port_moved};
 ghost use Rattle.mst_sweep.specs.Touched.{AreTouched};
 
-use mst_diff::Planned;
+use mst_facts::Planned;
 use mst_ids::Tree;
 use mst_lag::PortInView;
 use mst_trees::{is_had, trees_in_use};

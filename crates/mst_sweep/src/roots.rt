@@ -1,14 +1,13 @@
 ghost use Rattle.std.specs.Prelude.{◌≡◌, IfOk};
 ghost use Rattle.std.specs.List.{list_any};
 ghost use Rattle.mst_trees.specs.InUse.{AreInUse};
-ghost use Rattle.mst_diff.specs.changes.Subjects.{bridge_names};
+ghost use Rattle.mst_lag.specs.View.{bridge_names};
 ghost use Rattle.mst_facts.specs.Both.{seen_both};
 ghost use Rattle.mst_sweep.specs.Between.{OfNetworks};
 ghost use Rattle.mst_sweep.specs.Moved.{is_other_root, root_moved as root_moved_in, moved_roots as all_moved_roots};
 ghost use Rattle.mst_sweep.specs.Seen.{seen_root_moved};
 
-use mst_diff::{Planned, root};
-use mst_facts::Both;
+use mst_facts::{Both, Planned, root};
 use mst_ids::{BridgeId, Tree};
 use mst_trees::{is_had, trees_in_use};
 use std::alloc::{AllocError, Global};

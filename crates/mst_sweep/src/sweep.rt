@@ -19,7 +19,7 @@ use crate::ports::moved_ports;
 use crate::roots::moved_roots;
 use crate::touched::{places_of, touched};
 use mst_classes::set_of;
-use mst_diff::Planned;
+use mst_facts::Planned;
 use mst_ids::{Name, Tree, VidSet};
 use mst_kinds::{Kind, SweepLine};
 use mst_rows::{Rows, Value, put};

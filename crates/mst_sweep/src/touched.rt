@@ -3,7 +3,7 @@ ghost use Rattle.mst_trees.specs.InUse.{seen_mstis};
 ghost use Rattle.mst_vlan.specs.trees.SeenRoles.{seen_role};
 ghost use Rattle.mst_sweep.specs.Touched.{differ, KeepsRoles, HaveSameRoles, AreTouched, ArePlaces};
 
-use mst_diff::Planned;
+use mst_facts::Planned;
 use mst_ids::Tree;
 use mst_lag::PortInView;
 use mst_trees::mstis_in_use;

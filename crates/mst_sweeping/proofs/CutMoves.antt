@@ -7,9 +7,9 @@ use Rattle.mst_net.specs.Tables.{Net}
 use Rattle.mst_rows.specs.Rows.{Row}
 use Rattle.mst_trees.specs.Outcome.{Outcome}
 use Rattle.mst_classes.specs.AllVids.{all_vids}
-use Rattle.mst_diff.specs.Reach.{has_any}
+use Rattle.mst_graph.specs.Lists.{has_any}
 use Rattle.mst_classes.proofs.VidPlaces.{is_vid_there}
-use Rattle.mst_diff.proofs.OneDiff.{OneList}
+use Rattle.mst_vlan.proofs.OneList.{OneList}
 use Rattle.mst_sweep.proofs.OneSweep.{one_parts}
 use Rattle.mst_sweeping.specs.declared.step.Deed.{Deed}
 use Rattle.mst_sweeping.specs.declared.step.Stepped.{Stepped}

@@ -14,8 +14,7 @@ use Rattle.mst_net.specs.Tables.{Net, BridgeRow, port_eq}
 use Rattle.mst_net.proofs.Changed.{get_changed}
 use Rattle.mst_net.proofs.Keys.{names}
 use Rattle.mst_lag.specs.Aggregation.{same_name}
-use Rattle.mst_lag.specs.View.{LogicalPort, view_ports}
-use Rattle.mst_diff.specs.changes.Subjects.{bridge_names, port_names}
+use Rattle.mst_lag.specs.View.{LogicalPort, view_ports, bridge_names, port_names}
 use Rattle.mst_trees.proofs.Entries.{all_weaker}
 use Rattle.mst_trees.proofs.Lists.{all_there, apart_cases, some_is}
 use Rattle.mst_trees.proofs.Looking.{first_found}

@@ -9,7 +9,7 @@ use Rattle.mst_lag.specs.declared.in_view.BridgeInView.{BridgeInView}
 use Rattle.mst_trees.specs.Agrees.{AreOf}
 use Rattle.mst_trees.specs.Forest.{Forest}
 use Rattle.mst_trees.proofs.Lists.{filter_mapped, mapped_twice}
-use Rattle.mst_diff.proofs.Lists.{list_any-map}
+use Rattle.mst_facts.proofs.Lists.{list_any-map}
 use Rattle.mst_vlan.specs.Reach.{bridges_on}
 use Rattle.mst_sweeping.specs.Links.{is_on, stays}
 use Rattle.mst_sweeping.specs.Seen.{seen_on, seen_stays}

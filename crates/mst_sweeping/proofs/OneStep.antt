@@ -6,12 +6,12 @@ use Rattle.mst_net.specs.Tables.{Net}
 use Rattle.mst_rows.specs.Rows.{Row}
 use Rattle.mst_trees.specs.Outcome.{Outcome}
 use Rattle.mst_classes.specs.AllVids.{all_vids}
-use Rattle.mst_diff.specs.Reach.{has_any}
+use Rattle.mst_graph.specs.Lists.{has_any}
 use Rattle.mst_trees.proofs.Entries.{all_weaker}
 use Rattle.mst_trees.proofs.Lists.{all_there}
 use Rattle.mst_trees.proofs.Looking.{filter_alike}
 use Rattle.mst_classes.proofs.VidPlaces.{is_vid_there, OneGrouping}
-use Rattle.mst_diff.proofs.OneDiff.{OneList}
+use Rattle.mst_vlan.proofs.OneList.{OneList}
 use Rattle.mst_sweep.specs.declared.cuts.CutBy.TheVariants as by
 use Rattle.mst_sweep.specs.declared.failure.Failure.{Failure}
 use Rattle.mst_sweep.specs.Cuts.{group_rows, runs_of, AreCutsBy}

@@ -5,7 +5,7 @@ use Rattle.std.specs.Option.{option_map, option_map_or, option_and_then}
 use Rattle.std.proofs.lemmas.List.Sums.{sum_by-cons}
 use Rattle.mst_ids.specs.declared.name.PortName.{PortName}
 use Rattle.mst_net.specs.Tables.{Net, Numbers, port_eq}
-use Rattle.mst_lag.specs.View.{LogicalPort}
+use Rattle.mst_lag.specs.View.{LogicalPort, port_names}
 use Rattle.mst_lag.specs.Viewed.{Viewed, named_port}
 use Rattle.mst_lag.specs.declared.in_view.PortInView.{PortInView}
 use Rattle.mst_trees.specs.Agrees.{AreOf}
@@ -13,11 +13,10 @@ use Rattle.mst_trees.specs.Forest.{Forest, IsForest}
 use Rattle.mst_vlan.specs.trees.Roles.{role_of, role_in}
 use Rattle.mst_vlan.specs.trees.SeenRoles.{seen_role}
 use Rattle.mst_vlan.specs.trees.declared.kind.Role.{Role}
-use Rattle.mst_diff.specs.changes.Subjects.{port_names}
 use Rattle.mst_trees.proofs.Entries.{all_weaker}
 use Rattle.mst_trees.proofs.Lists.{all_there, mapped_twice}
 use Rattle.mst_vlan.proofs.trees_lemmas.Named.{own_role, port_is}
-use Rattle.mst_diff.proofs.Lists.{find-found, find-map}
+use Rattle.mst_facts.proofs.Lists.{find-found, find-map}
 use Rattle.mst_sweep.specs.Moved.{is_other_role, port_moved}
 use Rattle.mst_sweep.proofs.Moved.{few_ports}
 use Rattle.mst_sweeping.specs.declared.ports.BothPorts.{BothPorts}

@@ -14,7 +14,7 @@ use Rattle.mst_lag.specs.declared.in_view.PortInView.{PortInView}
 use Rattle.mst_vlan.specs.Seen.{seen_active, seen_member}
 use Rattle.mst_trees.specs.Forest.{Forest}
 use Rattle.mst_facts.specs.declared.both.Both.{Both}
-use Rattle.mst_diff.specs.Regions.{same_told}
+use Rattle.mst_facts.specs.Told.{same_told}
 use Rattle.mst_sweep.specs.Seen.{seen_port_moved}
 use Rattle.mst_sweeping.specs.Links.{shared, staying, same_links}
 use Rattle.mst_sweeping.specs.declared.links.Link.{Link}

@@ -7,7 +7,7 @@ ghost use Rattle.mst_rows.specs.Rows.{Row};
 ghost use Rattle.mst_sweeping.specs.StepText.{AreStepRows};
 
 use crate::step::{Deed, Stepped, put_step};
-use mst_diff::Planned;
+use mst_facts::Planned;
 use mst_plan::Plan;
 use mst_rows::Rows;
 use std::alloc::{AllocError, Global};

@@ -6,8 +6,7 @@ ghost use Rattle.mst_sweep.specs.Breaking.{IsCarriageOf};
 ghost use Rattle.mst_sweeping.specs.Seen.{seen_on, seen_stays};
 
 use indexmap::IndexSet;
-use mst_diff::Planned;
-use mst_facts::Both;
+use mst_facts::{Both, Planned};
 use mst_ids::Name;
 use mst_vlan::Carriage;
 

@@ -1,6 +1,6 @@
 ghost use Rattle.std.specs.Prelude.{◌≡◌, ◌||◌, false, map, IfOk};
 ghost use Rattle.mst_vlan.specs.Carried.{CarryAlike};
-ghost use Rattle.mst_diff.specs.Reach.{has_any};
+ghost use Rattle.mst_graph.specs.Lists.{has_any};
 ghost use Rattle.mst_sweep.specs.Between.{OfNetworks};
 ghost use Rattle.mst_sweep.specs.Cuts.{names_of};
 ghost use Rattle.mst_sweep.specs.Parts.{AreParts};

@@ -12,7 +12,7 @@ ghost use Rattle.mst_sweep.specs.Pairs.{failed, with_each};
 use crate::failing::{renew, trees_ahead, trees_failed, without_failure};
 use crate::sweeping::baseline_of;
 use mst_config::laws::regions_stay;
-use mst_diff::Planned;
+use mst_facts::Planned;
 use mst_lag::{View, view};
 use mst_net::Network;
 use mst_plan::Plan;

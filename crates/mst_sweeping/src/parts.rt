@@ -1,5 +1,5 @@
 ghost use Rattle.std.specs.Prelude.{◌≡◌, map, IfOk};
-ghost use Rattle.mst_diff.specs.Reach.{has_any};
+ghost use Rattle.mst_graph.specs.Lists.{has_any};
 ghost use Rattle.mst_facts.specs.Both.{seen_both};
 ghost use Rattle.mst_sweep.specs.Between.{OfNumbered};
 ghost use Rattle.mst_sweep.specs.Baseline.{AreHomes};
@@ -7,8 +7,7 @@ ghost use Rattle.mst_sweep.specs.Cuts.{names_of};
 ghost use Rattle.mst_sweep.specs.Parts.{AreParts};
 
 use indexmap::IndexMap;
-use mst_diff::Planned;
-use mst_facts::Both;
+use mst_facts::{Both, Planned};
 use mst_ids::{BridgeNo, Name, Vid};
 use mst_sweep::{all_parts, staying};
 use std::alloc::{AllocError, Global};

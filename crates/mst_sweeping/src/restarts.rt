@@ -5,7 +5,7 @@ ghost use Rattle.std.specs.List.{list_any};
 ghost use Rattle.mst_net.specs.ByTree.{table_in};
 ghost use Rattle.mst_net.specs.Seen.{bridge_row};
 ghost use Rattle.mst_lag.specs.Aggregation.{same_name};
-ghost use Rattle.mst_diff.specs.Regions.{same_told};
+ghost use Rattle.mst_facts.specs.Told.{same_told};
 ghost use Rattle.mst_facts.specs.Both.{seen_both};
 ghost use Rattle.mst_sweep.specs.Between.{OfNetworks};
 ghost use Rattle.mst_sweeping.specs.Restarts.{restarting as all_restarting};
@@ -13,8 +13,7 @@ ghost use Rattle.mst_sweeping.specs.Seen.{seen_anew, seen_as_it_was, seen_both_p
 
 use crate::ports::BothPorts;
 use indexmap::IndexSet;
-use mst_diff::Planned;
-use mst_facts::Both;
+use mst_facts::{Both, Planned};
 use mst_ids::{Name, PortName};
 use mst_lag::View;
 use mst_lang::Kind;

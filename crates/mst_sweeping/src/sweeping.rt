@@ -10,7 +10,7 @@ ghost use Rattle.mst_plan.specs.Plan.{IsPlan};
 ghost use Rattle.mst_sweeping.specs.Sweeping.{SweepsPart, AreTold, CanFail, Puts};
 
 use crate::failing::{trees_failed, without_failure};
-use mst_diff::Planned;
+use mst_facts::Planned;
 use mst_lag::{View, view};
 use mst_net::Network;
 use mst_plan::Plan;

@@ -8,8 +8,7 @@ ghost use Rattle.mst_sweeping.specs.MovedVids.{AreVidsWhere, IsJoined, IsMoved};
 
 use crate::change::Change;
 use crate::fates::fates_at;
-use mst_classes::{classes_of_both, vids};
-use mst_diff::flagged;
+use mst_classes::{classes_of_both, flagged, vids};
 use mst_graph::Numbering;
 use mst_ids::Vid;
 use mst_sweep::{Cuts, cuts_of};

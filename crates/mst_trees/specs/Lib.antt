@@ -21,3 +21,5 @@ pub mod Settled
 pub mod Roles
 pub mod SeenRoles
 pub mod Names
+pub mod AllTrees
+pub mod RoleNumbers

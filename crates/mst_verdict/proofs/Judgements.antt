@@ -19,7 +19,7 @@ use Rattle.mst_net.proofs.Keys.{names}
 use Rattle.mst_graph.specs.declared.keys.Numbering.{Numbering}
 use Rattle.mst_ids.specs.Names.{name_cmp}
 use Rattle.mst_lag.specs.Aggregation.{same_name}
-use Rattle.mst_lag.specs.View.{LogicalPort}
+use Rattle.mst_lag.specs.View.{LogicalPort, bridge_names, port_names}
 use Rattle.mst_lag.specs.Viewed.{Viewed, IsView, named_bridge, named_port}
 use Rattle.mst_lag.specs.declared.in_view.BridgeInView.{BridgeInView}
 use Rattle.mst_lag.specs.declared.in_view.PortInView.{PortInView}
@@ -29,7 +29,6 @@ use Rattle.mst_policy.specs.declared.expectation.Expectation.TheVariants as expe
 use Rattle.mst_policy.specs.declared.expectation.Promise.{Promise}
 use Rattle.mst_policy.specs.declared.item.NameItem.TheVariants.{Is}
 use Rattle.mst_policy.specs.declared.policy.PolicyLine.{PolicyLine}
-use Rattle.mst_verify.specs.changes.Subjects.{bridge_names, port_names}
 use Rattle.mst_classes.specs.Classes.{AreClasses}
 use Rattle.mst_trees.specs.Forest.{Forest}
 use Rattle.mst_trees.specs.Outcome.{Outcome, IsOutcome}

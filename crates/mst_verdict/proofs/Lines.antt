@@ -25,7 +25,7 @@ use Rattle.mst_verdict.specs.Steps.{Change, changes}
 use Rattle.mst_verdict.specs.Told.{AreFoundIn, AreLineReasons, AreLinesTold, Found, IsFoundAt, IsLineTold, IsToldThere, expected_at, found_rows, has_reason, is_due, is_judged_at, judged, judged_of, lacked, looks_at, missing_rows, unread_by, where_whole}
 use Rattle.mst_verdict.specs.Verified.{IsVerdict, joined, network_count, promise_of, promises_of, refused_rows, rows_of_read}
 use Rattle.mst_verdict.proofs.GoesOn.{one_if}
-use Rattle.mst_verify.specs.diff.Reach.{has_any}
+use Rattle.mst_graph.specs.Lists.{has_any}
 use Rattle.mst_verdict.specs.declared.judgement.Judgement.{Judgement}
 
 -- ---- lists by places

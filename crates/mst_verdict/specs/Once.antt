@@ -5,7 +5,7 @@ use Rattle.mst_policy.specs.Items.{lists}
 use Rattle.mst_policy.specs.declared.expectation.Scope.{Scope}
 use Rattle.mst_policy.specs.declared.expectation.Scope.TheVariants as scope
 use Rattle.mst_rows.specs.Rows.{Row}
-use Rattle.mst_verify.specs.diff.Reach.{has_any}
+use Rattle.mst_graph.specs.Lists.{has_any}
 use Rattle.mst_sweep.specs.declared.failure.Failure.{Failure}
 use Rattle.mst_verify.specs.Judged.{has_now, name_of}
 use Rattle.mst_verify.specs.declared.reason.Reason.{Reason}

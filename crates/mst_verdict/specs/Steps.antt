@@ -2,7 +2,7 @@
 use Rattle.std.specs.Prelude.{◌&&◌, ◌==◌, not, Bool, true, ℕ, List, [], ◌∷◌, ◌++◌, count_by, filter, map, nat_lt, if◌then◌else◌}
 use Rattle.std.specs.List.{flat_map, list_any}
 use Rattle.mst_rows.specs.Rows.{Row}
-use Rattle.mst_verify.specs.diff.Reach.{has_any}
+use Rattle.mst_graph.specs.Lists.{has_any}
 use Rattle.mst_policy.specs.declared.policy.PolicyLine.{PolicyLine}
 use Rattle.mst_verdict.specs.Rows.{behind, is_refusal, mends_row, nothing_row, start_row}
 use Rattle.mst_verdict.specs.Texts.{news}

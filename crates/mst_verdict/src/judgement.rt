@@ -2,7 +2,7 @@ ghost use Rattle.std.specs.Prelude.{◌≡◌, ◌∷◌, ◌++◌, [], List, �
 ghost use Rattle.std.specs.List.{list_any};
 ghost use Rattle.mst_policy.specs.declared.policy.PolicyLine.{PolicyLine as LineOf};
 ghost use Rattle.mst_rows.specs.Rows.{Row};
-ghost use Rattle.mst_verify.specs.diff.Reach.{has_any};
+ghost use Rattle.mst_graph.specs.Lists.{has_any};
 ghost use Rattle.mst_verdict.specs.Judged.{found_at, line_lacks, line_rows, told_in};
 ghost use Rattle.mst_verdict.specs.Rows.{reason_row, row_at};
 ghost use Rattle.mst_verdict.specs.Steps.{no_rows};

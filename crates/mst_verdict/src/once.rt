@@ -1,7 +1,7 @@
 ghost use Rattle.std.specs.Prelude.{◌≡◌, ◌+◌, ◌++◌, ◌∷◌, [], List, None, IfOk, OnOk, count_by, filter, if◌then◌else◌, map, not};
 ghost use Rattle.std.specs.List.{flat_map, list_any};
 ghost use Rattle.mst_rows.specs.Rows.{Row};
-ghost use Rattle.mst_verify.specs.diff.Reach.{has_any};
+ghost use Rattle.mst_graph.specs.Lists.{has_any};
 ghost use Rattle.mst_verify.specs.Judged.{asks_at};
 ghost use Rattle.mst_verdict.specs.Judged.{AreTexts, FoldsBy, found_at};
 ghost use Rattle.mst_verdict.specs.Once.{is_left_out as is_left, left_out, names_it as scope_names, now_at, once_rows, others, rows_now, same_rows, told_now};

@@ -1,7 +1,7 @@
 ghost use Rattle.std.specs.Prelude.{◌≡◌, ◌++◌, ◌∷◌, [], List, IfOk, OnOk, map};
 ghost use Rattle.mst_rows.specs.Lines.{row_line};
 ghost use Rattle.mst_rows.specs.Rows.{Row};
-ghost use Rattle.mst_verify.specs.diff.Reach.{has_any};
+ghost use Rattle.mst_graph.specs.Lists.{has_any};
 ghost use Rattle.mst_verdict.specs.Rows.{missing_row, refused_row, row_at};
 ghost use Rattle.mst_verdict.specs.Told.{missing_rows, unread_rows};
 

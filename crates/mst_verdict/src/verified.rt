@@ -1,7 +1,7 @@
 ghost use Rattle.std.specs.Prelude.{◌≡◌, ◌&&◌, ◌||◌, ◌+◌, ◌≤◌, ◌++◌, List, None, true, IfOk, OnOk, count_by, length, map, not};
 ghost use Rattle.std.specs.List.{list_any};
 ghost use Rattle.mst_rows.specs.Rows.{Row, said};
-ghost use Rattle.mst_verify.specs.diff.Reach.{has_any};
+ghost use Rattle.mst_graph.specs.Lists.{has_any};
 ghost use Rattle.mst_net.specs.Tables.{Net};
 ghost use Rattle.mst_trees.specs.Outcome.{Outcome};
 ghost use Rattle.mst_sweep.specs.Failures.{failures as failures_of};

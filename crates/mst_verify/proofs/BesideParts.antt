@@ -11,7 +11,7 @@ use Rattle.mst_graph.specs.Walks.{bridge_at}
 use Rattle.mst_graph.specs.declared.keys.Numbering.{Numbering}
 use Rattle.mst_lag.specs.Viewed.{Viewed}
 use Rattle.mst_policy.specs.declared.item.NameItem.{NameItem}
-use Rattle.mst_diff.specs.changes.Subjects.{bridge_names}
+use Rattle.mst_lag.specs.View.{bridge_names}
 use Rattle.mst_net.specs.Tables.{IsNetwork, Net}
 use Rattle.mst_trees.specs.Outcome.{Outcome}
 use Rattle.mst_trees.specs.Settled.{IsSettledNet, outcome_of, SettledNet}

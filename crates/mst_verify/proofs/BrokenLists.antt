@@ -12,8 +12,8 @@ use Rattle.mst_trees.specs.Outcome.{Outcome}
 use Rattle.mst_vlan.specs.trees.Roles.{role_in}
 use Rattle.mst_vlan.specs.trees.declared.kind.Role.{Role}
 use Rattle.mst_vlan.specs.trees.declared.kind.Role.TheVariants.{Root, Designated, Alternate, Backup, Master, Disabled}
-use Rattle.mst_diff.specs.changes.Values.{role_number}
-use Rattle.mst_diff.specs.Reach.{has_any}
+use Rattle.mst_trees.specs.RoleNumbers.{role_number}
+use Rattle.mst_graph.specs.Lists.{has_any}
 use Rattle.mst_policy.specs.declared.expectation.Roles.{Roles}
 use Rattle.mst_verify.specs.Named.{vids_in}
 use Rattle.mst_verify.specs.Over.{goes_over, not_as_wanted}

@@ -11,7 +11,7 @@ use Rattle.mst_config.specs.Regions.{same_region}
 use Rattle.mst_lag.specs.Aggregation.{same_name}
 use Rattle.mst_lag.specs.Trees.{is_among}
 use Rattle.mst_trees.specs.Outcome.{Outcome}
-use Rattle.mst_diff.specs.Reach.{has_any}
+use Rattle.mst_graph.specs.Lists.{has_any}
 use Rattle.mst_vlan.specs.Reach.{bridges_on}
 use Rattle.mst_verify.specs.Named.{vids_in}
 use Rattle.mst_verify.specs.Holds.{AllReach, AreApart, AreOneRegion, AreTogether, IsReached}

@@ -12,8 +12,8 @@ use Rattle.mst_net.specs.Tables.{Net, BridgeRow, IsNetwork}
 use Rattle.mst_lag.specs.Aggregation.{same_name}
 use Rattle.mst_trees.specs.InUse.{id_in}
 use Rattle.mst_trees.specs.Outcome.{Outcome}
-use Rattle.mst_diff.specs.Reach.{has_any}
-use Rattle.mst_diff.specs.Roots.{root_of, root_name, named_by}
+use Rattle.mst_graph.specs.Lists.{has_any}
+use Rattle.mst_facts.specs.Roots.{root_of, root_name, named_by}
 use Rattle.mst_config.specs.Regions.{same_region}
 use Rattle.mst_trees.proofs.Lists.{all_contained, no_some, some_is}
 use Rattle.mst_trees.proofs.Looking.{first_found}

@@ -5,7 +5,7 @@ use Rattle.std.proofs.lemmas.Bool.Decides.{nat_tests}
 use Rattle.mst_graph.proofs.Members.{in_whole}
 use Rattle.mst_net.specs.Tables.{Net, IsNetwork}
 use Rattle.mst_trees.specs.Outcome.{Outcome, IsOutcome}
-use Rattle.mst_diff.specs.Reach.{has_any}
+use Rattle.mst_graph.specs.Lists.{has_any}
 use Rattle.mst_verify.specs.Holds.{AreLeaves, IsShallow}
 use Rattle.mst_verify.specs.Reasons.{leaf_reason, AreLeafReasons, AreDepthReasons}
 use Rattle.mst_verify.specs.declared.reason.Reason.{Reason}

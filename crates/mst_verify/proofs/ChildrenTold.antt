@@ -13,7 +13,7 @@ use Rattle.mst_note_text.specs.Depths.{ParentIn}
 use Rattle.mst_note_text.specs.declared.children.Child.{Child}
 use Rattle.mst_note_text.proofs.Chains.{one_internal}
 use Rattle.mst_note_text.proofs.Regions.{one_parent_in}
-use Rattle.mst_diff.specs.Reach.{has_any}
+use Rattle.mst_graph.specs.Lists.{has_any}
 use Rattle.mst_nested.specs.Trees.{HasTree, IsSettled, Trees}
 use Rattle.mst_trees.proofs.Lists.{all_contained}
 use Rattle.mst_vlan.proofs.Names.{tests}

@@ -13,8 +13,8 @@ use Rattle.mst_net.specs.After.{after}
 use Rattle.mst_net.specs.Tables.{Net, IsNetwork}
 use Rattle.mst_policy.specs.declared.item.NameItem.TheVariants.{Any}
 use Rattle.mst_rows.specs.Rows.{Row}
-use Rattle.mst_diff.specs.changes.Subjects.{bridge_names}
-use Rattle.mst_diff.specs.Reach.{has_any}
+use Rattle.mst_lag.specs.View.{bridge_names}
+use Rattle.mst_graph.specs.Lists.{has_any}
 use Rattle.mst_classes.specs.AllVids.{all_vids}
 use Rattle.mst_trees.specs.Outcome.{Outcome, IsOutcome}
 use Rattle.mst_classes.proofs.VidPlaces.{is_vid_there}

@@ -3,7 +3,7 @@ use Rattle.std.proofs.Common.{◌≡◌, ℕ, ◌&&◌, ◌||◌, Bool, true, fa
 use Rattle.std.specs.List.{list_all, list_any}
 use Rattle.std.specs.FinMap as fin
 use Rattle.mst_lag.specs.Trees.{is_among}
-use Rattle.mst_lag.specs.View.{LogicalPort}
+use Rattle.mst_lag.specs.View.{LogicalPort, port_names}
 use Rattle.mst_lag.specs.Viewed.{Viewed, member_lan, named_bridge, named_port}
 use Rattle.mst_lag.specs.declared.in_view.BridgeInView.{BridgeInView}
 use Rattle.mst_lag.specs.declared.in_view.MemberLan.{MemberLan}
@@ -13,10 +13,8 @@ use Rattle.mst_policy.specs.declared.item.NameItem.{NameItem}
 use Rattle.mst_policy.specs.declared.expectation.Promise.{Promise}
 use Rattle.mst_net.specs.Seen.{bridge_row}
 use Rattle.mst_net.specs.Tables.{Net, Numbers, BridgeRow}
-use Rattle.mst_diff.specs.changes.Subjects.{port_names}
-use Rattle.mst_plan_text.specs.PlanText.{is_had}
+use Rattle.mst_trees.specs.Msti.{is_had, has_msti}
 use Rattle.mst_trees.specs.Agrees.{AreOf}
-use Rattle.mst_trees.specs.Msti.{has_msti}
 use Rattle.mst_trees.specs.Seen.{trees_at}
 use Rattle.mst_summary.proofs.Lists.{any_alike, any_mapped}
 use Rattle.mst_trees.proofs.Entries.{all_weaker}

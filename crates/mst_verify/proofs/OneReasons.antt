@@ -11,7 +11,7 @@ use Rattle.mst_policy.specs.declared.expectation.Expectation.TheVariants as expe
 use Rattle.mst_rows.specs.Rows.{Row}
 use Rattle.mst_net.specs.Tables.{Net, IsNetwork}
 use Rattle.mst_config.specs.Regions.{same_region}
-use Rattle.mst_diff.specs.Reach.{has_any}
+use Rattle.mst_graph.specs.Lists.{has_any}
 use Rattle.mst_nested.specs.Trees.{IsSettled}
 use Rattle.mst_trees.specs.Outcome.{Outcome, trees_of}
 use Rattle.mst_vlan.specs.Reach.{bridges_on}

@@ -7,7 +7,7 @@ use Rattle.mst_lag.specs.View.{LogicalPort}
 use Rattle.mst_lag.specs.Viewed.{named_port}
 use Rattle.mst_lag.specs.declared.in_view.PortInView.{PortInView}
 use Rattle.mst_policy.specs.declared.expectation.Roles.{Roles}
-use Rattle.mst_diff.specs.Reach.{has_any}
+use Rattle.mst_graph.specs.Lists.{has_any}
 use Rattle.mst_vlan.specs.trees.Roles.{role_in}
 use Rattle.mst_vlan.specs.trees.SeenRoles.{seen_role}
 use Rattle.mst_vlan.specs.trees.declared.kind.Role.{Role}

@@ -10,8 +10,8 @@ use Rattle.mst_lag.specs.Viewed.{named_bridge}
 use Rattle.mst_lag.specs.declared.in_view.BridgeInView.{BridgeInView}
 use Rattle.mst_net.specs.Tables.{Net, IsNetwork}
 use Rattle.mst_trees.specs.Outcome.{Outcome}
-use Rattle.mst_diff.specs.Reach.{has_any}
-use Rattle.mst_diff.specs.Roots.{root_of}
+use Rattle.mst_graph.specs.Lists.{has_any}
+use Rattle.mst_facts.specs.Roots.{root_of}
 use Rattle.mst_summary.specs.Roots.{least}
 use Rattle.mst_summary.specs.declared.roots.Follower.{Follower}
 use Rattle.mst_summary.proofs.Lists.{passed_more}

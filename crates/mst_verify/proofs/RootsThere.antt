@@ -10,7 +10,7 @@ use Rattle.mst_vector.specs.declared.msti.MstiVector.{MstiVector}
 use Rattle.mst_nested.specs.Trees.{IsSettled}
 use Rattle.mst_trees.specs.Msti.{has_msti}
 use Rattle.mst_trees.specs.Outcome.{Outcome, trees_of}
-use Rattle.mst_diff.specs.Roots.{root_of}
+use Rattle.mst_facts.specs.Roots.{root_of}
 use Rattle.mst_trees.proofs.Lists.{no_some, some_is}
 use Rattle.mst_vlan.proofs.Names.{tests}
 use Rattle.mst_note_text.proofs.Tops.{internal_depth, external_depth, ends_cist, ends_msti}

@@ -13,8 +13,8 @@ use Rattle.mst_net.specs.ByTree.{by_tree}
 use Rattle.mst_net.specs.Tables.{Net, BridgeRow, IsNetwork}
 use Rattle.mst_trees.specs.InUse.{id_in}
 use Rattle.mst_trees.specs.Outcome.{Outcome}
-use Rattle.mst_diff.specs.Reach.{has_any}
-use Rattle.mst_diff.specs.Roots.{root_of}
+use Rattle.mst_graph.specs.Lists.{has_any}
+use Rattle.mst_facts.specs.Roots.{root_of}
 use Rattle.mst_config.specs.Regions.{same_region}
 use Rattle.mst_summary.specs.Roots.{least, with_lesser}
 use Rattle.mst_summary.specs.declared.roots.Follower.{Follower}

@@ -5,7 +5,7 @@ use Rattle.std.specs.List.{Contains, cons_option, filter, filter_map, flat_map, 
 use Rattle.std.proofs.lemmas.Bool.{eqb-true}
 use Rattle.mst_graph.specs.Groups.{IsThinned, StandOnce, nothing, kept}
 use Rattle.mst_graph.proofs.Members.{here, there, cases, in_none, in_filter, from_filter}
-use Rattle.mst_diff.specs.Reach.{has_any}
+use Rattle.mst_graph.specs.Lists.{has_any}
 use Rattle.mst_trees.proofs.Lists.{kept_in, kept_from, no_some}
 
 -- ---- there is something

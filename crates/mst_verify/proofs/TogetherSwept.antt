@@ -14,9 +14,9 @@ use Rattle.mst_net.specs.After.{after}
 use Rattle.mst_net.specs.Tables.{IsNetwork, Net}
 use Rattle.mst_policy.specs.declared.item.NameItem.TheVariants.{Any}
 use Rattle.mst_rows.specs.Rows.{Row}
-use Rattle.mst_diff.proofs.changes_lemmas.Lists.{flat_map-flat_map}
-use Rattle.mst_diff.specs.changes.Subjects.{bridge_names}
-use Rattle.mst_diff.specs.Reach.{has_any}
+use Rattle.mst_trees.proofs.Pieces.{flat_map-flat_map}
+use Rattle.mst_lag.specs.View.{bridge_names}
+use Rattle.mst_graph.specs.Lists.{has_any}
 use Rattle.mst_classes.specs.AllVids.{all_vids}
 use Rattle.mst_trees.specs.Outcome.{IsOutcome, Outcome}
 use Rattle.mst_classes.proofs.VidPlaces.{is_vid_there}

@@ -14,7 +14,7 @@ use Rattle.mst_classes.specs.AllVids.{all_vids}
 use Rattle.mst_trees.specs.Outcome.{Outcome}
 use Rattle.mst_trees.specs.Settled.{SettledNet, IsSettledNet, outcome_of}
 use Rattle.mst_classes.specs.Classes.{AreClasses}
-use Rattle.mst_diff.specs.Classes.{flag_at}
+use Rattle.mst_classes.specs.Flags.{flag_at}
 use Rattle.mst_vlan.proofs.LinksAlike.{links_shared}
 use Rattle.mst_classes.proofs.VidPlaces.{numbers_below}
 use Rattle.mst_classes.proofs.VidPlaces.{vid_place}

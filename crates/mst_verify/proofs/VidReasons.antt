@@ -9,7 +9,7 @@ use Rattle.mst_lag.specs.Viewed.{Viewed}
 use Rattle.mst_classes.specs.AllVids.{NumberEach}
 use Rattle.mst_classes.specs.AllVids.{all_vids}
 use Rattle.mst_classes.specs.Classes.{AreClasses}
-use Rattle.mst_diff.specs.Classes.{flag_at}
+use Rattle.mst_classes.specs.Flags.{flag_at}
 use Rattle.mst_sweep.specs.Cuts.{names_of, parts_at}
 use Rattle.mst_verify.specs.Grouping.{HasBody}
 use Rattle.mst_verify.specs.Islands.{AreOfClasses}

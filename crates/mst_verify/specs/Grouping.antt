@@ -2,7 +2,7 @@
 use Rattle.std.specs.Prelude.{◌≡◌, ℕ, Bool, List, [], ◌∷◌, if◌then◌else◌}
 use Rattle.mst_ids.specs.Vids.{set_where}
 use Rattle.mst_lag.specs.Trees.{is_among}
-use Rattle.mst_diff.specs.Reach.{has_any}
+use Rattle.mst_graph.specs.Lists.{has_any}
 use Rattle.mst_sweep.specs.Cuts.{parts_at}
 use Rattle.mst_verify.specs.Reasons.{Parts, has_two}
 use Rattle.mst_verify.specs.declared.grouping.Telling.{Telling}

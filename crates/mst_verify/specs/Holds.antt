@@ -19,8 +19,8 @@ use Rattle.mst_vlan.specs.trees.Roles.{role_in}
 use Rattle.mst_vlan.specs.trees.declared.kind.Role.{Role}
 use Rattle.mst_vlan.specs.trees.declared.kind.Role.TheVariants.{Root, Designated, Alternate, Backup, Master, Disabled}
 use Rattle.mst_vlan.specs.Reach.{bridges_on, vid_links}
-use Rattle.mst_diff.specs.Reach.{has_any}
-use Rattle.mst_diff.specs.Roots.{root_name}
+use Rattle.mst_graph.specs.Lists.{has_any}
+use Rattle.mst_facts.specs.Roots.{root_name}
 use Rattle.mst_policy.specs.declared.expectation.Expectation.{Expectation}
 use Rattle.mst_policy.specs.declared.expectation.Expectation.TheVariants as expect
 use Rattle.mst_policy.specs.declared.expectation.Roles.{Roles}

@@ -1,6 +1,4 @@
 pub use Rattle.mst_summary.specs as summary
-pub use Rattle.mst_diff.specs.changes as changes
-pub use Rattle.mst_diff.specs as diff
 pub mod Named
 pub mod Roots
 pub mod Over

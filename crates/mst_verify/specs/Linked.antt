@@ -6,7 +6,7 @@ use Rattle.mst_policy.specs.declared.expectation.Expectation.TheVariants as expe
 use Rattle.mst_policy.specs.declared.expectation.Promise.{Promise}
 use Rattle.mst_policy.specs.declared.expectation.Scope.TheVariants as scope
 use Rattle.mst_policy.specs.declared.item.NameItem.{NameItem}
-use Rattle.mst_diff.specs.Reach.{has_any}
+use Rattle.mst_graph.specs.Lists.{has_any}
 use Rattle.mst_net.specs.After.{after}
 use Rattle.mst_net.specs.Tables.{Net}
 use Rattle.mst_vlan.specs.Reach.{bridges_on}

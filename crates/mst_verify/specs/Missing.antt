@@ -5,9 +5,9 @@ use Rattle.std.specs.Option.{option_map_or}
 use Rattle.std.specs.FinMap as fin
 use Rattle.mst_ids.specs.declared.name.PortName.{PortName}
 use Rattle.mst_net.specs.Tables.{Net}
-use Rattle.mst_plan_text.specs.PlanText.{is_had}
-use Rattle.mst_diff.specs.changes.Subjects.{port_names}
-use Rattle.mst_diff.specs.Reach.{has_any}
+use Rattle.mst_trees.specs.Msti.{is_had}
+use Rattle.mst_lag.specs.View.{port_names}
+use Rattle.mst_graph.specs.Lists.{has_any}
 use Rattle.mst_sweep.specs.Failures.{failures}
 use Rattle.mst_policy.specs.Items.{item_has, port_item_has}
 use Rattle.mst_policy.specs.declared.item.NameItem.{NameItem}

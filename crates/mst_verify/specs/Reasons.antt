@@ -25,8 +25,8 @@ use Rattle.mst_vlan.specs.trees.declared.kind.Role.{Role}
 use Rattle.mst_vlan.specs.trees.declared.kind.Role.TheVariants as a_role
 use Rattle.mst_vlan.specs.Reach.{bridges_on}
 use Rattle.mst_sweep.specs.Parts.{ArePartsOf}
-use Rattle.mst_diff.specs.changes.Values.{role_number}
-use Rattle.mst_diff.specs.Reach.{has_any}
+use Rattle.mst_trees.specs.RoleNumbers.{role_number}
+use Rattle.mst_graph.specs.Lists.{has_any}
 use Rattle.mst_policy.specs.declared.expectation.Expectation.{Expectation}
 use Rattle.mst_policy.specs.declared.expectation.Expectation.TheVariants as expect
 use Rattle.mst_policy.specs.declared.expectation.Roles.{Roles}

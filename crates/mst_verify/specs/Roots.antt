@@ -9,7 +9,7 @@ use Rattle.mst_config.specs.Regions.{same_region}
 use Rattle.mst_lag.specs.Aggregation.{same_name}
 use Rattle.mst_trees.specs.InUse.{id_in}
 use Rattle.mst_trees.specs.Outcome.{Outcome}
-use Rattle.mst_diff.specs.Roots.{root_of, root_name}
+use Rattle.mst_facts.specs.Roots.{root_of, root_name}
 
 -- a bridge has a root in the tree, and in a tree other than 0 it is of B's region. One that is off or hasn't the tree has no root
 abbrev pub is_concerned : Net → Outcome → ℕ → List ℕ → List ℕ → Bool

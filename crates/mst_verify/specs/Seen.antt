@@ -22,7 +22,7 @@ use Rattle.mst_trees.specs.InUse.{id_in}
 use Rattle.mst_trees.specs.Outcome.{Outcome}
 use Rattle.mst_vlan.specs.trees.SeenRoles.{seen_role}
 use Rattle.mst_vlan.specs.trees.declared.kind.Role.{Role}
-use Rattle.mst_diff.specs.Reach.{has_any}
+use Rattle.mst_graph.specs.Lists.{has_any}
 use Rattle.mst_summary.specs.Roots.{follower}
 use Rattle.mst_summary.specs.declared.roots.Follower.{Follower}
 use Rattle.mst_policy.specs.Items as policy

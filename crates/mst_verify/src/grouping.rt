@@ -1,6 +1,6 @@
 ghost use Rattle.std.specs.Prelude.{◌≡◌, ◌++◌, IfOk, OnOk, length, map};
 ghost use Rattle.std.specs.List.{flat_map};
-ghost use Rattle.mst_diff.specs.Reach.{has_any};
+ghost use Rattle.mst_graph.specs.Lists.{has_any};
 ghost use Rattle.mst_classes.specs.AllVids.{NumberEach};
 ghost use Rattle.mst_sweep.specs.Cuts.{names_of, parts_at as parts_at_vid};
 ghost use Rattle.mst_verify.specs.Grouping.{HasBody, reason_of as reason_of_parts, tells, tells_of};

@@ -8,7 +8,7 @@ ghost use Rattle.mst_verify.specs.Islands.{AreAlike, AreKept, AreMade, AreMadeBy
 use crate::before::Before;
 use crate::vids::classes_asked;
 use indexmap::IndexMap;
-use mst_diff::Planned;
+use mst_facts::Planned;
 use mst_ids::{BridgeNo, Vid, VidSet};
 use mst_sweep::{homes_by, homes_of};
 use mst_trees::Settled;

@@ -6,7 +6,7 @@ ghost use Rattle.mst_lag.specs.Aggregation.{same_name};
 ghost use Rattle.mst_lag.specs.Viewed.{named_bridge};
 ghost use Rattle.mst_config.specs.Regions.{same_region};
 ghost use Rattle.mst_trees.specs.Settled.{outcome_of};
-ghost use Rattle.mst_diff.specs.Reach.{has_any};
+ghost use Rattle.mst_graph.specs.Lists.{has_any};
 ghost use Rattle.mst_summary.specs.Roots.{least as least_of};
 ghost use Rattle.mst_summary.specs.declared.roots.Follower.{Follower as FollowerOf};
 ghost use Rattle.mst_verify.specs.Reasons.{AreRootReasons, other_next as other_next_of};

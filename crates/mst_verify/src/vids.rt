@@ -1,6 +1,6 @@
 ghost use Rattle.std.specs.Prelude.{◌≡◌, ◌-◌, ◌<◌, ℕ, IfOk, length, map, slice_index, true};
 ghost use Rattle.std.specs.List.{All, Contains};
-ghost use Rattle.mst_diff.specs.Classes.{flag_at};
+ghost use Rattle.mst_classes.specs.Flags.{flag_at};
 ghost use Rattle.mst_classes.specs.AllVids.{NumberEach};
 ghost use Rattle.mst_verify.specs.Named.{vids_in};
 

@@ -17,3 +17,4 @@ pub mod Links
 pub mod ByNumber
 pub mod NamedInView
 pub mod LinksAlike
+pub mod OneList

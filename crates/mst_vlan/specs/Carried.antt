@@ -6,6 +6,7 @@ use Rattle.mst_lag.specs.declared.in_view.PortInView.{PortInView}
 use Rattle.mst_trees.specs.Forest.{Forest}
 use Rattle.mst_trees.specs.SeenRoles.{seen_forwards}
 use Rattle.mst_vlan.specs.Seen.{seen_member, seen_active}
+use Rattle.mst_trees.specs.Settled.{SettledNet}
 
 -- a view of a network with its trees
 pub record ViewWithTrees : Type 0 where
@@ -32,3 +33,7 @@ CarryAlike a b vid = seen_carried a.view a.forest vid ≡ seen_carried b.view b.
 pub record AreFlags (a b : ViewWithTrees) (places : List ℕ) (flags : List Bool) : Type 0 where
   pub as_long : length flags ≡ length places
   pub alike : (i : ℕ) → i < length places → slice_index_or flags i false ≡ false → CarryAlike a b (slice_index places i + 1)
+
+-- the view with its trees
+abbrev pub with_trees : SettledNet → ViewWithTrees
+with_trees s = record { view = s.view; forest = s.forest }

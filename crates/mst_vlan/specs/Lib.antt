@@ -1,4 +1,3 @@
-pub use Rattle.mst_trees.specs.settle as settle
 pub use Rattle.mst_trees.specs as trees
 pub mod Active
 pub mod Reach

@@ -1,4 +1,5 @@
-ghost use Rattle.std.specs.Prelude.{◌≡◌, IfOk};
+ghost use Rattle.std.specs.Prelude.{◌≡◌, IfOk, false};
+ghost use Rattle.mst_graph.specs.Lists.{has_any};
 
 use mst_ids::{BridgeNo, LanNo};
 use std::alloc::{AllocError, Global};
@@ -71,4 +72,14 @@ impl LanList {
 pub struct Island {
     pub bridges: BridgeList,
     pub lans: LanList,
+}
+
+/// Whether an island has a bridge.
+pub fn has_bridge(island: &Island) -> bool
+    ensures { result ≡ has_any island.now.bridges }
+{
+    match island.bridges.as_slice() {
+        [] => false,
+        [..] => true,
+    }
 }

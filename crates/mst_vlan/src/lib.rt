@@ -13,7 +13,7 @@ mod topology;
 
 pub use carriage::Carriage;
 pub use comparing::differing;
-pub use island::{BridgeList, Island, LanList};
+pub use island::{BridgeList, Island, LanList, has_bridge};
 pub use mst_trees::{
     Forest, Role, Settled, bridge_id, cist_port, is_had, laws as trees_laws, msti_port,
     mstis_in_use, port_forwards, port_role, role_of, trees_in_use,

@@ -3,7 +3,7 @@ use Rattle.std.proofs.lemmas.Result.{IfOk-weaker}
 use Rattle.mst_lag.specs.Viewed.{named_port}
 use Rattle.mst_trees.specs.Settled.{outcome_of}
 use Rattle.mst_trees.proofs.Seen.{port_of_net}
-use Rattle.mst_verify.specs.diff.Roots.{each_once}
+use Rattle.mst_graph.specs.Lists.{each_once}
 use Rattle.mst_advise.specs.Contests.{contests_in, lost_by}
 use Rattle.mst_advise.specs.InQuestion.{in_question}
 use Rattle.mst_advise.specs.Settings.{same_setting}

@@ -1,6 +1,6 @@
 use Rattle.std.proofs.Common.{[], ap, sym, ◌∙◌}
 use Rattle.std.proofs.lemmas.List.{take_all}
-use Rattle.mst_verify.specs.diff.Roots.{each_once, with_new}
+use Rattle.mst_graph.specs.Lists.{each_once, with_new}
 use Rattle.mst_verify.proofs.summary_lemmas.Lists.{fold_more}
 use Rattle.mst_advise.specs.Settings.{same_setting}
 use Rattle.mst_advise.proofs.setting.once.Goals as goal

@@ -1,5 +1,5 @@
 use Rattle.std.proofs.Common.{◌≡◌, take}
-use Rattle.mst_verify.specs.diff.Roots.{each_once}
+use Rattle.mst_graph.specs.Lists.{each_once}
 use Rattle.mst_advise.specs.Settings.{same_setting}
 use Rattle.mst_advise.proofs.setting.once.Given as goal
 

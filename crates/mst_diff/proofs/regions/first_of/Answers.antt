@@ -1,7 +1,7 @@
 use Rattle.std.proofs.Common.{ap, ◌∙◌}
 use Rattle.std.specs.Option.{unwrap_or}
-use Rattle.mst_diff.specs.Seen.{seen_found}
-use Rattle.mst_diff.proofs.Named.{first_named}
+use Rattle.mst_facts.specs.Named.{seen_found}
+use Rattle.mst_facts.proofs.Named.{first_named}
 use Rattle.mst_diff.proofs.regions.first_of.Goals as goal
 
 pub returns : goal.returns

@@ -1,7 +1,8 @@
 use Rattle.std.proofs.Common.{◌++◌, map, sym, ap, subst, ◌∙◌}
 use Rattle.std.specs.List.{AllByRecursion, filter_map, flat_map}
 use Rattle.std.proofs.lemmas.Result.{on_ok_weaker}
-use Rattle.mst_diff.specs.Roots.{each_once, same_pair, root_unless}
+use Rattle.mst_graph.specs.Lists.{each_once}
+use Rattle.mst_diff.specs.Roots.{same_pair, root_unless}
 use Rattle.mst_facts.specs.Both.{IsBoth}
 use Rattle.mst_diff.specs.Seen.{pair_of, row_of_root}
 use Rattle.mst_diff.proofs.Shared.{are_both, roots_named}

@@ -1,6 +1,7 @@
 use Rattle.std.proofs.Common.{◌≡◌, take}
 use Rattle.std.specs.List.{filter_map}
-use Rattle.mst_diff.specs.Roots.{each_once, same_pair}
+use Rattle.mst_graph.specs.Lists.{each_once}
+use Rattle.mst_diff.specs.Roots.{same_pair}
 use Rattle.mst_diff.specs.Seen.{pair_of}
 use Rattle.mst_diff.proofs.roots.pairs.Given as goal
 

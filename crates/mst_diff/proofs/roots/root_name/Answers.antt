@@ -1,8 +1,8 @@
 use Rattle.std.proofs.Common.{ap, ◌∙◌}
 use Rattle.std.specs.Option.{option_and_then}
-use Rattle.mst_diff.specs.Roots.{named_by}
-use Rattle.mst_diff.specs.Seen.{name_by}
-use Rattle.mst_diff.proofs.Named.{id_named}
+use Rattle.mst_facts.specs.Roots.{named_by}
+use Rattle.mst_facts.specs.Named.{name_by}
+use Rattle.mst_facts.proofs.Named.{id_named}
 use Rattle.mst_diff.proofs.roots.root_name.Goals as goal
 
 pub returns : goal.returns

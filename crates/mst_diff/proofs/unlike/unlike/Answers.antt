@@ -1,7 +1,7 @@
 use Rattle.std.proofs.Common.{ℕ, ◌+◌, get_or, subst, sym, ◌∙◌}
 use Rattle.std.proofs.lemmas.Result.{IfOk-weaker}
-use Rattle.mst_vlan.specs.Carried.{AreFlags}
-use Rattle.mst_diff.specs.Seen.{HaveSameEnds, with_trees}
+use Rattle.mst_vlan.specs.Carried.{AreFlags, with_trees}
+use Rattle.mst_diff.specs.Seen.{HaveSameEnds}
 use Rattle.mst_diff.proofs.SameIslands.{none_unlike}
 use Rattle.mst_diff.proofs.unlike.unlike.Goals as goal
 

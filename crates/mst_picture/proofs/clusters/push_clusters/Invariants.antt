@@ -1,5 +1,5 @@
 use Rattle.std.proofs.Common.{◌≤◌, take}
-use Rattle.mst_summary.specs.diff.Reach.{has_any}
+use Rattle.mst_graph.specs.Lists.{has_any}
 use Rattle.mst_picture.specs.InView.{cluster_of}
 use Rattle.mst_picture.proofs.Numbered.{AreDrawn}
 use Rattle.mst_picture.proofs.clusters.push_clusters.Given as goal

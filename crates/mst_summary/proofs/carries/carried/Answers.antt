@@ -10,7 +10,7 @@ use Rattle.mst_classes.proofs.VidPlaces.{is_vid_there}
 use Rattle.mst_vlan.proofs.Renumbered.{all_members}
 use Rattle.mst_vlan.specs.Carried.{ViewWithTrees}
 use Rattle.mst_summary.specs.Carries.{goes_over, carried}
-use Rattle.mst_diff.specs.Classes.{flag_at}
+use Rattle.mst_classes.specs.Flags.{flag_at}
 use Rattle.mst_summary.specs.Places.{places_on, with_places}
 use Rattle.mst_summary.specs.Seen.{seen_on, seen_over}
 use Rattle.mst_summary.proofs.Named.{over_named}

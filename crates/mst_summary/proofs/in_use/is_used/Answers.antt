@@ -2,7 +2,7 @@ use Rattle.std.proofs.Common.{◌≡◌, ◌==◌, true, sym, ap, ◌∙◌}
 use Rattle.mst_lag.specs.Trees.{is_among}
 use Rattle.mst_lag.specs.declared.in_view.BridgeInView.{BridgeInView}
 use Rattle.mst_trees.specs.Seen.{trees_at}
-use Rattle.mst_diff.specs.Reach.{has_any}
+use Rattle.mst_graph.specs.Lists.{has_any}
 use Rattle.mst_summary.proofs.Lists.{any_or}
 use Rattle.mst_summary.proofs.in_use.is_used.Goals as goal
 

@@ -1,6 +1,6 @@
 use Rattle.std.proofs.Common.{◌≡◌, ◌-◌, ◌<◌, ℕ, List, [], ◌∷◌, get_or, map, true, refl, sym, ap, subst, ◌∙◌}
 use Rattle.mst_ids.specs.Vids.{is_vid}
-use Rattle.mst_diff.specs.Reach.{has_any}
+use Rattle.mst_graph.specs.Lists.{has_any}
 use Rattle.mst_sweep.specs.declared.cuts.CutBy.{CutBy}
 use Rattle.mst_sweep.specs.declared.cuts.CutBy.TheVariants.{Both}
 use Rattle.mst_sweep.specs.Cuts.{names_of, parts_at, rows_of}

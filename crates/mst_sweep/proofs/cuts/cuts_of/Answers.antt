@@ -6,7 +6,7 @@ use Rattle.mst_classes.specs.AllVids.{NumberEach}
 use Rattle.mst_classes.specs.AllVids.{all_vids}
 use Rattle.mst_classes.proofs.VidPlaces.{vids_long}
 use Rattle.mst_classes.proofs.VidPlaces.{numbers_below, each_below}
-use Rattle.mst_diff.specs.Reach.{has_any}
+use Rattle.mst_graph.specs.Lists.{has_any}
 use Rattle.mst_rows.specs.Rows.{Row}
 use Rattle.mst_sweep.specs.Cuts.{group_rows, names_of, parts_at, AreCutsBy}
 use Rattle.mst_sweep.proofs.NoCuts.{none_at, no_cuts}

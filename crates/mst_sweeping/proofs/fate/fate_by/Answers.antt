@@ -1,5 +1,5 @@
 use Rattle.std.proofs.Common.{◌≡◌, ◌||◌, refl, ap, ◌∙◌, map}
-use Rattle.mst_diff.specs.Reach.{has_any}
+use Rattle.mst_graph.specs.Lists.{has_any}
 use Rattle.mst_sweep.specs.Cuts.{names_of}
 use Rattle.mst_sweeping.specs.MovedVids.{links_differ}
 use Rattle.mst_sweeping.specs.Seen.{seen_differ}

@@ -2,7 +2,7 @@ use Rattle.std.proofs.Common.{◌≡◌, List, ◌∷◌, ◌++◌, [], ap, subs
 use Rattle.mst_ids.specs.Vids.{runs_from, set_where}
 use Rattle.mst_lag.specs.Trees.{is_among}
 use Rattle.mst_rows.specs.Rows.{Row}
-use Rattle.mst_diff.specs.Reach.{has_any}
+use Rattle.mst_graph.specs.Lists.{has_any}
 use Rattle.mst_sweep.specs.Cuts.{rows_of, runs_of}
 use Rattle.mst_sweeping.specs.StepText.{cut_by, deed_row, restart_rows}
 use Rattle.mst_sweeping.proofs.step.put_told.Goals as goal

@@ -7,7 +7,7 @@ use Rattle.mst_sweep.specs.Parts.{AreParts}
 use Rattle.mst_sweep.proofs.CutsBy.{cuts_too}
 use Rattle.mst_sweep.proofs.PairParts.{have_parts}
 use Rattle.mst_sweeping.specs.MovedVids.{IsJoined, IsMoved}
-use Rattle.mst_diff.specs.Classes.{flag_at}
+use Rattle.mst_classes.specs.Flags.{flag_at}
 use Rattle.mst_sweeping.proofs.SameFate.{parts_alike, joined_alike, moved_alike}
 use Rattle.mst_sweeping.proofs.Flagged.{class_has}
 use Rattle.mst_sweeping.proofs.told.told_of.Goals as goal

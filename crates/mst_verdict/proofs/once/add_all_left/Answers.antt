@@ -2,7 +2,7 @@ use Rattle.std.proofs.Common.{◌≡◌, ◌∙◌, ◌+◌, ◌++◌, Bool, Lis
 use Rattle.std.specs.List.{count_by, flat_map}
 use Rattle.std.proofs.lemmas.List.{take_all}
 use Rattle.mst_rows.specs.Rows.{Row}
-use Rattle.mst_verify.specs.diff.Reach.{has_any}
+use Rattle.mst_graph.specs.Lists.{has_any}
 use Rattle.mst_verdict.specs.Judged.{AreTexts, found_at}
 use Rattle.mst_verdict.specs.Once.{left_out}
 use Rattle.mst_verdict.specs.Told.{Found}

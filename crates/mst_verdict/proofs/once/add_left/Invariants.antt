@@ -1,7 +1,7 @@
 use Rattle.std.proofs.Common.{◌≡◌, ◌++◌, List, None, take}
 use Rattle.std.specs.List.{filter}
 use Rattle.mst_rows.specs.Rows.{Row}
-use Rattle.mst_verify.specs.diff.Reach.{has_any}
+use Rattle.mst_graph.specs.Lists.{has_any}
 use Rattle.mst_verdict.specs.Judged.{AreTexts, FoldsBy}
 use Rattle.mst_verdict.specs.Once.{is_left_out}
 use Rattle.mst_verdict.specs.Told.{reason_rows}

@@ -2,7 +2,7 @@ use Rattle.std.proofs.Common.{◌≡◌, ◌∙◌, [], ◌++◌, ℕ, List, ap,
 use Rattle.std.specs.List.{count_by, flat_map}
 use Rattle.std.specs.Result.{OnOk}
 use Rattle.mst_rows.specs.Rows.{Row}
-use Rattle.mst_verify.specs.diff.Reach.{has_any}
+use Rattle.mst_graph.specs.Lists.{has_any}
 use Rattle.mst_verdict.specs.Judged.{AreTexts, found_at}
 use Rattle.mst_verdict.specs.Once.{left_out, once_rows, others, rows_now, same_rows, told_now}
 use Rattle.mst_verdict.specs.Told.{Found}

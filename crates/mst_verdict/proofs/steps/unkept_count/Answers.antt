@@ -1,7 +1,7 @@
 use Rattle.std.proofs.Common.{◌≡◌, ◌∙◌, ◌+◌, ap, arith, sym}
 use Rattle.std.proofs.lemmas.List.{take_all}
 use Rattle.mst_policy.specs.declared.policy.PolicyLine.{PolicyLine}
-use Rattle.mst_verify.specs.diff.Reach.{has_any}
+use Rattle.mst_graph.specs.Lists.{has_any}
 use Rattle.mst_verdict.specs.Judged.{line_rows, told_in}
 use Rattle.mst_verdict.specs.Steps.{unkept_count}
 use Rattle.mst_verdict.proofs.GoesOn.{at_place, counted_each, one_few, one_if}

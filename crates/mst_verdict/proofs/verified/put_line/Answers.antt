@@ -1,5 +1,5 @@
 use Rattle.std.proofs.Common.{◌∙◌, ap, map, sym}
-use Rattle.mst_verify.specs.diff.Reach.{has_any}
+use Rattle.mst_graph.specs.Lists.{has_any}
 use Rattle.mst_verdict.specs.Judged.{found_at, line_found}
 use Rattle.mst_verdict.specs.Verified.{is_broken_by, rows_of_read}
 use Rattle.mst_verdict.proofs.Only.{any_map, verdict_only, verdict_some}

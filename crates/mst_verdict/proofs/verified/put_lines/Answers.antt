@@ -2,7 +2,7 @@ use Rattle.std.proofs.Common.{◌≡◌, ◌∙◌, ◌∷◌, [], ◌++◌, ℕ
 use Rattle.std.proofs.lemmas.List.{take_all}
 use Rattle.mst_policy.specs.declared.policy.PolicyLine.{PolicyLine}
 use Rattle.mst_rows.specs.Rows.{Row}
-use Rattle.mst_verify.specs.diff.Reach.{has_any}
+use Rattle.mst_graph.specs.Lists.{has_any}
 use Rattle.mst_verdict.specs.Judged.{line_found, verdicts_by}
 use Rattle.mst_verdict.specs.Verified.{joined, rows_of_read}
 use Rattle.mst_verdict.proofs.GoesOn.{each, flat_each, more, taken, then_mapped, whole}

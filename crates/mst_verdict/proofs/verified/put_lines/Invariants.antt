@@ -1,6 +1,6 @@
 use Rattle.std.proofs.Common.{◌≡◌, ◌++◌, List, map, take}
 use Rattle.mst_rows.specs.Rows.{Row}
-use Rattle.mst_verify.specs.diff.Reach.{has_any}
+use Rattle.mst_graph.specs.Lists.{has_any}
 use Rattle.mst_verdict.specs.Judged.{verdicts_by}
 use Rattle.mst_verdict.specs.Verified.{joined}
 use Rattle.mst_verdict.specs.contracts.verified.put_lines.{R-type}

@@ -2,7 +2,7 @@ use Rattle.std.proofs.Common.{◌≡◌, ◌∙◌, ◌+◌, ◌++◌, ℕ, List
 use Rattle.std.proofs.lemmas.List.{take_all}
 use Rattle.mst_policy.specs.declared.policy.PolicyLine.{PolicyLine}
 use Rattle.mst_rows.specs.Rows.{Row}
-use Rattle.mst_verify.specs.diff.Reach.{has_any}
+use Rattle.mst_graph.specs.Lists.{has_any}
 use Rattle.mst_verdict.specs.Judged.{line_lacks, refused_at, refused_by}
 use Rattle.mst_verdict.proofs.GoesOn.{flat_each, more, one_few, one_if, taken, whole}
 use Rattle.mst_verdict.proofs.Lines.{refused_one}

@@ -3,7 +3,7 @@ use Rattle.std.specs.List.{count_by}
 use Rattle.std.proofs.lemmas.List.{length-map}
 use Rattle.mst_rows.specs.Cells.{PromiseSaid}
 use Rattle.mst_rows.specs.Rows.{Row, said}
-use Rattle.mst_verify.specs.diff.Reach.{has_any}
+use Rattle.mst_graph.specs.Lists.{has_any}
 use Rattle.mst_verdict.specs.Judged.{counts_of, network_counts, refused_by, verdicts_by}
 use Rattle.mst_verdict.specs.Verified.{joined, judged_count, last_row, promises_of, whole_rows}
 use Rattle.mst_verdict.proofs.GoesOn.{each_length}

@@ -1,7 +1,7 @@
 use Rattle.std.proofs.Common.{◌&&◌, ◌++◌, List, ℕ, not, map, ap, ◌∙◌}
 use Rattle.std.specs.List.{list_all}
 use Rattle.mst_lag.specs.declared.in_view.BridgeInView.{BridgeInView}
-use Rattle.mst_diff.specs.Reach.{has_any}
+use Rattle.mst_graph.specs.Lists.{has_any}
 use Rattle.mst_verify.specs.Missing.{bridges_of, has_one, scope_bridges}
 use Rattle.mst_verify.proofs.NamedIn.{names_are}
 use Rattle.mst_verify.proofs.lacking.lacks_bridge.Goals as goal

@@ -9,7 +9,7 @@ use Rattle.mst_trees.proofs.Looking.{filter_alike}
 use Rattle.mst_trees.specs.Settled.{outcome_of}
 use Rattle.mst_classes.specs.AllVids.{all_vids}
 use Rattle.mst_classes.proofs.VidPlaces.{is_vid_there}
-use Rattle.mst_diff.specs.Classes.{flag_at}
+use Rattle.mst_classes.specs.Flags.{flag_at}
 use Rattle.mst_summary.specs.Seen.{seen_on, seen_over}
 use Rattle.mst_summary.proofs.VidClasses.{AtPlaces, things_have, over_alike}
 use Rattle.mst_verify.specs.Named.{vids_in}

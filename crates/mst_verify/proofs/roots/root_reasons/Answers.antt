@@ -3,7 +3,7 @@ use Rattle.std.proofs.lemmas.Result.{IfOk-weaker}
 use Rattle.std.specs.List.{filter}
 use Rattle.std.specs.Option.{option_map}
 use Rattle.mst_lag.specs.Aggregation.{same_name}
-use Rattle.mst_diff.specs.Reach.{has_any}
+use Rattle.mst_graph.specs.Lists.{has_any}
 use Rattle.mst_summary.specs.Roots.{least}
 use Rattle.mst_trees.specs.Settled.{outcome_of}
 use Rattle.mst_verify.specs.Reasons.{other_next}

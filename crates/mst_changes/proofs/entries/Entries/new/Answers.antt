@@ -3,7 +3,7 @@ use Rattle.std.specs.List.{flat_map}
 use Rattle.mst_lag.specs.Viewed.{Viewed}
 use Rattle.mst_trees.specs.InUse.{AreInUse}
 use Rattle.mst_trees.specs.Settled.{outcome_of}
-use Rattle.mst_changes.specs.Subjects.{bridge_names, port_names}
+use Rattle.mst_lag.specs.View.{bridge_names, port_names}
 use Rattle.mst_changes.specs.Values.{value_at}
 use Rattle.mst_changes.specs.Kept.{entries_in}
 use Rattle.mst_changes.specs.Stored.{kept_in, kept_of}

@@ -1,6 +1,6 @@
 use Rattle.std.proofs.Common.{◌∙◌, ◌||◌, ap, is_some, sym}
 use Rattle.std.specs.List.{list_any}
-use Rattle.mst_verify.specs.diff.Reach.{has_any}
+use Rattle.mst_graph.specs.Lists.{has_any}
 use Rattle.mst_verdict.specs.Judged.{found_at}
 use Rattle.mst_verdict.specs.declared.judgement.Finding.{Finding}
 use Rattle.mst_verdict.proofs.NewRows.{unkept_is}

@@ -1,6 +1,6 @@
 ghost use Rattle.std.specs.Prelude.{◌≡◌, IfOk, filter, length};
 ghost use Rattle.mst_classes.specs.AllVids.{NumberEach};
-ghost use Rattle.mst_diff.specs.Classes.{flag_at};
+ghost use Rattle.mst_classes.specs.Flags.{flag_at};
 
 use mst_ids::Vid;
 use std::alloc::{AllocError, Global};

@@ -7,7 +7,7 @@ use Rattle.std.specs.FinMap as fin
 use Rattle.std.specs.FinMap.{get-entries}
 use Rattle.std.specs.FinMap.Entries as entries
 use Rattle.mst_ids.specs.Names.{name_cmp}
-use Rattle.mst_vlan.specs.settle.Assignment.{vector_of}
+use Rattle.mst_settle.specs.Assignment.{vector_of}
 use Rattle.mst_net.specs.Tables.{Net, Numbers, BridgeRow}
 use Rattle.mst_net.specs.ByTree.{by_tree}
 use Rattle.mst_net.specs.Seen.{bridge_row}
@@ -20,21 +20,21 @@ use Rattle.mst_lag.specs.Viewed.{Viewed, named_bridge}
 use Rattle.mst_lag.specs.declared.in_view.BridgeInView.{BridgeInView}
 use Rattle.mst_config.specs.Shared.{same_in}
 use Rattle.mst_config.specs.Regions.{same_region, first_of_region}
-use Rattle.mst_vlan.specs.trees.Agrees.{AreOf}
-use Rattle.mst_vlan.specs.trees.Forest.{Forest, IsForest, msti_vector}
-use Rattle.mst_vlan.specs.trees.InUse.{id_in}
-use Rattle.mst_vlan.specs.trees.Msti.{has_msti}
-use Rattle.mst_vlan.specs.trees.Outcome.{Outcome}
-use Rattle.mst_vlan.specs.trees.Seen.{trees_at}
-use Rattle.mst_vlan.proofs.trees_lemmas.Entries.{all_weaker}
-use Rattle.mst_vlan.proofs.trees_lemmas.Lists.{mapped_twice}
-use Rattle.mst_vlan.proofs.trees_lemmas.Looking.{has_tree_at}
-use Rattle.mst_vlan.proofs.trees_lemmas.Seen.{SeenBridge, bridge_seen, bridges_seen}
-use Rattle.mst_changes.specs.Subjects.{bridge_names}
-use Rattle.mst_diff.specs.declared.roots.Identified.{Identified}
-use Rattle.mst_diff.specs.Roots.{root_of, named_by, root_name}
-use Rattle.mst_diff.specs.Seen.{seen_first, seen_root, seen_named, name_by}
-use Rattle.mst_diff.proofs.Lists.{find-map, option_map-twice}
+use Rattle.mst_trees.specs.Agrees.{AreOf}
+use Rattle.mst_trees.specs.Forest.{Forest, IsForest, msti_vector}
+use Rattle.mst_trees.specs.InUse.{id_in}
+use Rattle.mst_trees.specs.Msti.{has_msti}
+use Rattle.mst_trees.specs.Outcome.{Outcome}
+use Rattle.mst_trees.specs.Seen.{trees_at}
+use Rattle.mst_trees.proofs.Entries.{all_weaker}
+use Rattle.mst_trees.proofs.Lists.{mapped_twice}
+use Rattle.mst_trees.proofs.Looking.{has_tree_at}
+use Rattle.mst_trees.proofs.Seen.{SeenBridge, bridge_seen, bridges_seen}
+use Rattle.mst_lag.specs.View.{bridge_names}
+use Rattle.mst_facts.specs.declared.roots.Identified.{Identified}
+use Rattle.mst_facts.specs.Roots.{root_of, named_by, root_name}
+use Rattle.mst_facts.specs.Named.{seen_first, seen_root, seen_named, name_by}
+use Rattle.mst_facts.proofs.Lists.{find-map, option_map-twice}
 
 -- what a name finds among bridges of these rows
 found_in : (name : List ℕ) (ys : List BridgeInView) → entries.find name_cmp name (map named_bridge ys) ≡ option_map (λ (y : BridgeInView). bridge_row y.bridge) (find (λ (y : BridgeInView). same_name y.name name) ys)

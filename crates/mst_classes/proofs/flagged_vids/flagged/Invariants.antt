@@ -1,6 +1,6 @@
 use Rattle.std.proofs.Common.{◌≡◌, filter, take}
-use Rattle.mst_diff.specs.Classes.{flag_at}
-use Rattle.mst_diff.proofs.classes.flagged.Given as goal
+use Rattle.mst_classes.specs.Flags.{flag_at}
+use Rattle.mst_classes.proofs.flagged_vids.flagged.Given as goal
 
 -- those of the VIDs so far
 abbrev pub invariant-loop-vid : goal.invariant-loop-vid

@@ -1,0 +1,9 @@
+use mst_lag::View;
+use mst_trees::Forest;
+
+/// A network's view and its settled trees.
+#[derive(Clone, Copy)]
+pub struct Planned<'a> {
+    pub view: &'a View,
+    pub forest: &'a Forest,
+}
