@@ -53,36 +53,34 @@ impl Unexplained {
     }
 }
 
-impl Planner {
-    /// Puts why a logical port has its role, which nothing leaves [unexplained](Planner::unexplained): the rows for the tree
-    /// that is asked, or where none is for each that its bridge has, rising (802.1Q-2022, 13.9 to 13.12). The network alone
-    /// settles it. `AllocError`: memory was wanted and refused; some of the rows may have been put.
-    pub fn put_explanation<R: Rows>(
-        &self,
-        port: &PortName,
-        tree: Option<Tree>,
-        out: &mut R,
-    ) -> Result<(), AllocError>
-        requires settled { self.now.is_settled ≡ true }
-        requires explained { unexplained_of self.now.contents.net port.now tree ≡ None }
-        ensures { (first : R) (before : List Row) → R.grew first out.old before
-            → OnOk result ((rows : List Row) × Explains self.now.contents.net port.now tree rows × R.grew first out.new (before ++ rows)) }
-    {
-        let plan = self.settled();
-        put_explained(self.alloc(), &plan, port, &tree, out)
-    }
+/// Puts why a logical port has its role, which nothing leaves [unexplained](unexplained_in): the rows for the tree
+/// that is asked, or where none is for each that its bridge has, rising (802.1Q-2022, 13.9 to 13.12). The network alone
+/// settles it. `AllocError`: memory was wanted and refused; some of the rows may have been put.
+pub fn put_explanation_of<R: Rows>(
+    planner: &Planner,
+    port: &PortName,
+    tree: Option<Tree>,
+    out: &mut R,
+) -> Result<(), AllocError>
+    requires settled { planner.now.is_settled ≡ true }
+    requires explained { unexplained_of planner.now.contents.net port.now tree ≡ None }
+    ensures { (first : R) (before : List Row) → R.grew first out.old before
+        → OnOk result ((rows : List Row) × Explains planner.now.contents.net port.now tree rows × R.grew first out.new (before ++ rows)) }
+{
+    let plan = planner.settled();
+    put_explained(planner.alloc(), &plan, port, &tree, out)
+}
 
-    /// Why a port isn't explained, if it isn't: there is no bridge of that name, no logical port of that name, or the bridge
-    /// doesn't have the tree, by the first of these that applies. It takes no memory.
-    pub fn unexplained(&self, port: &PortName, tree: Option<Tree>) -> Option<Unexplained>
-        requires { self.now.is_settled ≡ true }
-        ensures { result ≡ unexplained_of self.now.contents.net port.now tree }
-    {
-        let plan = self.settled();
-        match self.network().bridge(&port.bridge) {
-            None => Some(Unexplained::NoBridge),
-            Some(_) => no_port(&plan, port, &tree),
-        }
+/// Why a port isn't explained, if it isn't: there is no bridge of that name, no logical port of that name, or the bridge
+/// doesn't have the tree, by the first of these that applies. It takes no memory.
+pub fn unexplained_in(planner: &Planner, port: &PortName, tree: Option<Tree>) -> Option<Unexplained>
+    requires { planner.now.is_settled ≡ true }
+    ensures { result ≡ unexplained_of planner.now.contents.net port.now tree }
+{
+    let plan = planner.settled();
+    match planner.network().bridge(&port.bridge) {
+        None => Some(Unexplained::NoBridge),
+        Some(_) => no_port(&plan, port, &tree),
     }
 }
 

@@ -1,5 +1,4 @@
 ghost use Rattle.std.specs.Prelude.{◌≡◌, ◌≢◌, ◌≤◌, ◌<◌, ◌^◌, ◌+◌, ◌++◌, length, true, false, List, None, Err, IsOk, IfOk, IfErr, OnOk, OnErr, IsTrue};
-ghost use Rattle.mst_change.specs.Steps.{all_lines};
 ghost use Rattle.mst_net.specs.After.{after};
 ghost use Rattle.mst_net.specs.Contents.{SameContents, CanCommit, Commits, room_for};
 ghost use Rattle.std.specs.Option.{option_map};
@@ -7,33 +6,18 @@ ghost use Rattle.mst_trees.specs.Agrees.{AreOf};
 ghost use Rattle.mst_trees.specs.Forest.{IsForest, SettlesNoUnused};
 ghost use Rattle.mst_lag.specs.Viewed.{IsView};
 ghost use Rattle.mst_changes.specs.Stored.{kept_entries};
-ghost use Rattle.mst_advise.specs.Advising.{Advises};
-ghost use Rattle.mst_report.specs.Unadvised.{unadvised_of};
-ghost use Rattle.mst_verdict.specs.sweeping.Pairing.{SweepsPairs};
-ghost use Rattle.mst_verdict.specs.Setting.{after_steps};
-ghost use Rattle.mst_verdict.specs.Stepping.{IsFew, Steps, lines_of as policy_lines};
-ghost use Rattle.mst_verdict.specs.sweeping.Sweeping.{SweepsPart};
-ghost use Rattle.mst_verdict.specs.Verifying.{Verifies};
-ghost use Rattle.mst_verdict.specs.Judged.{counts_of};
-ghost use Rattle.mst_rows.specs.Rows.{Row};
 
 use crate::laws::entries_of_network;
-use mst_advise::{Advised, Goal, advise_network};
-use mst_change::Change;
 use mst_changes::Entries;
 use mst_ids::Tree;
 use mst_lag::View;
 use mst_lang::Edit;
 use mst_net::{Contents, Network, Refusal};
 use mst_plan::{KeptPlan, Plan};
-use mst_policy::Policy;
-use mst_rows::Rows;
 use mst_trees::{Forest, Settled};
-use mst_verdict::{
-    Course, SweepPart, Verdict, step_network, sweep_network, sweep_pairs, verify_network,
-};
 use std::alloc::{AllocError, Global};
 use std::marker::Model;
+use std::mem;
 
 /// A network and what follows from it: its view, its regions, and its trees, settled (802.1Q-2022, 13).
 ///
@@ -234,109 +218,32 @@ impl Planner {
         }
     }
 
-    /// Puts what each single failure of a part does to the network: each LAN that is up goes down, and each bridge that is on goes
-    /// off, one at a time. Each is told of by one repair of the plan that stands, as soon as it is known, and isn't made. A last
-    /// row counts them, and the answer is how many of them cut some VID. So a sweep can be made in parts, each by a planner of its
-    /// own. `AllocError`: memory was wanted and refused; some of the rows may have been put.
-    pub fn put_sweep<R: Rows>(&self, part: SweepPart, out: &mut R) -> Result<u64, AllocError>
-        requires { self.now.is_settled ≡ true }
-        ensures { (first : R) (before : List Row) → R.grew first out.old before
-            → IfOk result (λ cuts. (rows : List Row) × SweepsPart part self.now.contents.net cuts rows × R.grew first out.new (before ++ rows)) }
-    {
-        sweep_network(self.alloc, self.network(), self.plan(), part, out)
-    }
-
-    /// Puts what each pair of a part of those of the network's failures does: in the order of the failures of a sweep, each with each
-    /// behind it, by the first and then by the second. For those pairs that part bridges of some VIDs which either failure alone leaves joined
-    /// a row with these VIDs, and the rows of their parts, as soon as they are known; and a last row that counts the pairs and those of
-    /// them. The answer is how many these are.
-    ///
-    /// `AllocError`: memory was wanted and refused; some of the rows may have been put.
-    pub fn put_pairs<R: Rows>(&self, part: SweepPart, out: &mut R) -> Result<u64, AllocError>
-        requires { self.now.is_settled ≡ true }
-        ensures { (first : R) (before : List Row) → R.grew first out.old before
-            → IfOk result (λ cuts. (rows : List Row) × SweepsPairs part self.now.contents.net cuts rows × R.grew first out.new (before ++ rows)) }
-    {
-        sweep_pairs(self.alloc, self.network(), self.plan(), part, out)
-    }
-
-    /// Puts whether the network does what a policy promises: the policy's refused lines, then for each line that is judged why it isn't
-    /// kept, in the network itself and then in that of each failure for which it asks, and a last row that counts them. What is so without
-    /// a failure is told once, with after how many failures it is so, too. A line that is judged has no rows just where its promise is
-    /// kept. A policy of which no line is judged and none refused is refused as a whole, and so counts as a refused line. Each failure that some line asks for is looked at once, by one repair of the plan that stands, and isn't made. `AllocError`: memory was wanted and
-    /// refused; some of the rows may have been put.
-    pub fn put_verification<R: Rows>(
-        &self,
-        policy: &Policy,
-        out: &mut R,
-    ) -> Result<Verdict, AllocError>
-        requires { self.now.is_settled ≡ true }
-        ensures told { (first : R) (before : List Row) → R.grew first out.old before
-            → IfOk result (λ verdict. (rows : List Row) × Verifies self.now.contents.net policy.now (counts_of verdict) rows × R.grew first out.new (before ++ rows)) }
-        ensures few { IfOk result (λ verdict. verdict.refused ≤ length policy.now + 1) }
-    {
-        verify_network(
-            self.alloc,
-            self.network(),
-            self.plan(),
-            policy.as_slice(),
-            out,
-        )
-    }
-
-    /// Takes the steps of a change one after another, each settled before the next, and puts what each does: which of its lines are refused,
-    /// which roots, roles and VIDs it moves, which VIDs it cuts and joins, which ports begin anew, and of a policy what is new: which of its
-    /// lines aren't kept after it, for a reason that wasn't there before, and which are kept again. In front stands which lines can't be
-    /// read, and which aren't kept before the first step. A last row counts the steps, and the answer is what is counted. The planner is
-    /// then that of the network after the last step.
-    ///
-    /// Three plans stand at a time, the first one among them: a step costs one repair of the trees, and what carries VIDs is looked at once. `AllocError`: memory was
-    /// wanted and refused; some of the rows may have been put, and the planner is that of a network between, which isn't settled.
-    pub fn put_steps<R: Rows>(
-        &mut self,
-        change: &Change,
-        policy: Option<&Policy>,
-        out: &mut R,
-    ) -> Result<Course, AllocError>
-        requires settled { self.old.is_settled ≡ true }
-        requires few { length (all_lines change.now.ended) < 2 ^ 64 }
-        ensures told { (first : R) (before : List Row) → R.grew first out.old before
-            → IfOk result (λ course. (rows : List Row) × Steps self.old.contents.net change.now.ended (option_map (λ p. p.now) policy.entry) course rows × R.grew first out.new (before ++ rows)) }
-        ensures few { IfOk result (λ course. IsFew course change.now.ended) }
-        ensures few_policy { IfOk result (λ course. course.unread ≤ length (policy_lines (option_map (λ p. p.now) policy.entry)) + 1) }
-        ensures network { OnOk result (self.new.contents.net ≡ after_steps self.old.contents.net change.now.ended) }
-        ensures settled { OnOk result (self.new.is_settled ≡ true) }
-        ensures mark { self.new.mark ≡ self.old.mark }
-    {
-        let mut plan = self.kept.take();
-        let course = step_network(
-            self.alloc,
-            &mut self.network,
-            &mut plan,
-            change.steps(),
-            policy,
-            out,
-        )?;
-        self.kept = KeptPlan::Settled(plan);
-        Ok(course)
-    }
-
-    /// Puts which settings bring about what is wanted of the network, which nothing leaves [unadvised](Planner::unadvised): the first of
-    /// its candidates after which the goal holds, with what they do. `AllocError`: memory was wanted and refused; some of the rows may
-    /// have been put. In either case the planner is then of any network, and isn't settled; it keeps its mark.
-    pub fn put_advice<R: Rows>(&mut self, goal: &Goal, out: &mut R) -> Result<Advised, AllocError>
-        requires settled { self.old.is_settled ≡ true }
-        requires advised { unadvised_of self.old.contents.net goal.now ≡ None }
-        ensures told { (first : R) (before : List Row) → R.grew first out.old before
-            → IfOk result (λ advice. (rows : List Row) × Advises self.old.contents.net goal.now advice rows × R.grew first out.new (before ++ rows)) }
+    /// Takes the network out, with its plan: the planner is then that of the network with no records, which isn't settled. It keeps its mark.
+    pub fn take(&mut self) -> (Network, Plan)
+        requires { self.old.is_settled ≡ true }
+        ensures network { result.0.now ≡ self.old.contents }
+        ensures plan { IsPlan self.old.contents.net self.old.contents.numbers result.1 }
+        ensures settled { self.new.is_settled ≡ false }
         ensures mark { self.new.mark ≡ self.old.mark }
     {
         let plan = self.kept.take();
-        advise_network(self.alloc, goal, &mut self.network, &plan, out)
+        let network = mem::replace(&mut self.network, Network::new(self.alloc));
+        (network, plan)
+    }
+
+    /// Takes over a network with its plan, in the place of what this planner has. It keeps its mark.
+    pub fn give(&mut self, network: Network, plan: Plan)
+        requires { IsPlan network.now.net network.now.numbers plan }
+        ensures network { self.new.contents ≡ network.now }
+        ensures settled { self.new.is_settled ≡ true }
+        ensures mark { self.new.mark ≡ self.old.mark }
+    {
+        self.network = network;
+        self.kept = KeptPlan::Settled(plan);
     }
 
     /// What the rows take memory from.
-    pub(crate) fn alloc(&self) -> Global {
+    pub fn alloc(&self) -> Global {
         self.alloc
     }
 
@@ -392,7 +299,7 @@ impl Planner {
     }
 
     /// The plan, for the rows.
-    pub(crate) fn plan(&self) -> &Plan
+    pub fn plan(&self) -> &Plan
         requires { self.now.is_settled ≡ true }
         ensures of { IsPlan self.now.contents.net self.now.contents.numbers result.now }
         ensures standing { standing_of result.now.forest ≡ self.now.standing }

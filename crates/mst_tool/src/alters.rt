@@ -22,6 +22,7 @@ use mst_io::{FromRead, Outcome, RunFault, Sink, Source, TURNS, ToWrite, put};
 use mst_kinds::Query;
 use mst_policy::Policy;
 use mst_print::{Form, Shape, Side};
+use mst_report::put_steps;
 use std::alloc::{AllocError, Global};
 use std::io::{Read, Write};
 
@@ -226,7 +227,7 @@ fn stepped(
 {
     planner.settle()?;
     let mut printer = open_question(alloc, form, Query::Steps)?;
-    let course = planner.put_steps(&both.change, both.judged(is_judged), &mut printer)?;
+    let course = put_steps(planner, &both.change, both.judged(is_judged), &mut printer)?;
     let text = printer.close()?;
     Ok(Stepping {
         text,

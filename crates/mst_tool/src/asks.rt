@@ -27,6 +27,10 @@ use mst_io::{FromRead, Outcome, RunFault, Sink, Source, TURNS, ToWrite, WriteFai
 use mst_kinds::{Query, RefusalLine};
 use mst_lang::Fault;
 use mst_print::{Form, Shape, Side, put_unanswered};
+use mst_report::{
+    picture_of, put_advice, put_explanation_of, put_pairs, put_summary_of, put_sweep, unadvised_in,
+    unexplained_in, vlan_picture_of,
+};
 use std::alloc::{AllocError, Global};
 use std::io::{Read, Write};
 
@@ -233,11 +237,11 @@ fn explained_by_plan(
     ensures state { planned_state planner.new ≡ planned_state planner.old }
 {
     planner.settle()?;
-    match planner.unexplained(&asked.port, asked.tree) {
+    match unexplained_in(planner, &asked.port, asked.tree) {
         Some(why) => Ok(Answer::Refused(why)),
         None => {
             let mut printer = open_explanation(alloc, form, asked)?;
-            planner.put_explanation(&asked.port, asked.tree, &mut printer)?;
+            put_explanation_of(planner, &asked.port, asked.tree, &mut printer)?;
             let text = printer.close()?;
             Ok(Answer::Text(text))
         }
@@ -256,7 +260,7 @@ fn swept(
 {
     planner.settle()?;
     let mut printer = open_sweep(alloc, form, part)?;
-    let cuts = planner.put_sweep(part, &mut printer)?;
+    let cuts = put_sweep(planner, part, &mut printer)?;
     let text = printer.close()?;
     Ok(Answer::Swept { text, cuts })
 }
@@ -273,7 +277,7 @@ fn paired(
 {
     planner.settle()?;
     let mut printer = open_pairs(alloc, form, part)?;
-    let cuts = planner.put_pairs(part, &mut printer)?;
+    let cuts = put_pairs(planner, part, &mut printer)?;
     let text = printer.close()?;
     Ok(Answer::Swept { text, cuts })
 }
@@ -285,7 +289,7 @@ fn summarized(alloc: Global, planner: &mut Planner, form: Form) -> Result<Answer
 {
     planner.settle()?;
     let mut printer = open_question(alloc, form, Query::Summary)?;
-    planner.put_summary(&mut printer)?;
+    put_summary_of(planner, &mut printer)?;
     let text = printer.close()?;
     Ok(Answer::Text(text))
 }
@@ -296,7 +300,7 @@ fn depicted(planner: &mut Planner, tree: Tree) -> Result<Vec<u8>, AllocError>
     ensures state { planned_state planner.new ≡ planned_state planner.old }
 {
     planner.settle()?;
-    planner.picture(tree)
+    picture_of(planner, tree)
 }
 
 /// Draws the network with a VLAN, once the plan is settled: a text in each form. `AllocError`: memory was wanted and refused.
@@ -305,7 +309,7 @@ fn depicted_vlan(planner: &mut Planner, vid: Vid) -> Result<Vec<u8>, AllocError>
     ensures state { planned_state planner.new ≡ planned_state planner.old }
 {
     planner.settle()?;
-    planner.vlan_picture(vid)
+    vlan_picture_of(planner, vid)
 }
 
 /// Tells which settings bring about what is wanted. `AllocError`: memory was wanted and refused. What the network's tables tell to be in
@@ -336,11 +340,11 @@ fn advise_by_plan(
     ensures { IfOk result (λ answer. IsAnswer form (planned_state planner.old).net (Advice goal.now) (told_of answer) (answer_text form answer)) }
 {
     planner.settle()?;
-    match planner.unadvised(goal) {
+    match unadvised_in(planner, goal) {
         Some(why) => Ok(Answer::NotAdvised(why)),
         None => {
             let mut printer = open_advice(alloc, form, goal)?;
-            let told = planner.put_advice(goal, &mut printer)?;
+            let told = put_advice(planner, goal, &mut printer)?;
             let text = printer.close()?;
             Ok(Answer::Advised {
                 text,

@@ -17,6 +17,7 @@ use mst_engine::{Input, Planner};
 use mst_io::{FromRead, Outcome, RunFault, Sink, Source, TURNS, ToWrite, put};
 use mst_kinds::Query;
 use mst_print::{Form, Shape, Side};
+use mst_report::{put_difference, put_edits_of};
 use std::alloc::{AllocError, Global};
 use std::io::{Read, Write};
 
@@ -233,7 +234,7 @@ fn planned_apart(
     old.settle()?;
     new.settle()?;
     let mut printer = open_question(alloc, form, Query::Diff)?;
-    let counts = old.put_difference(new, &mut printer)?;
+    let counts = put_difference(old, new, &mut printer)?;
     let text = printer.close()?;
     Ok(Difference {
         text,
@@ -251,7 +252,7 @@ fn set_apart(
     ensures { IfOk result (λ found. (counts : CountsOf Between.Settings) × (found.differs ≡ differs_by Between.Settings counts) × TellsDifference Between.Settings form (planned_state old.now).net (planned_state new.now).net counts found.text.items) }
 {
     let mut printer = open_question(alloc, form, Query::Edits)?;
-    let differs = old.put_edits(new, &mut printer)?;
+    let differs = put_edits_of(old, new, &mut printer)?;
     let text = printer.close()?;
     Ok(Difference { text, differs })
 }

@@ -18,6 +18,7 @@ use mst_io::{FromRead, Outcome, RunFault, Sink, Source, TURNS, ToWrite, put};
 use mst_kinds::Query;
 use mst_policy::Policy;
 use mst_print::{Form, Shape, Side};
+use mst_report::put_verification;
 use std::alloc::{AllocError, Global};
 use std::io::{Read, Write};
 
@@ -156,7 +157,7 @@ pub fn verified(
 {
     planner.settle()?;
     let mut printer = open_question(alloc, form, Query::Verify)?;
-    let verdict = planner.put_verification(policy, &mut printer)?;
+    let verdict = put_verification(planner, policy, &mut printer)?;
     let text = printer.close()?;
     Ok(Verification {
         text,
