@@ -16,12 +16,10 @@ use mst_lang::laws::edits_in_range;
 use mst_net::laws::networks;
 use mst_tool::advise_laws::one_advice;
 use mst_tool::laws::states;
-use mst_tool::report_laws::{
-    entries_of_network, has_answer, one_answer, one_explanation, one_picture, one_summary,
-    one_vlan_picture,
-};
+use mst_tool::report_laws::{entries_of_network, has_answer, one_answer};
 use mst_tool::sweeping_laws::{pair_parts, sweep_parts};
 use mst_tool::verdict_laws::one_verification;
+use mst_words::laws::{one_explanation, one_picture, one_summary, one_vlan_picture};
 
 /// Any lines can be asked, the first of any number, whatever network stands.
 pub fn has_turns()

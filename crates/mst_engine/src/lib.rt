@@ -11,8 +11,5 @@ pub mod laws;
 mod serving;
 
 pub use engine::{Engine, Input, Reply, print, serve};
-pub use mst_report::{
-    Advised, Goal, Planner, SweepPart, Unexplained, advise_laws, laws as report_laws,
-    sweeping_laws, verdict_laws,
-};
+pub use mst_report::{Planner, laws as report_laws};
 pub use serving::{Replied, Serving, serve_input};

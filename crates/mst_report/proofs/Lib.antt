@@ -1,4 +1,3 @@
 pub mod Answering
-pub mod Explained
 pub mod Staying
 pub mod Told

@@ -1,16 +1,5 @@
-pub use Rattle.mst_advise.specs as advise
-pub use Rattle.mst_verdict.specs.sweeping as sweeping
-pub use Rattle.mst_verdict.specs as verdict
-pub use Rattle.mst_diff.specs as diff
-pub use Rattle.mst_verdict.specs.sweep as sweep
 pub mod State
 pub mod Answers
 pub mod Refusing
 pub mod Planned
 pub mod Kept
-pub mod Explaining
-pub mod Unadvised
-pub mod Differing
-pub mod Summarizing
-pub mod Picturing
-pub mod Editing

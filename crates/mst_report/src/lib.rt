@@ -1,32 +1,10 @@
 //! The planner: a network, its settled trees, and the rows that answer queries about them.
 #![tactic(auto)]
 
-mod advising;
 mod answers;
-mod differing;
-mod editing;
-mod explaining;
 pub mod laws;
-mod picturing;
 mod planner;
 mod rows;
-mod stepping;
-mod summarizing;
-mod sweeping;
-mod unadvised;
-mod verifying;
 
-pub use advising::put_advice;
 pub use answers::asks_plan;
-pub use differing::put_difference;
-pub use editing::put_edits_of;
-pub use explaining::{Unexplained, put_explanation_of, unexplained_in};
-pub use mst_advise::{Advised, Goal, laws as advise_laws};
-pub use mst_verdict::{SweepPart, laws as verdict_laws, sweeping_laws};
-pub use picturing::{picture_of, vlan_picture_of};
 pub use planner::Planner;
-pub use stepping::put_steps;
-pub use summarizing::put_summary_of;
-pub use sweeping::{put_pairs, put_sweep};
-pub use unadvised::unadvised_in;
-pub use verifying::put_verification;

@@ -23,13 +23,13 @@ use Rattle.mst_lag.proofs.Entries.{entries_found}
 use Rattle.mst_lag.proofs.Lists.{all_filtered, all_kept, all_mapped, all_weaker, found_passes, no_some, some_is}
 use Rattle.mst_lag.proofs.Names.{name_is, own_port, same_ports, tied}
 use Rattle.mst_lag.proofs.Sides.{ports_total}
-use Rattle.mst_engine.specs.advise.declared.goal.Goal.{Goal}
-use Rattle.mst_engine.specs.advise.declared.goal.Goal.TheVariants as goal
-use Rattle.mst_engine.specs.report.Unadvised.{unadvised_of}
-use Rattle.mst_engine.specs.report.Explaining.{has_asked, logical_port_of, unexplained_of}
-use Rattle.mst_engine.specs.report.Explaining as unexplained
-use Rattle.mst_engine.specs.report.declared.explaining.Unexplained.{Unexplained}
-use Rattle.mst_engine.specs.report.declared.explaining.Unexplained.TheVariants.{NoBridge, NoPort, NoTree}
+use Rattle.mst_words.specs.advise.declared.goal.Goal.{Goal}
+use Rattle.mst_words.specs.advise.declared.goal.Goal.TheVariants as goal
+use Rattle.mst_words.specs.Unadvised.{unadvised_of}
+use Rattle.mst_words.specs.Explaining.{has_asked, logical_port_of, unexplained_of}
+use Rattle.mst_words.specs.Explaining as unexplained
+use Rattle.mst_words.specs.declared.explaining.Unexplained.{Unexplained}
+use Rattle.mst_words.specs.declared.explaining.Unexplained.TheVariants.{NoBridge, NoPort, NoTree}
 use Rattle.mst_trees.specs.Msti.{has_msti}
 use Rattle.mst_lang.specs.Faults as fault
 use Rattle.mst_print.specs.declared.form.Form.{Form}

@@ -5,8 +5,8 @@ use Rattle.mst_lang.specs.Lines.{lines_of}
 use Rattle.mst_policy.specs.declared.policy.PolicyLine.{PolicyLine}
 use Rattle.mst_net.specs.Tables.{Net}
 use Rattle.mst_engine.specs.report.State.{State, empty_state}
-use Rattle.mst_engine.specs.verdict.Stepping as network
-use Rattle.mst_engine.specs.verdict.declared.stepping.Course.{Course}
+use Rattle.mst_words.specs.verdict.Stepping as network
+use Rattle.mst_words.specs.verdict.declared.stepping.Course.{Course}
 use Rattle.mst_engine.specs.Engine.{Tally, outcome_of}
 use Rattle.mst_engine.specs.Served.{Served}
 use Rattle.mst_engine.specs.declared.engine.Input.TheVariants.{Network}

@@ -4,19 +4,19 @@ use Rattle.std.specs.Io.KnownBytes.{Appends}
 use Rattle.mst_ids.specs.declared.name.PortName.{PortName}
 use Rattle.mst_lang.specs.Lines.{lines_of, ended_lines}
 use Rattle.mst_net.specs.Tables.{Net, IsNetwork}
-use Rattle.mst_engine.specs.advise.declared.goal.Goal.{Goal}
-use Rattle.mst_engine.specs.advise.Advising.{Advises}
-use Rattle.mst_engine.specs.report.Unadvised.{unadvised_of}
-use Rattle.mst_engine.specs.report.Explaining.{Explains, unexplained_of}
-use Rattle.mst_engine.specs.sweeping.Pairing.{SweepsPairs}
-use Rattle.mst_engine.specs.report.Picturing.{Depicts, DepictsVlan}
+use Rattle.mst_words.specs.advise.declared.goal.Goal.{Goal}
+use Rattle.mst_words.specs.advise.Advising.{Advises}
+use Rattle.mst_words.specs.Unadvised.{unadvised_of}
+use Rattle.mst_words.specs.Explaining.{Explains, unexplained_of}
+use Rattle.mst_words.specs.verdict.sweeping.Pairing.{SweepsPairs}
+use Rattle.mst_words.specs.Picturing.{Depicts, DepictsVlan}
 use Rattle.mst_engine.specs.report.State.{State, IsState, empty_state}
-use Rattle.mst_engine.specs.report.Summarizing.{Summarizes}
-use Rattle.mst_engine.specs.sweeping.Sweeping.{SweepsPart}
-use Rattle.mst_engine.specs.advise.declared.advising.Advised.{Advised}
-use Rattle.mst_engine.specs.report.declared.explaining.Unexplained.{Unexplained}
-use Rattle.mst_engine.specs.sweep.SweepParts.{PartOf}
-use Rattle.mst_engine.specs.report.Explaining as unexplained
+use Rattle.mst_words.specs.Summarizing.{Summarizes}
+use Rattle.mst_words.specs.verdict.sweeping.Sweeping.{SweepsPart}
+use Rattle.mst_words.specs.advise.declared.advising.Advised.{Advised}
+use Rattle.mst_words.specs.declared.explaining.Unexplained.{Unexplained}
+use Rattle.mst_words.specs.verdict.sweep.SweepParts.{PartOf}
+use Rattle.mst_words.specs.Explaining as unexplained
 use Rattle.mst_rows.specs.Rows.{Row}
 use Rattle.mst_tool.specs.Ask.{Told, advised, given, is_nothing, not_given, swept, unadvised_in, unexplained_in, Tells, TellsAdvice, IsAnswer, Asks, counted_with}
 use Rattle.mst_tool.specs.Shown.{advice_row, explain_row, pairs_row, summary_row, sweep_row}

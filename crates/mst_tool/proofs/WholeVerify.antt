@@ -4,8 +4,8 @@ use Rattle.mst_lang.specs.Lines.{lines_of}
 use Rattle.mst_policy.specs.declared.policy.PolicyLine.{PolicyLine}
 use Rattle.mst_net.specs.Tables.{Net}
 use Rattle.mst_engine.specs.report.State.{State, empty_state}
-use Rattle.mst_engine.specs.verdict.Verifying as network
-use Rattle.mst_engine.specs.verdict.Verified.{Counts}
+use Rattle.mst_words.specs.verdict.Verifying as network
+use Rattle.mst_words.specs.verdict.Verified.{Counts}
 use Rattle.mst_engine.specs.Engine.{Tally, outcome_of}
 use Rattle.mst_engine.specs.Served.{Served}
 use Rattle.mst_engine.specs.declared.engine.Input.TheVariants.{Network}

@@ -6,8 +6,8 @@ use Rattle.mst_lang.specs.Lines.{lines_of}
 use Rattle.mst_policy.specs.declared.policy.PolicyLine.{PolicyLine}
 use Rattle.mst_net.specs.Tables.{Net}
 use Rattle.mst_engine.specs.report.State.{empty_state}
-use Rattle.mst_engine.specs.verdict.Stepping as network
-use Rattle.mst_engine.specs.verdict.declared.stepping.Course.{Course}
+use Rattle.mst_words.specs.verdict.Stepping as network
+use Rattle.mst_words.specs.verdict.declared.stepping.Course.{Course}
 use Rattle.mst_engine.specs.Script.{LoadsAll}
 use Rattle.mst_engine.specs.Steps.{Step, left_by, texts_of, refusals_of, lacks_of, lacking_of}
 use Rattle.mst_io.specs.Written.{Reads}

@@ -1,7 +1,7 @@
-pub use Rattle.mst_engine.specs.sweep as sweep
+pub use Rattle.mst_words.specs.verdict.sweep as sweep
 pub use Rattle.mst_engine.specs.report as report
 pub use Rattle.mst_engine.specs as engine
-pub use Rattle.mst_engine.specs.verdict as verdict
+pub use Rattle.mst_words.specs.verdict as verdict
 pub mod Run
 pub mod Check
 pub mod Load

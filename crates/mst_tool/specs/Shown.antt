@@ -4,9 +4,9 @@ use Rattle.mst_ids.specs.declared.name.PortName.{PortName}
 use Rattle.mst_kinds.specs.declared.kind.Kind.TheVariants.{Query as OfQuery}
 use Rattle.mst_kinds.specs.declared.query.Query.{Query}
 use Rattle.mst_kinds.specs.declared.query.Query.TheVariants.{Explain, ExplainIn, Diff, Sweep, SweepPart, SweepPairs, SweepPairsPart, Summary, Verify, Steps, Edits, AdviseRoot, AdviseForward}
-use Rattle.mst_engine.specs.advise.declared.goal.Goal.{Goal}
-use Rattle.mst_engine.specs.advise.declared.goal.Goal.TheVariants.{Root, Forward}
-use Rattle.mst_engine.specs.sweep.SweepParts.{PartOf}
+use Rattle.mst_words.specs.advise.declared.goal.Goal.{Goal}
+use Rattle.mst_words.specs.advise.declared.goal.Goal.TheVariants.{Root, Forward}
+use Rattle.mst_words.specs.verdict.sweep.SweepParts.{PartOf}
 use Rattle.mst_print.specs.Shape.{shown}
 use Rattle.mst_print.specs.declared.form.Form.{Form}
 use Rattle.mst_rows.specs.Cells.{Cell, number, word}

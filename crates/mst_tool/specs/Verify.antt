@@ -5,8 +5,8 @@ use Rattle.mst_lang.specs.Lines.{lines_of}
 use Rattle.mst_policy.specs.declared.policy.PolicyLine.{PolicyLine}
 use Rattle.mst_net.specs.Tables.{Net}
 use Rattle.mst_engine.specs.report.State.{empty_state}
-use Rattle.mst_engine.specs.verdict.Verifying as network
-use Rattle.mst_engine.specs.verdict.Verified.{Counts}
+use Rattle.mst_words.specs.verdict.Verifying as network
+use Rattle.mst_words.specs.verdict.Verified.{Counts}
 use Rattle.mst_engine.specs.Script.{LoadsAll}
 use Rattle.mst_engine.specs.Steps.{Step, left_by, texts_of, refusals_of, lacks_of, lacking_of}
 use Rattle.mst_io.specs.Written.{Reads}

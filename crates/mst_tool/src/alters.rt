@@ -22,7 +22,7 @@ use mst_io::{FromRead, Outcome, RunFault, Sink, Source, TURNS, ToWrite, put};
 use mst_kinds::Query;
 use mst_policy::Policy;
 use mst_print::{Form, Shape, Side};
-use mst_report::put_steps;
+use mst_words::put_steps;
 use std::alloc::{AllocError, Global};
 use std::io::{Read, Write};
 

@@ -3,7 +3,7 @@ ghost use Rattle.std.specs.Io.KnownBytes.{Appends};
 ghost use Rattle.mst_drive.specs.Turned.{Turned, turning};
 ghost use Rattle.mst_drive.specs.Words.{Ended, HasTold, one_input};
 ghost use Rattle.mst_engine.specs.Served.{IsFew};
-ghost use Rattle.mst_engine.specs.report.Picturing.{Depicts, DepictsVlan};
+ghost use Rattle.mst_words.specs.Picturing.{Depicts, DepictsVlan};
 ghost use Rattle.mst_engine.specs.report.Planned.{planned_state};
 ghost use Rattle.mst_io.specs.Devices.{HearsWhere, Works, IsStopped, seen_by, stopped_by};
 ghost use Rattle.mst_io.specs.Written.{AppendsFront};
@@ -17,19 +17,19 @@ use crate::early::{why_unadvised, why_unexplained};
 use crate::opened::{open_advice, open_explanation, open_pairs, open_question, open_sweep};
 use crate::served::serve_first;
 use mst_drive::Word;
-use mst_engine::advise_laws::one_advice;
 use mst_engine::laws::{one_load, states};
-use mst_engine::report_laws::{one_explanation, one_picture, one_summary, one_vlan_picture};
-use mst_engine::sweeping_laws::{pair_parts, sweep_parts};
-use mst_engine::{Advised, Goal, Input, Planner, SweepPart, Unexplained};
+use mst_engine::{Input, Planner};
 use mst_ids::{Tree, Vid};
 use mst_io::{FromRead, Outcome, RunFault, Sink, Source, TURNS, ToWrite, WriteFailed, put};
 use mst_kinds::{Query, RefusalLine};
 use mst_lang::Fault;
 use mst_print::{Form, Shape, Side, put_unanswered};
-use mst_report::{
-    picture_of, put_advice, put_explanation_of, put_pairs, put_summary_of, put_sweep, unadvised_in,
-    unexplained_in, vlan_picture_of,
+use mst_words::advise_laws::one_advice;
+use mst_words::laws::{one_explanation, one_picture, one_summary, one_vlan_picture};
+use mst_words::sweeping_laws::{pair_parts, sweep_parts};
+use mst_words::{
+    Advised, Goal, SweepPart, Unexplained, picture_of, put_advice, put_explanation_of, put_pairs,
+    put_summary_of, put_sweep, unadvised_in, unexplained_in, vlan_picture_of,
 };
 use std::alloc::{AllocError, Global};
 use std::io::{Read, Write};

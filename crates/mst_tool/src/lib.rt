@@ -22,10 +22,8 @@ pub use asked::{Asked, Question};
 pub use asks::{Answer, QuestionWord, answer_to, ask, ask_from, ask_within, put_answer};
 pub use checks::{CheckWord, check, check_from, check_within};
 pub use diffs::{Between, DiffWord, diff, diff_from, diff_within, edits};
-pub use mst_engine::{
-    Engine, Input, Planner, Reply, advise_laws, laws, print, report_laws, serve, sweeping_laws,
-    verdict_laws,
-};
+pub use mst_engine::{Engine, Input, Planner, Reply, laws, print, report_laws, serve};
+pub use mst_words::{advise_laws, sweeping_laws, verdict_laws};
 pub use policies::read_policy;
 pub use runs::{RunWord, run, run_from, run_within, status};
 pub use verifies::{Verification, VerifyWord, verified, verify, verify_within};

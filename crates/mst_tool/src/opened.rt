@@ -3,10 +3,10 @@ ghost use Rattle.mst_print.specs.Shape.{IsOpen};
 ghost use Rattle.mst_tool.specs.Shown.{advice_row, explain_row, pairs_row, part_words, question_row, sweep_row};
 
 use crate::asked::Asked;
-use mst_engine::{Goal, SweepPart};
 use mst_kinds::{Kind, Query};
 use mst_print::{Form, Printer};
 use mst_rows::Value;
+use mst_words::{Goal, SweepPart};
 use std::alloc::{AllocError, Global};
 
 /// A printer of what explains a port.

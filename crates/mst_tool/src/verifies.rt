@@ -18,7 +18,7 @@ use mst_io::{FromRead, Outcome, RunFault, Sink, Source, TURNS, ToWrite, put};
 use mst_kinds::Query;
 use mst_policy::Policy;
 use mst_print::{Form, Shape, Side};
-use mst_report::put_verification;
+use mst_words::put_verification;
 use std::alloc::{AllocError, Global};
 use std::io::{Read, Write};
 

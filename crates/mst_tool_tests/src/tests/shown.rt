@@ -2,11 +2,12 @@
 
 use super::counts;
 use mst_ask::laws as standing;
+use mst_engine::{laws, report_laws as answers};
 use mst_ids::BadText;
 use mst_io::RunFault;
 use mst_lang::Fault;
 use mst_net::Refusal;
-use mst_tool::{laws, report_laws as answers, status};
+use mst_tool::status;
 use mst_trees::laws as outcomes;
 use std::alloc::Global;
 use std::fmt::Display;

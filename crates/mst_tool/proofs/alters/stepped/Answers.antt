@@ -2,7 +2,7 @@ use Rattle.std.proofs.Common.{◌≡◌, ◌+◌, ◌≤◌, ℕ, Bool, true, fa
 use Rattle.mst_net.specs.Contents.{Contents}
 use Rattle.mst_policy.specs.declared.policy.PolicyLine.{PolicyLine}
 use Rattle.mst_print.proofs.Shown.{grew_none}
-use Rattle.mst_engine.specs.verdict.Stepping.{lines_of}
+use Rattle.mst_words.specs.verdict.Stepping.{lines_of}
 use Rattle.mst_tool.specs.Alter.{policy_if}
 use Rattle.mst_tool.specs.Shown.{steps_row}
 use Rattle.mst_tool.proofs.WholeAlter.{steps_shown}
