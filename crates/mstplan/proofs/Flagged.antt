@@ -2,10 +2,11 @@
 use Rattle.std.proofs.Common.{ℕ, Bool, true, false, List, Option, Some, None, inr}
 use Rattle.std.specs.Prelude.{◌&&◌, if◌then◌else◌}
 use Rattle.std.specs.Option.{option_and_then}
-use Rattle.mstplan.specs.Flags.{takes}
-use Rattle.mstplan.specs.Words.{IsRefusal, Request, are_worded}
-use Rattle.mstplan.specs.declared.endings.Stop.{Stop}
-use Rattle.mstplan.specs.declared.flags.Flags.{Flags}
+use Rattle.mst_command.specs.Flags.{takes}
+use Rattle.mst_command.specs.Words.{IsRefusal, Request}
+use Rattle.mstplan.specs.Words.{are_worded}
+use Rattle.mst_command.specs.declared.stop.Stop.{Stop}
+use Rattle.mst_command.specs.declared.flags.Flags.{Flags}
 
 -- what refuses words refuses them with flags, too
 pub refused_with : (IsThere : List ℕ → Type 0) (words : List (List ℕ)) (flags : Flags) (asked : Option Request) (stop : Stop) → IsRefusal IsThere words asked stop

@@ -10,10 +10,10 @@ use Rattle.mst_frame.specs.declared.inputs.Unserved.TheVariants.{Unopened as not
 use Rattle.mst_frame.specs.declared.sources.Unopened.{Unopened as Why}
 use Rattle.mst_frame.specs.declared.sources.Unopened.TheVariants.{Missing, Denied, Folder, Other}
 use Rattle.mstplan.specs.Said.{shown}
-use Rattle.mstplan.specs.declared.endings.Stop.{Stop}
-use Rattle.mstplan.specs.declared.endings.Stop.TheVariants.{Told, NoWord, Unopened, Fault}
-use Rattle.mstplan.specs.declared.strays.Meant.{Meant}
-use Rattle.mstplan.specs.declared.strays.Meant.TheVariants.{File, Json, Hints, Help, Version, Flag}
+use Rattle.mst_command.specs.declared.stop.Stop.{Stop}
+use Rattle.mst_command.specs.declared.stop.Stop.TheVariants.{Told, NoWord, Unopened, Fault}
+use Rattle.mst_command.specs.declared.strays.Meant.{Meant}
+use Rattle.mst_command.specs.declared.strays.Meant.TheVariants.{File, Json, Hints, Help, Version, Flag}
 
 -- why a word wasn't served
 abbrev pub stop_by : Unserved → Stop

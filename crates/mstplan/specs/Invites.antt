@@ -1,11 +1,11 @@
 -- What an engineer is told for whom the program waits at a terminal.
 use Rattle.std.specs.Prelude.{ℕ, Bool, ◌++◌, List, [], Result, Ok, Err, codes, nat_lt, if◌then◌else◌}
 use Rattle.std.specs.Str.{bytes_eq}
-use Rattle.mstplan.specs.declared.endings.Stop.{Stop}
-use Rattle.mstplan.specs.declared.words.Asked.{Asked}
-use Rattle.mstplan.specs.declared.words.Behind.{Behind}
-use Rattle.mstplan.specs.declared.table.Verb.{Verb}
-use Rattle.mstplan.specs.declared.table.Verb.TheVariants.{Run, Ask}
+use Rattle.mst_command.specs.declared.stop.Stop.{Stop}
+use Rattle.mst_command.specs.declared.words.Asked.{Asked}
+use Rattle.mst_command.specs.declared.words.Behind.{Behind}
+use Rattle.mst_command.specs.declared.table.Verb.{Verb}
+use Rattle.mst_command.specs.declared.table.Verb.TheVariants.{Run, Ask}
 
 -- with so many words, of which the first is the program's name: for a script, where there is no other; and for questions, where
 -- they don't come behind the script

@@ -1,7 +1,5 @@
 pub mod Endings
 pub mod Said
-pub mod Strays
-pub mod Table
 pub mod Words
 pub mod Flags
 pub mod Serving

@@ -13,23 +13,25 @@ use Rattle.mst_print.specs.declared.form.Form.{Form}
 use Rattle.mst_io.specs.Devices.{Seen}
 use Rattle.mst_io.specs.declared.outcome.Outcome.{Outcome}
 use Rattle.mst_io.specs.declared.outcome.RunFault.{RunFault}
-use Rattle.mstplan.specs.declared.endings.Stop.{Stop}
-use Rattle.mstplan.specs.declared.words.Asked.{Asked}
-use Rattle.mstplan.specs.declared.words.Behind.{Behind}
-use Rattle.mstplan.specs.declared.table.Verb.{Verb}
-use Rattle.mstplan.specs.declared.table.Verb.TheVariants.{Run, Check, Explain, Diff, Sweep, Summary, Dot, Ask, Verify, Edits, Steps, Advise}
+use Rattle.mst_command.specs.declared.stop.Stop.{Stop}
+use Rattle.mst_command.specs.declared.words.Asked.{Asked}
+use Rattle.mst_command.specs.declared.words.Behind.{Behind}
+use Rattle.mst_command.specs.declared.table.Verb.{Verb}
+use Rattle.mst_command.specs.declared.table.Verb.TheVariants.{Run, Check, Explain, Diff, Sweep, Summary, Dot, Ask, Verify, Edits, Steps, Advise}
 use Rattle.mst_tool.specs.declared.diffs.Between.TheVariants.{Plans, Settings}
-use Rattle.mstplan.specs.declared.flags.Flags.{Flags}
+use Rattle.mst_command.specs.declared.flags.Flags.{Flags}
 use Rattle.mstplan.specs.declared.piped.Piped.{Piped}
 use Rattle.mst_frame.specs.declared.sources.Unopened.{Unopened as Why}
 use Rattle.mst_frame.specs.Served.{Outputs}
 use Rattle.mst_hints.specs.declared.whose.Script.TheVariants as kind
 use Rattle.mstplan.specs.Endings.{told_of, told_of_hints, said_of, line_of, status_after, status_of_stop, status_with}
-use Rattle.mstplan.specs.Flags.{form_of, asked_with}
+use Rattle.mst_command.specs.Flags.{form_of}
+use Rattle.mstplan.specs.Flags.{asked_with}
 use Rattle.mstplan.specs.Invites.{invitation}
 use Rattle.mstplan.specs.Said.{IsSaid}
 use Rattle.mstplan.specs.Serving.{IsWhyUndone, ServesTask, Task, nothing, policy_if, scripts, serves, stands}
-use Rattle.mstplan.specs.Words.{question_by, texts_of, words_of, are_plain, without_dashes, is_help, is_version, IsAnswer, IsRefusal}
+use Rattle.mstplan.specs.Words.{question_by}
+use Rattle.mst_command.specs.Words.{texts_of, words_of, are_plain, without_dashes, is_help, is_version, IsAnswer, IsRefusal}
 
 -- what is to be done where the network of the script of this name is asked something, if words ask it
 abbrev pub asking_of : Form → Option Question → Bor (List ℕ) → Task

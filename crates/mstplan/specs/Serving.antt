@@ -12,9 +12,9 @@ use Rattle.mst_frame.specs.declared.hinting.Scripts.{Scripts}
 use Rattle.mst_frame.specs.declared.inputs.Unserved.{Unserved}
 use Rattle.mst_frame.specs.declared.sources.Unopened.{Unopened as Why}
 use Rattle.mstplan.specs.Endings.{stop_by}
-use Rattle.mstplan.specs.declared.endings.Stop.{Stop}
-use Rattle.mstplan.specs.declared.endings.Stop.TheVariants.{Told}
-use Rattle.mstplan.specs.declared.flags.Flags.{Flags}
+use Rattle.mst_command.specs.declared.stop.Stop.{Stop}
+use Rattle.mst_command.specs.declared.stop.Stop.TheVariants.{Told}
+use Rattle.mst_command.specs.declared.flags.Flags.{Flags}
 
 -- what the lines of a word's inputs have hints of
 abbrev pub scripts : Script → Option Script → Option Script → Scripts

@@ -3,10 +3,8 @@ ghost use Rattle.mst_io.specs.Devices.{seen_by};
 ghost use Rattle.mstplan.specs.Invites.{invitation};
 ghost use Rattle.mstplan.specs.Said.{IsSaid};
 
-use crate::endings::Stop;
 use crate::said::{Part, say};
-use crate::table::Verb;
-use crate::words::Asked;
+use mst_command::{Asked, Stop, Verb};
 use mst_io::Sink;
 
 /// The lines that tell whom the program waits for.

@@ -6,26 +6,20 @@
 #![tactic(auto)]
 
 mod closed;
-mod command;
 mod endings;
-mod flags;
 mod invites;
-mod page;
 mod piped;
 mod program;
-mod rows;
 mod said;
 mod serving;
-mod strays;
-mod table;
 mod words;
 
 use closed::StandIns;
+use mst_command::given_words;
 use mst_io::ToWrite;
 use program::run_program;
 use std::io::{self, IsTerminal};
 use std::process::ExitCode;
-use words::given_words;
 
 fn main(rt: HostRuntime) -> ExitCode {
     let _stand_ins = StandIns::new(&rt);

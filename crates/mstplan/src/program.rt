@@ -1,21 +1,20 @@
 ghost use Rattle.std.specs.Prelude.{◌≡◌, map, Err, IfOk, IfErr, OnErr, option_map, string_bytes};
 ghost use Rattle.mst_io.specs.Devices.{seen_by};
 ghost use Rattle.mst_frame.specs.Served.{outputs};
-ghost use Rattle.mstplan.specs.Flags.{flags_in, form_of, no_flags, without_flags_behind};
+ghost use Rattle.mst_command.specs.Flags.{flags_in, form_of, no_flags, without_flags_behind};
 ghost use Rattle.mstplan.specs.Program.{Serves, IsWhyUnserved, IsCarriedOut, IsProgram, asking_of, output_of};
 ghost use Rattle.mstplan.specs.Serving.{IsWhyUndone, ServesTask};
-ghost use Rattle.mstplan.specs.Words.{behind_name};
+ghost use Rattle.mst_command.specs.Words.{behind_name};
 
-use crate::endings::{Stop, after_run, status_of_stop, tell, tell_stop};
-use crate::flags::{Flags, Parted};
+use crate::endings::{after_run, status_of_stop, tell, tell_stop};
 use crate::invites::invite;
 use crate::piped::Piped;
 use crate::serving::{
     answer_questions, ask_script, check_captures, diff_scripts, run_script, tell_steps,
     verify_script,
 };
-use crate::table::Verb;
-use crate::words::{Asked, asked_for, question_of};
+use crate::words::{asked_for, question_of};
+use mst_command::{Asked, Flags, Parted, Stop, Verb};
 use mst_frame::{Ran, Sources};
 use mst_io::Sink;
 use mst_tool::{Between, Question};

@@ -10,12 +10,12 @@ ghost use Rattle.mst_tool.specs.Diff.{differing};
 ghost use Rattle.mst_tool.specs.Run.{running};
 ghost use Rattle.mst_tool.specs.Verify.{verifying};
 ghost use Rattle.mst_ask.specs.Asking.{standing};
-ghost use Rattle.mstplan.specs.Flags.{form_of};
+ghost use Rattle.mst_command.specs.Flags.{form_of};
 ghost use Rattle.mstplan.specs.Serving.{IsWhyUnread, ServesWord, policy_if, scripts};
 
-use crate::endings::{Stop, stop_unserved};
-use crate::flags::Flags;
+use crate::endings::stop_unserved;
 use mst_ask::AskWord;
+use mst_command::{Flags, Stop};
 use mst_drive::Word;
 use mst_frame::{Names, Ran, Scripts, Sources, serve_named};
 use mst_hints::Script;

@@ -4,10 +4,10 @@ use Rattle.std.specs.Str.{bytes_eq}
 use Rattle.mst_io.specs.Devices.{seen_by}
 use Rattle.mstplan.specs.Invites.{invitation, waits_by, waits_for}
 use Rattle.mstplan.specs.Said.{IsSaid}
-use Rattle.mstplan.specs.declared.endings.Stop.{Stop}
-use Rattle.mstplan.specs.declared.table.Verb.{Verb}
-use Rattle.mstplan.specs.declared.table.Verb.TheVariants.{Ask}
-use Rattle.mstplan.specs.declared.words.Asked.{Asked}
+use Rattle.mst_command.specs.declared.stop.Stop.{Stop}
+use Rattle.mst_command.specs.declared.table.Verb.{Verb}
+use Rattle.mst_command.specs.declared.table.Verb.TheVariants.{Ask}
+use Rattle.mst_command.specs.declared.words.Asked.{Asked}
 use Rattle.mstplan.proofs.invites.invite.Goals as goal
 
 is_other : (same other : Bool) → other ≡ true → other ≡ not same → same ≡ false

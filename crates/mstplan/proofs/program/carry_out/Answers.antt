@@ -3,7 +3,7 @@ use Rattle.mst_io.specs.Devices.{seen_by}
 use Rattle.mstplan.specs.Endings.{said_of}
 use Rattle.mstplan.specs.Program.{Serves}
 use Rattle.mstplan.specs.Said.{IsSaid}
-use Rattle.mstplan.specs.declared.words.Asked.{Asked}
+use Rattle.mst_command.specs.declared.words.Asked.{Asked}
 use Rattle.mstplan.proofs.program.carry_out.Goals.{in-Ok, in-Err}
 use Rattle.mstplan.proofs.program.carry_out.Goals as goal
 

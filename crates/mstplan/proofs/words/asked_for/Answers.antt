@@ -1,4 +1,4 @@
-use Rattle.mstplan.specs.Words.{asked_by, behind_name, without_dashes}
+use Rattle.mst_command.specs.Words.{asked_by, behind_name, without_dashes}
 use Rattle.mstplan.proofs.Flagged.{refused_with}
 use Rattle.mstplan.proofs.words.asked_for.Goals as goal
 

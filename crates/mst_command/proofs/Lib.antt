@@ -1,0 +1,6 @@
+pub mod Commands
+pub mod Parting
+pub mod Meanings
+pub mod CommandLine
+pub mod PlainWords
+pub mod Entered

@@ -1,0 +1,4 @@
+pub mod Table
+pub mod Strays
+pub mod Words
+pub mod Flags
