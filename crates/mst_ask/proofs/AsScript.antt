@@ -20,10 +20,10 @@ use Rattle.mst_lang.specs.declared.line.Version.TheVariants.{V1, V2}
 use Rattle.mst_net.specs.After.{after}
 use Rattle.mst_net.specs.Tables.{Net, empty_net}
 use Rattle.mst_net.specs.declared.refusal.Refusal.{Refusal}
-use Rattle.mst_tool.specs.engine.Script.{LoadsAll, ServesRead, marked, reading_at, version_of, version_said}
-use Rattle.mst_tool.specs.engine.Steps.{Step, left_by, lacks_of}
-use Rattle.mst_tool.specs.report.State.{State, empty_state}
-use Rattle.mst_tool.proofs.engine_lemmas.OneRun.{answered_keeps}
+use Rattle.mst_questions.specs.tool.engine.Script.{LoadsAll, ServesRead, marked, reading_at, version_of, version_said}
+use Rattle.mst_questions.specs.tool.engine.Steps.{Step, left_by, lacks_of}
+use Rattle.mst_questions.specs.tool.engine.report.State.{State, empty_state}
+use Rattle.mst_questions.proofs.tool_lemmas.engine_lemmas.OneRun.{answered_keeps}
 use Rattle.mst_policy.specs.declared.policy.PolicyLine.{PolicyLine}
 use Rattle.mst_print.specs.Shape.{of_script}
 use Rattle.mst_print.specs.declared.form.Form.{Form}

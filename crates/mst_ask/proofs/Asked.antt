@@ -10,25 +10,25 @@ use Rattle.mst_lang.specs.declared.line.Line.TheVariants.{Blank, Mark, Edit as e
 use Rattle.mst_lang.specs.declared.line.Query.{Query}
 use Rattle.mst_lang.specs.declared.line.Version.{Version}
 use Rattle.mst_net.specs.After.{after}
-use Rattle.mst_tool.specs.verdict.Verifying.{Verifies}
+use Rattle.mst_questions.specs.words.verdict.Verifying.{Verifies}
 use Rattle.mst_net.specs.Tables.{Net, IsNetwork}
 use Rattle.mst_net.specs.declared.refusal.Refusal.{Refusal}
-use Rattle.mst_tool.specs.engine.Script.{ServesRead, answered as answered_by, marked}
-use Rattle.mst_tool.specs.engine.Steps.{Step, silent}
-use Rattle.mst_tool.specs.report.Answers.{Answers}
-use Rattle.mst_tool.specs.report.State.{State, IsState}
-use Rattle.mst_tool.proofs.engine_lemmas.OneRun.{Laws, answered_keeps}
+use Rattle.mst_questions.specs.tool.engine.Script.{ServesRead, answered as answered_by, marked}
+use Rattle.mst_questions.specs.tool.engine.Steps.{Step, silent}
+use Rattle.mst_questions.specs.tool.engine.report.Answers.{Answers}
+use Rattle.mst_questions.specs.tool.engine.report.State.{State, IsState}
+use Rattle.mst_questions.proofs.tool_lemmas.engine_lemmas.OneRun.{Laws, answered_keeps}
 use Rattle.mst_policy.specs.declared.policy.PolicyLine.{PolicyLine}
 use Rattle.mst_print.specs.Shape.{of_script}
 use Rattle.mst_print.specs.declared.form.Form.{Form}
 use Rattle.mst_print.specs.declared.form.Shape.{Shape}
 use Rattle.mst_rows.specs.Rows.{Row}
-use Rattle.mst_tool.specs.Ask.{is_refused}
-use Rattle.mst_tool.specs.Shown.{verify_row}
-use Rattle.mst_tool.proofs.EarlyRefusals.{refused_answer}
-use Rattle.mst_tool.proofs.Shown.{one_shown}
-use Rattle.mst_tool.proofs.WholeLoad.{OneOfEach, one_answer}
-use Rattle.mst_tool.specs.verdict.Verified.{Counts}
+use Rattle.mst_questions.specs.Ask.{is_refused}
+use Rattle.mst_questions.specs.tool.Shown.{verify_row}
+use Rattle.mst_questions.proofs.EarlyRefusals.{refused_answer}
+use Rattle.mst_questions.proofs.tool_lemmas.Shown.{one_shown}
+use Rattle.mst_questions.proofs.WholeAsk.{OneOfEach, one_answer}
+use Rattle.mst_questions.specs.words.verdict.Verified.{Counts}
 use Rattle.mst_ask.specs.Requests.{request_of}
 use Rattle.mst_ask.specs.Standing.{Made, Standing, Turn, Asks, AsksBy, AsksLine, IsStanding, answered, back, declined, edited, lacking_of, left_after, passed, starved, stepped, undone, verified}
 use Rattle.mst_ask.specs.declared.request.Request.{Request}

@@ -4,7 +4,7 @@ use Rattle.std.proofs.lemmas.List.Sums.{sum_by-cons}
 use Rattle.std.specs.Io.KnownBytes.{Appends}
 use Rattle.mst_drive.specs.Driving.{Driven, DrivenEnded, DrivenFront, DrivenOn}
 use Rattle.mst_drive.specs.Words.{HasTold, Wrote, WroteFront}
-use Rattle.mst_tool.specs.engine.Served.{IsFew}
+use Rattle.mst_questions.specs.tool.engine.Served.{IsFew}
 use Rattle.mst_io.specs.Devices.{HearsWhere, Seen}
 use Rattle.mst_io.specs.Held.{lines_held}
 use Rattle.mst_io.specs.Written.{AppendsFront, Reads}

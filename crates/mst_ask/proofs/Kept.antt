@@ -17,11 +17,11 @@ use Rattle.mst_lang.specs.declared.line.Version.TheVariants.{V1, V2}
 use Rattle.mst_net.specs.After.{after}
 use Rattle.mst_net.specs.Tables.{Net, IsNetwork, empty_net}
 use Rattle.mst_net.specs.declared.refusal.Refusal.{Refusal}
-use Rattle.mst_tool.specs.engine.Script.{Loads, LoadsAll, ServesRead, edited, loading, reading_at, version_of}
-use Rattle.mst_tool.specs.engine.Steps.{Step, RunsBy, left_by, lacks_of}
-use Rattle.mst_tool.specs.report.Planned.{planned_state}
-use Rattle.mst_tool.specs.report.State.{State, IsState, empty_state}
-use Rattle.mst_tool.proofs.engine_lemmas.Steps.{none_lack}
+use Rattle.mst_questions.specs.tool.engine.Script.{Loads, LoadsAll, ServesRead, edited, loading, reading_at, version_of}
+use Rattle.mst_questions.specs.tool.engine.Steps.{Step, RunsBy, left_by, lacks_of}
+use Rattle.mst_questions.specs.tool.engine.report.Planned.{planned_state}
+use Rattle.mst_questions.specs.tool.engine.report.State.{State, IsState, empty_state}
+use Rattle.mst_questions.proofs.tool_lemmas.engine_lemmas.Steps.{none_lack}
 use Rattle.mst_print.specs.declared.form.Shape.{Shape}
 use Rattle.mst_ask.specs.Kept.{line_row, lines_kept as all_lines, lines_net, made_by, made_in, net_of_script, net_or, script_net, standing_of}
 use Rattle.mst_ask.specs.Standing.{IsStanding, back, undone_rows}

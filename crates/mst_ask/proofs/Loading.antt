@@ -8,12 +8,12 @@ use Rattle.mst_io.specs.Written.{AppendsFront}
 use Rattle.mst_io.proofs.Known.{AppendsFront-after, AppendsFront-longer}
 use Rattle.mst_lang.specs.declared.line.Version.{Version}
 use Rattle.mst_drive.specs.Words.{WroteFront}
-use Rattle.mst_tool.specs.engine.Engine.{IsCounted, Tally, does, tallied, version_from}
-use Rattle.mst_tool.specs.engine.Script.{Loads, LoadsAll, version_of}
-use Rattle.mst_tool.specs.engine.Steps.{Step, RunsBy, left_by, lacks_of, refusals_of, texts_of}
-use Rattle.mst_tool.specs.engine.declared.engine.Input.TheVariants.{Network}
-use Rattle.mst_tool.specs.report.State.{State, IsState, empty_state}
-use Rattle.mst_tool.proofs.engine_lemmas.Steps.{left_by-append, runs-none, runs-first}
+use Rattle.mst_questions.specs.tool.engine.Engine.{IsCounted, Tally, does, tallied, version_from}
+use Rattle.mst_questions.specs.tool.engine.Script.{Loads, LoadsAll, version_of}
+use Rattle.mst_questions.specs.tool.engine.Steps.{Step, RunsBy, left_by, lacks_of, refusals_of, texts_of}
+use Rattle.mst_questions.specs.tool.engine.declared.engine.Input.TheVariants.{Network}
+use Rattle.mst_questions.specs.tool.engine.report.State.{State, IsState, empty_state}
+use Rattle.mst_questions.proofs.tool_lemmas.engine_lemmas.Steps.{left_by-append, runs-none, runs-first}
 use Rattle.mst_print.specs.Shape.{of_script}
 use Rattle.mst_print.specs.declared.form.Form.{Form}
 use Rattle.mst_print.specs.declared.form.Shape.{Shape}

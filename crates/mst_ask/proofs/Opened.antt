@@ -5,11 +5,11 @@ use Rattle.mst_drive.specs.Words.{Wrote}
 use Rattle.mst_io.specs.Written.{AppendsFront}
 use Rattle.mst_lang.specs.Lines.{lines_of}
 use Rattle.mst_drive.proofs.Words.{front_then, wrote_then}
-use Rattle.mst_tool.specs.engine.Script.{LoadsAll, version_of}
-use Rattle.mst_tool.specs.engine.Steps.{Step, lacks_of}
-use Rattle.mst_tool.specs.engine.declared.engine.Engine.{Engine}
-use Rattle.mst_tool.specs.report.Planned.{planned_state}
-use Rattle.mst_tool.specs.report.State.{State}
+use Rattle.mst_questions.specs.tool.engine.Script.{LoadsAll, version_of}
+use Rattle.mst_questions.specs.tool.engine.Steps.{Step, lacks_of}
+use Rattle.mst_questions.specs.tool.engine.declared.engine.Engine.{Engine}
+use Rattle.mst_questions.specs.tool.engine.report.Planned.{planned_state}
+use Rattle.mst_questions.specs.tool.engine.report.State.{State}
 use Rattle.mst_io.specs.declared.outcome.RunFault.{RunFault}
 use Rattle.mst_io.specs.declared.outcome.RunFault.TheVariants.{Write}
 use Rattle.mst_policy.specs.declared.policy.PolicyLine.{PolicyLine}

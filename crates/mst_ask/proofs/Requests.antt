@@ -10,12 +10,12 @@ use Rattle.mst_lang.specs.declared.line.Fault.{Fault}
 use Rattle.mst_lang.specs.declared.line.Fault.TheVariants.{E02}
 use Rattle.mst_lang.specs.declared.line.Line.{Line}
 use Rattle.mst_lang.specs.declared.line.Version.{Version}
-use Rattle.mst_tool.specs.sweep.SweepParts.{PartOf}
-use Rattle.mst_tool.specs.Ask.{dot_question, drawn_of, keeps, pairs_question, part_asked, question_of, sweep_question, vlan_drawn_of, vlan_picture_question}
-use Rattle.mst_tool.specs.Asked.{asked_of, part_value}
-use Rattle.mst_tool.specs.declared.asked.Asked.{Asked}
-use Rattle.mst_tool.specs.declared.asked.Question.{Question}
-use Rattle.mst_tool.specs.declared.asked.Question.TheVariants.{Pairs, Sweep}
+use Rattle.mst_questions.specs.words.verdict.sweep.SweepParts.{PartOf}
+use Rattle.mst_questions.specs.Ask.{dot_question, drawn_of, keeps, pairs_question, part_asked, question_of, sweep_question, vlan_drawn_of, vlan_picture_question}
+use Rattle.mst_questions.specs.Asked.{asked_of, part_value}
+use Rattle.mst_questions.specs.declared.asked.Asked.{Asked}
+use Rattle.mst_questions.specs.declared.asked.Question.{Question}
+use Rattle.mst_questions.specs.declared.asked.Question.TheVariants.{Pairs, Sweep}
 use Rattle.mst_ask.specs.Requests.{Stays, asked_by, asked_in, counted, dot_of, dot_words, explain_words, is_readable, request_of, said_of, summary_words, sweep_of, sweep_words, undo_words, verify_words}
 use Rattle.mst_ask.specs.declared.request.Request.{Request}
 use Rattle.mst_ask.specs.declared.request.Request.TheVariants.{Script, Word, Undo, Verify}

@@ -17,14 +17,14 @@ use Rattle.mst_io.proofs.Calls.{stops_working, works_unbroken}
 use Rattle.mst_io.proofs.Known.{AppendsFront-longer}
 use Rattle.mst_io.proofs.ReadBytes.{Reads-rest, Reads-all}
 use Rattle.mst_lang.specs.Lines.{lines_of, ended_lines}
-use Rattle.mst_tool.specs.engine.Script.{Loads, LoadsAll, version_of}
-use Rattle.mst_tool.specs.engine.Steps.{Step, RunsBy, left_by, lacking_of, lacks_of, texts_of}
-use Rattle.mst_tool.specs.report.State.{IsState, empty_state}
-use Rattle.mst_tool.proofs.engine_lemmas.Steps.{runs-none}
+use Rattle.mst_questions.specs.tool.engine.Script.{Loads, LoadsAll, version_of}
+use Rattle.mst_questions.specs.tool.engine.Steps.{Step, RunsBy, left_by, lacking_of, lacks_of, texts_of}
+use Rattle.mst_questions.specs.tool.engine.report.State.{IsState, empty_state}
+use Rattle.mst_questions.proofs.tool_lemmas.engine_lemmas.Steps.{runs-none}
 use Rattle.mst_print.specs.Shape.{of_script}
 use Rattle.mst_print.specs.declared.form.Form.{Form}
 use Rattle.mst_print.specs.declared.form.Shape.{Shape}
-use Rattle.mst_tool.specs.Load.{LoadsEnded, LoadsScript}
+use Rattle.mst_questions.specs.tool.Load.{LoadsEnded, LoadsScript}
 use Rattle.mst_ask.specs.Answering.{IsBegun, IsLeft, IsScript, LoadsLines}
 use Rattle.mst_ask.specs.Asking.{Begins, LoadsFront}
 use Rattle.mst_ask.specs.Lines.{lines_in}

@@ -14,15 +14,15 @@ use Rattle.mst_io.specs.declared.outcome.RunFault.TheVariants.{Read}
 use Rattle.mst_io.proofs.Known.{AppendsFront-longer}
 use Rattle.mst_lang.specs.Lines.{lines_of, ended_lines}
 use Rattle.mst_lang.specs.declared.line.Version.{Version}
-use Rattle.mst_tool.specs.engine.Script.{LoadsAll, version_of}
-use Rattle.mst_tool.specs.engine.Steps as steps
-use Rattle.mst_tool.specs.engine.Steps.{Step}
+use Rattle.mst_questions.specs.tool.engine.Script.{LoadsAll, version_of}
+use Rattle.mst_questions.specs.tool.engine.Steps as steps
+use Rattle.mst_questions.specs.tool.engine.Steps.{Step}
 use Rattle.mst_policy.specs.Lines.{policy_from}
 use Rattle.mst_policy.specs.declared.policy.PolicyLine.{PolicyLine}
 use Rattle.mst_print.specs.Shape.{of_script}
 use Rattle.mst_print.specs.declared.form.Form.{Form}
-use Rattle.mst_tool.specs.Lines.{AreLines}
-use Rattle.mst_tool.specs.Load.{LoadsScript}
+use Rattle.mst_questions.specs.tool.Lines.{AreLines}
+use Rattle.mst_questions.specs.tool.Load.{LoadsScript}
 use Rattle.mst_ask.specs.Answering.{Answered, AnsweredEnded, PrintsAnswers}
 use Rattle.mst_ask.specs.Asking.{Answers, AnswersEnded, Begins, Stands, loaded_by, opening, standing}
 use Rattle.mst_ask.specs.Kept.{standing_of}

@@ -5,13 +5,13 @@ use Rattle.mst_io.specs.Devices.{Told, IsCut, IsRead, Works}
 use Rattle.mst_io.specs.Written.{Reads}
 use Rattle.mst_io.specs.declared.outcome.Outcome.{Outcome}
 use Rattle.mst_lang.specs.Lines.{lines_of, ended_lines}
-use Rattle.mst_tool.specs.engine.Engine.{version_from}
-use Rattle.mst_tool.specs.engine.Script.{LoadsAll, version_of}
-use Rattle.mst_tool.specs.engine.Steps as steps
-use Rattle.mst_tool.specs.engine.Steps.{Step, left_by, texts_of}
-use Rattle.mst_tool.specs.engine.declared.engine.Engine.{Engine}
-use Rattle.mst_tool.specs.report.Planned.{planned_state}
-use Rattle.mst_tool.specs.report.State.{empty_state}
+use Rattle.mst_questions.specs.tool.engine.Engine.{version_from}
+use Rattle.mst_questions.specs.tool.engine.Script.{LoadsAll, version_of}
+use Rattle.mst_questions.specs.tool.engine.Steps as steps
+use Rattle.mst_questions.specs.tool.engine.Steps.{Step, left_by, texts_of}
+use Rattle.mst_questions.specs.tool.engine.declared.engine.Engine.{Engine}
+use Rattle.mst_questions.specs.tool.engine.report.Planned.{planned_state}
+use Rattle.mst_questions.specs.tool.engine.report.State.{empty_state}
 use Rattle.mst_print.specs.Shape.{of_script}
 use Rattle.mst_print.specs.declared.form.Form.{Form}
 use Rattle.mst_ask.specs.Kept.{standing_of}

@@ -3,17 +3,17 @@ use Rattle.std.specs.Prelude.{◌≡◌, ◌+◌, ◌++◌, ◌⊎◌, ◌==◌,
 use Rattle.std.specs.Io.KnownBytes.{Consumes}
 use Rattle.mst_drive.specs.Words.{Telling, Unwritten}
 use Rattle.mst_lang.specs.Lines.{lines_of, ended_lines}
-use Rattle.mst_tool.specs.engine.Script.{LoadsAll, version_of}
-use Rattle.mst_tool.specs.engine.Steps as steps
-use Rattle.mst_tool.specs.engine.Steps.{Step, left_by, texts_of}
-use Rattle.mst_tool.specs.report.State.{empty_state}
+use Rattle.mst_questions.specs.tool.engine.Script.{LoadsAll, version_of}
+use Rattle.mst_questions.specs.tool.engine.Steps as steps
+use Rattle.mst_questions.specs.tool.engine.Steps.{Step, left_by, texts_of}
+use Rattle.mst_questions.specs.tool.engine.report.State.{empty_state}
 use Rattle.mst_io.specs.Written.{Reads}
 use Rattle.mst_io.specs.declared.outcome.Outcome.{Outcome}
 use Rattle.mst_policy.specs.declared.policy.PolicyLine.{PolicyLine}
 use Rattle.mst_print.specs.Shape.{of_script}
 use Rattle.mst_print.specs.declared.form.Form.{Form}
-use Rattle.mst_tool.specs.Lines.{AreLines}
-use Rattle.mst_tool.specs.Load.{LoadsEnded, LoadsScript}
+use Rattle.mst_questions.specs.tool.Lines.{AreLines}
+use Rattle.mst_questions.specs.tool.Load.{LoadsEnded, LoadsScript}
 use Rattle.mst_ask.specs.Standing.{Standing, Turn, AsksBy, answers_of, differing_of, done, lacking_of, lacks_of, refusals_of, status_by}
 
 -- what stands where a script was loaded by these steps, with a policy: no edit was made since

@@ -10,8 +10,8 @@ use Rattle.mst_lang.specs.declared.line.Version.{Version}
 use Rattle.mst_net.specs.After.{after}
 use Rattle.mst_net.specs.Tables.{Net, empty_net}
 use Rattle.mst_net.specs.declared.refusal.Refusal.{Refusal}
-use Rattle.mst_tool.specs.engine.Script.{reading_at, version_of}
-use Rattle.mst_tool.specs.report.Planned.{planned_state}
+use Rattle.mst_questions.specs.tool.engine.Script.{reading_at, version_of}
+use Rattle.mst_questions.specs.tool.engine.report.Planned.{planned_state}
 use Rattle.mst_kinds.specs.declared.ask_line.AskLine.TheVariants.{Undone}
 use Rattle.mst_kinds.specs.declared.kind.Kind.TheVariants as kind
 use Rattle.mst_rows.specs.Cells.{word}

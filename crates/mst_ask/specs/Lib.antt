@@ -1,3 +1,5 @@
+pub use Rattle.mst_alters.specs as alters
+pub use Rattle.mst_questions.specs as questions
 pub mod Requests
 pub mod Standing
 pub mod Asking

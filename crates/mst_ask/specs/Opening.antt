@@ -2,15 +2,15 @@
 use Rattle.std.specs.Prelude.{◌≡◌, ◌⊎◌, ◌<◌, ◌^◌, ℕ, true, false, List, [], Option, Some, None}
 use Rattle.mst_drive.specs.Words.{Wrote, WroteFront}
 use Rattle.mst_lang.specs.Lines.{lines_of}
-use Rattle.mst_tool.specs.engine.Script.{LoadsAll, version_of}
-use Rattle.mst_tool.specs.engine.Steps.{Step, lacks_of, refusals_of}
+use Rattle.mst_questions.specs.tool.engine.Script.{LoadsAll, version_of}
+use Rattle.mst_questions.specs.tool.engine.Steps.{Step, lacks_of, refusals_of}
 use Rattle.mst_io.specs.Devices.{Told, Works, IsStopped}
 use Rattle.mst_io.specs.declared.outcome.RunFault.{RunFault}
 use Rattle.mst_io.specs.declared.outcome.RunFault.TheVariants.{Read, Write, Memory}
 use Rattle.mst_policy.specs.declared.policy.PolicyLine.{PolicyLine}
 use Rattle.mst_print.specs.Shape.{of_script}
 use Rattle.mst_print.specs.declared.form.Form.{Form}
-use Rattle.mst_tool.specs.Load.{LoadsScript}
+use Rattle.mst_questions.specs.tool.Load.{LoadsScript}
 use Rattle.mst_ask.specs.Answering.{IsBegun, LoadsLines}
 use Rattle.mst_ask.specs.Asking.{Begins, loaded_by, opening}
 use Rattle.mst_ask.specs.Kept.{IsKept, standing_of}

@@ -1,12 +1,12 @@
 -- What replies print, and the turns that they give.
 use Rattle.std.specs.Prelude.{ℕ, ◌==◌, false, not, List, [], ◌++◌}
-use Rattle.mst_tool.specs.engine.Engine as engine
-use Rattle.mst_tool.specs.engine.declared.engine.Reply.{Reply as LineReply}
+use Rattle.mst_questions.specs.tool.engine.Engine as engine
+use Rattle.mst_questions.specs.tool.engine.declared.engine.Reply.{Reply as LineReply}
 use Rattle.mst_print.specs.Shape.{of_script}
 use Rattle.mst_print.specs.declared.form.Form.{Form}
-use Rattle.mst_tool.specs.Ask.{answer_text, told_of}
-use Rattle.mst_tool.specs.declared.asks.Answer.{Answer as ToolAnswer}
-use Rattle.mst_tool.specs.declared.verifies.Verification.{Verification}
+use Rattle.mst_questions.specs.Ask.{answer_text, told_of}
+use Rattle.mst_questions.specs.declared.asks.Answer.{Answer as ToolAnswer}
+use Rattle.mst_alters.specs.declared.verifies.Verification.{Verification}
 use Rattle.mst_ask.specs.Standing.{Standing, Turn, done, status_by}
 use Rattle.mst_ask.specs.declared.reply.Reply.{Reply}
 use Rattle.mst_ask.specs.declared.reply.Reply.TheVariants.{Silent, Line, Answer, Undone, Verified}

@@ -10,9 +10,9 @@ use Rattle.mst_lang.specs.declared.line.Fault.{Fault}
 use Rattle.mst_lang.specs.declared.line.Fault.TheVariants.{E01, E02}
 use Rattle.mst_lang.specs.declared.line.Line.{Line}
 use Rattle.mst_lang.specs.declared.line.Version.{Version}
-use Rattle.mst_tool.specs.Ask.{dot_question, explain_question, keeps, sweep_question}
-use Rattle.mst_tool.specs.declared.asked.Question.{Question}
-use Rattle.mst_tool.specs.declared.asked.Question.TheVariants.{Summary}
+use Rattle.mst_questions.specs.Ask.{dot_question, explain_question, keeps, sweep_question}
+use Rattle.mst_questions.specs.declared.asked.Question.{Question}
+use Rattle.mst_questions.specs.declared.asked.Question.TheVariants.{Summary}
 use Rattle.mst_ask.specs.declared.request.Request.{Request}
 use Rattle.mst_ask.specs.declared.request.Request.TheVariants.{Script, Word, Undo, Verify}
 

@@ -13,18 +13,18 @@ use Rattle.mst_net.specs.Refusals as refusal
 use Rattle.mst_net.specs.Tables.{Net, IsNetwork}
 use Rattle.mst_net.specs.declared.refusal.Refusal.{Refusal}
 use Rattle.mst_net.specs.declared.refusal.Refusal.TheVariants.{E99}
-use Rattle.mst_tool.specs.engine.Script.{ServesRead}
-use Rattle.mst_tool.specs.engine.Steps.{Step}
-use Rattle.mst_tool.specs.report.State.{State, IsState}
+use Rattle.mst_questions.specs.tool.engine.Script.{ServesRead}
+use Rattle.mst_questions.specs.tool.engine.Steps.{Step}
+use Rattle.mst_questions.specs.tool.engine.report.State.{State, IsState}
 use Rattle.mst_policy.specs.declared.policy.PolicyLine.{PolicyLine}
 use Rattle.mst_print.specs.Shape.{coded, listed, of_script}
 use Rattle.mst_print.specs.declared.form.Form.{Form}
 use Rattle.mst_rows.specs.Cells.{number as number_cell, word}
 use Rattle.mst_rows.specs.Rows.{Row, row_of}
-use Rattle.mst_tool.specs.Ask.{IsAnswer, Told, is_refused}
-use Rattle.mst_tool.specs.Verify.{TellsVerification}
-use Rattle.mst_tool.specs.declared.asked.Question.{Question}
-use Rattle.mst_tool.specs.verdict.Verified.{Counts}
+use Rattle.mst_questions.specs.Ask.{IsAnswer, Told, is_refused}
+use Rattle.mst_alters.specs.Verify.{TellsVerification}
+use Rattle.mst_questions.specs.declared.asked.Question.{Question}
+use Rattle.mst_questions.specs.words.verdict.Verified.{Counts}
 use Rattle.mst_ask.specs.Requests.{request_of}
 use Rattle.mst_ask.specs.declared.request.Request.{Request}
 use Rattle.mst_ask.specs.declared.request.Request.TheVariants.{Script, Word, Undo, Verify}

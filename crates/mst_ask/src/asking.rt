@@ -3,7 +3,7 @@ ghost use Rattle.mst_drive.specs.Turned.{Turned, turning};
 ghost use Rattle.mst_drive.specs.Words.{Ended, HasTold, Unwritten, Wrote, WroteFront, inputs};
 ghost use Rattle.mst_io.specs.Devices.{HearsWhere, seen_by, stopped_by};
 ghost use Rattle.mst_print.specs.Shape.{of_script};
-ghost use Rattle.mst_tool.specs.Load.{LoadsEnded};
+ghost use Rattle.mst_questions.specs.tool.Load.{LoadsEnded};
 ghost use Rattle.mst_ask.specs.Asking.{AnswersEnded, Begins, LoadsFront, standing};
 ghost use Rattle.mst_ask.specs.Opening.{Leaves, MayOpen, Opens, OpensNot, OpensWhole};
 
@@ -14,22 +14,22 @@ use crate::script::{Script, read_script};
 use crate::standing::{Standing, load};
 use mst_io::{Outcome, RunFault, Sink, Source};
 use mst_print::Form;
-use mst_tool::laws::{has_load, one_load, states};
-use mst_tool::read_policy;
+use mst_questions::engine_laws::{has_load, one_load, states};
+use mst_questions::read_policy;
 use std::alloc::Global;
 
 /// Loads the network of a script, and then answers the questions that the third source gives, each of which is a line, some of them by
 /// the policy that the second one gives. Where nothing meets want of memory, what is written is a function of the three.
 ///
-/// The script is read to its end first, and its network loaded as [`mst_tool::ask_within`] does: its queries and its marks do nothing,
+/// The script is read to its end first, and its network loaded as [`mst_questions::ask_within`] does: its queries and its marks do nothing,
 /// and each line that is refused says so. Then comes `done STATUS`: 1 where a line was refused, and else 0. Then the policy is read to
 /// its end, of which nothing is told yet. Then each line of the third source is a question, and is answered before more is read:
 ///
 /// * A line of a script, of the version of the first one: an edit stays, a query is answered, a mark is made. Where it is refused,
 ///   `line N CODE TEXT` says so, by its number among the questions.
 /// * `explain B P`, `explain B P TREE`, `summary`, `sweep`, `sweep K/N`, `sweep pairs`, `sweep pairs K/N`, `dot TREE`: what
-///   [`mst_tool::Question`] asks, of the network as it stands.
-/// * `verify`: what [`mst_tool::verify`] tells, of the network as it stands by the policy.
+///   [`mst_questions::Question`] asks, of the network as it stands.
+/// * `verify`: what [`mst_alters::verify`] tells, of the network as it stands by the policy.
 /// * `undo`, `undo N`: the last edit that was made since the script was loaded is taken back, or the last N are, the newest first, with
 ///   a line `undone LINE` for each. The mark stays. Where there are fewer, it is refused as a bad argument.
 ///

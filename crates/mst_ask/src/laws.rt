@@ -2,10 +2,10 @@
 ghost use Rattle.std.specs.Prelude.{◌≡◌, ◌++◌, ℕ, List};
 ghost use Rattle.mst_lang.specs.Lines.{lines_of};
 ghost use Rattle.mst_lang.specs.declared.line.Version.{Version};
-ghost use Rattle.mst_tool.specs.engine.Script.{LoadsAll, version_of};
-ghost use Rattle.mst_tool.specs.engine.Steps.{Step, left_by};
-ghost use Rattle.mst_tool.specs.engine.Steps as steps;
-ghost use Rattle.mst_tool.specs.report.State.{empty_state};
+ghost use Rattle.mst_questions.specs.tool.engine.Script.{LoadsAll, version_of};
+ghost use Rattle.mst_questions.specs.tool.engine.Steps.{Step, left_by};
+ghost use Rattle.mst_questions.specs.tool.engine.Steps as steps;
+ghost use Rattle.mst_questions.specs.tool.engine.report.State.{empty_state};
 ghost use Rattle.mst_policy.specs.declared.policy.PolicyLine.{PolicyLine as LineOf};
 ghost use Rattle.mst_print.specs.Shape.{of_script};
 ghost use Rattle.mst_print.specs.declared.form.Form.{Form};
@@ -14,12 +14,12 @@ ghost use Rattle.mst_ask.specs.Standing.{AsksBy, IsStanding, Standing, Turn, edi
 
 use mst_lang::laws::edits_in_range;
 use mst_net::laws::networks;
-use mst_tool::advise_laws::one_advice;
-use mst_tool::laws::states;
-use mst_tool::report_laws::{entries_of_network, has_answer, one_answer};
-use mst_tool::sweeping_laws::{pair_parts, sweep_parts};
-use mst_tool::verdict_laws::one_verification;
-use mst_words::laws::{one_explanation, one_picture, one_summary, one_vlan_picture};
+use mst_questions::advise_laws::one_advice;
+use mst_questions::engine_laws::states;
+use mst_questions::report_laws::{entries_of_network, has_answer, one_answer};
+use mst_questions::sweeping_laws::{pair_parts, sweep_parts};
+use mst_questions::verdict_laws::one_verification;
+use mst_questions::words_laws::{one_explanation, one_picture, one_summary, one_vlan_picture};
 
 /// Any lines can be asked, the first of any number, whatever network stands.
 pub fn has_turns()

@@ -1,7 +1,7 @@
 ghost use Rattle.std.specs.Prelude.{◌≡◌, ◌≢◌, ◌≤◌, ◌<◌, ◌+◌, ◌^◌, ◌∷◌, [], false, Err, OnOk, OnErr};
 ghost use Rattle.mst_drive.specs.Turned.{Turned, turning};
 ghost use Rattle.mst_drive.specs.Words.{HasTold, Wrote, WroteFront};
-ghost use Rattle.mst_tool.specs.engine.Served.{IsFew};
+ghost use Rattle.mst_questions.specs.tool.engine.Served.{IsFew};
 ghost use Rattle.mst_io.specs.Devices.{HearsWhere, seen_by, stopped_by};
 ghost use Rattle.mst_ask.specs.Answering.{Answered, AnsweredEnded, PrintsAnswers};
 ghost use Rattle.mst_ask.specs.Kept.{IsKept};

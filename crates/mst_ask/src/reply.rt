@@ -6,10 +6,11 @@ ghost use Rattle.mst_ask.specs.Replies.{body_of, end_of, reply_text, status_of, 
 ghost use Rattle.mst_ask.specs.Standing.{done};
 
 use itoa::Buffer;
+use mst_alters::Verification;
 use mst_drive::Says;
 use mst_io::{Sink, WriteFailed, put, put_parts};
 use mst_print::Form;
-use mst_tool::{Answer, Input, Reply as LineReply, Verification, print, put_answer};
+use mst_questions::{Answer, Input, Reply as LineReply, print, put_answer};
 
 /// What a question is answered by.
 #[derive(Drop)]

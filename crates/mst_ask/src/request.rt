@@ -3,7 +3,7 @@ ghost use Rattle.mst_lang.specs.Words.{words};
 ghost use Rattle.mst_ask.specs.Requests.{Stays, asked_as, asked_in, count_of, dot_of, dot_words, explain_words, request_of, summary_words, sweep_of, sweep_words, undo_words, verify_words};
 
 use mst_lang::{Fault, LONGEST, Line, Version, are_plain, next_word, parse_line_as, parse_number};
-use mst_tool::Question;
+use mst_questions::Question;
 
 /// What a line asks of a standing planner.
 pub enum Request {

@@ -5,15 +5,15 @@ ghost use Rattle.mst_lang.specs.Lines.{lines_of};
 ghost use Rattle.mst_lang.specs.Reading.{reading_as};
 ghost use Rattle.mst_lang.specs.declared.line.Line.TheVariants as lines;
 ghost use Rattle.mst_net.specs.After.{after};
-ghost use Rattle.mst_tool.specs.engine.Engine.{IsCounted, IsReady, does, tally_of, tallied, version_from};
-ghost use Rattle.mst_tool.specs.engine.Script.{version_of};
-ghost use Rattle.mst_tool.specs.engine.Steps.{Step};
-ghost use Rattle.mst_tool.specs.report.Planned.{planned_state};
-ghost use Rattle.mst_tool.specs.report.State.{IsState};
+ghost use Rattle.mst_questions.specs.tool.engine.Engine.{IsCounted, IsReady, does, tally_of, tallied, version_from};
+ghost use Rattle.mst_questions.specs.tool.engine.Script.{version_of};
+ghost use Rattle.mst_questions.specs.tool.engine.Steps.{Step};
+ghost use Rattle.mst_questions.specs.tool.engine.report.Planned.{planned_state};
+ghost use Rattle.mst_questions.specs.tool.engine.report.State.{IsState};
 ghost use Rattle.mst_io.specs.Devices.{Works, IsStopped};
 ghost use Rattle.mst_io.specs.Written.{AppendsFront};
 ghost use Rattle.mst_print.specs.Shape.{listed, of_script};
-ghost use Rattle.mst_tool.specs.Ask.{keeps};
+ghost use Rattle.mst_questions.specs.Ask.{keeps};
 ghost use Rattle.mst_ask.specs.declared.request.Request.TheVariants.{Script as Said, Word, Undo, Verify};
 ghost use Rattle.mst_ask.specs.Answering.{IsLoaded, LoadsLines};
 ghost use Rattle.mst_ask.specs.Kept.{IsKept, Keeps, SameScript, lines_kept, lines_net, made_by, net_of_script, rows_of, standing_of};
@@ -25,6 +25,7 @@ use crate::reply::Reply;
 use crate::request::{Request, read_request};
 use crate::script::{Script, next_line};
 use crate::undone::undone_text;
+use mst_alters::verified;
 use mst_io::{Sink, WriteFailed};
 use mst_lang::laws::edits_in_range;
 use mst_lang::{Edit, Fault, Line, Version, parse_line_as};
@@ -32,9 +33,9 @@ use mst_net::Refusal;
 use mst_net::laws::networks;
 use mst_policy::Policy;
 use mst_print::{Form, Shape, Side};
-use mst_tool::laws::has_load;
-use mst_tool::{
-    Engine, Input, Planner, Question, Reply as LineReply, answer_to, print, serve, verified,
+use mst_questions::engine_laws::has_load;
+use mst_questions::{
+    Engine, Input, Planner, Question, Reply as LineReply, answer_to, print, serve,
 };
 use std::alloc::{AllocError, Global};
 

@@ -1,5 +1,4 @@
 pub use Rattle.mst_engine.proofs as engine_lemmas
-pub mod Plain
 pub mod Faults
 pub mod Moved
 pub mod LinesTaken
@@ -9,8 +8,5 @@ pub mod Shown
 pub mod NoneCaptured
 pub mod WholeCheck
 pub mod WholeLoad
-pub mod EarlyRefusals
 pub mod WholeDiff
-pub mod WholeVerify
-pub mod WholeAlter
 pub mod HasTold

@@ -3,11 +3,11 @@ use Rattle.std.proofs.Common.{◌≡◌, ℕ, Bool, cond, List, [], ◌++◌, Op
 use Rattle.std.specs.Io.KnownBytes.{Appends}
 use Rattle.std.specs.Option.{unwrap_or}
 use Rattle.std.proofs.KnownBytes.{Appends-trans}
-use Rattle.mst_words.specs.diff.declared.diff.Differing.{Differing}
+use Rattle.mst_between.specs.diff.declared.diff.Differing.{Differing}
 use Rattle.mst_lang.specs.Lines.{lines_of}
 use Rattle.mst_net.specs.Tables.{Net, IsNetwork}
-use Rattle.mst_words.specs.Differing.{Differs}
-use Rattle.mst_words.specs.Editing.{EditsTo}
+use Rattle.mst_between.specs.Differing.{Differs}
+use Rattle.mst_between.specs.Editing.{EditsTo}
 use Rattle.mst_engine.specs.report.State.{IsState, State, empty_state}
 use Rattle.mst_tool.specs.Diff.{CountsOf, LoadsBoth, LoadsNewEnded, old_net, new_net, TellsDifference, Diffs, DiffsScripts, counted_both, differing, differs_by}
 use Rattle.mst_tool.specs.Load.{LoadsEnded}

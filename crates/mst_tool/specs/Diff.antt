@@ -2,11 +2,11 @@
 use Rattle.std.specs.Prelude.{◌≡◌, ◌+◌, ◌++◌, ◌⊎◌, ◌==◌, ◌&&◌, ℕ, Bool, not, List, Option, if◌then◌else◌}
 use Rattle.std.specs.Io.KnownBytes.{Consumes}
 use Rattle.mst_drive.specs.Words.{Telling}
-use Rattle.mst_words.specs.diff.declared.diff.Differing.{Differing}
+use Rattle.mst_between.specs.diff.declared.diff.Differing.{Differing}
 use Rattle.mst_lang.specs.Lines.{lines_of, ended_lines}
 use Rattle.mst_net.specs.Tables.{Net}
-use Rattle.mst_words.specs.Differing.{Differs}
-use Rattle.mst_words.specs.Editing.{EditsTo}
+use Rattle.mst_between.specs.Differing.{Differs}
+use Rattle.mst_between.specs.Editing.{EditsTo}
 use Rattle.mst_engine.specs.report.State.{empty_state}
 use Rattle.mst_tool.specs.Load.{LoadsEnded}
 use Rattle.mst_engine.specs.Script.{LoadsAll}

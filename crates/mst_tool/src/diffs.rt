@@ -10,14 +10,14 @@ ghost use Rattle.mst_tool.specs.Diff.{CountsOf, LoadsNewEnded, TellsDifference, 
 
 use crate::opened::open_question;
 use crate::served::serve_first;
+use mst_between::laws::one_difference;
+use mst_between::{put_difference, put_edits_of};
 use mst_drive::Word;
 use mst_engine::laws::{has_load, one_load, states};
 use mst_engine::{Input, Planner};
 use mst_io::{FromRead, Outcome, RunFault, Sink, Source, TURNS, ToWrite, put};
 use mst_kinds::Query;
 use mst_print::{Form, Shape, Side};
-use mst_words::laws::one_difference;
-use mst_words::{put_difference, put_edits_of};
 use std::alloc::{AllocError, Global};
 use std::io::{Read, Write};
 

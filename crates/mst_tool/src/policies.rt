@@ -56,7 +56,7 @@ pub fn read_policy<S: Source, K: Sink>(
 }
 
 /// Reads the change that a source gives in so many turns, as [`read_policy`] does a policy.
-pub(crate) fn read_change<S: Source, K: Sink>(
+pub fn read_change<S: Source, K: Sink>(
     alloc: Global,
     source: &mut S,
     sink: &mut K,

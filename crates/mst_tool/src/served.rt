@@ -16,7 +16,7 @@ use std::alloc::Global;
 
 /// Serves all lines of a script, from the empty network on, and answers with the engine that has. Whenever it asks for more bytes, what
 /// the lines before print has gone out. [`RunFault::Memory`] is never answered: a line that wants memory is refused.
-pub(crate) fn serve_first<S: Source, K: Sink>(
+pub fn serve_first<S: Source, K: Sink>(
     alloc: Global,
     input: Input,
     source: &mut S,

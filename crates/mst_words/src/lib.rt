@@ -2,8 +2,6 @@
 #![tactic(auto)]
 
 mod advising;
-mod differing;
-mod editing;
 mod explaining;
 pub mod laws;
 mod picturing;
@@ -14,8 +12,6 @@ mod unadvised;
 mod verifying;
 
 pub use advising::put_advice;
-pub use differing::put_difference;
-pub use editing::put_edits_of;
 pub use explaining::{Unexplained, put_explanation_of, unexplained_in};
 pub use mst_advise::{Advised, Goal, laws as advise_laws};
 pub use mst_verdict::{SweepPart, laws as verdict_laws, sweeping_laws};

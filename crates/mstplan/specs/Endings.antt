@@ -3,7 +3,7 @@ use Rattle.std.specs.Prelude.{ℕ, ◌==◌, ◌++◌, ◌&&◌, Bool, List, [],
 use Rattle.mst_io.specs.declared.outcome.Outcome.{Outcome}
 use Rattle.mst_io.specs.declared.outcome.RunFault.{RunFault}
 use Rattle.mst_io.specs.declared.outcome.RunFault.TheVariants.{Read, Write, Memory}
-use Rattle.mst_tool.specs.Run.{status_of}
+use Rattle.mst_ask.specs.questions.tool.Run.{status_of}
 use Rattle.mst_frame.specs.Framed.{is_broken}
 use Rattle.mst_frame.specs.declared.inputs.Unserved.{Unserved}
 use Rattle.mst_frame.specs.declared.inputs.Unserved.TheVariants.{Unopened as not_opened, Starved}

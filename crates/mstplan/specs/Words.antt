@@ -1,8 +1,8 @@
 -- What the program's words ask for.
 use Rattle.std.specs.Prelude.{Bool, true, Option, Some, None, is_some}
-use Rattle.mst_tool.specs.Ask.{advice_question, dot_question, explain_question, sweep_question}
-use Rattle.mst_tool.specs.declared.asked.Question.{Question}
-use Rattle.mst_tool.specs.declared.asked.Question.TheVariants as question
+use Rattle.mst_ask.specs.questions.Ask.{advice_question, dot_question, explain_question, sweep_question}
+use Rattle.mst_ask.specs.questions.declared.asked.Question.{Question}
+use Rattle.mst_ask.specs.questions.declared.asked.Question.TheVariants as question
 use Rattle.mst_command.specs.declared.table.Verb.{Verb}
 use Rattle.mst_command.specs.declared.table.Verb.TheVariants.{Explain, Sweep, Summary, Dot, Advise}
 use Rattle.mst_command.specs.Words.{Placed, Request, wanted}

@@ -14,10 +14,10 @@ use crate::serving::{
     verify_script,
 };
 use crate::words::{asked_for, question_of};
+use mst_ask::{Between, Question};
 use mst_command::{Asked, Flags, Parted, Stop, Verb};
 use mst_frame::{Ran, Sources};
 use mst_io::Sink;
-use mst_tool::{Between, Question};
 use std::alloc::Global;
 use std::io::Write;
 

@@ -3,26 +3,25 @@ ghost use Rattle.mst_io.specs.Devices.{seen_by};
 ghost use Rattle.mst_frame.specs.Hinted.{Fit};
 ghost use Rattle.mst_frame.specs.Named.{word_of};
 ghost use Rattle.mst_frame.specs.Served.{outputs};
-ghost use Rattle.mst_tool.specs.Alter.{altering};
-ghost use Rattle.mst_tool.specs.Ask.{asking};
-ghost use Rattle.mst_tool.specs.Check.{checking};
-ghost use Rattle.mst_tool.specs.Diff.{differing};
-ghost use Rattle.mst_tool.specs.Run.{running};
-ghost use Rattle.mst_tool.specs.Verify.{verifying};
+ghost use Rattle.mst_ask.specs.alters.Alter.{altering};
+ghost use Rattle.mst_ask.specs.questions.Ask.{asking};
+ghost use Rattle.mst_ask.specs.questions.tool.Check.{checking};
+ghost use Rattle.mst_ask.specs.questions.tool.Diff.{differing};
+ghost use Rattle.mst_ask.specs.questions.tool.Run.{running};
+ghost use Rattle.mst_ask.specs.alters.Verify.{verifying};
 ghost use Rattle.mst_ask.specs.Asking.{standing};
 ghost use Rattle.mst_command.specs.Flags.{form_of};
 ghost use Rattle.mstplan.specs.Serving.{IsWhyUnread, ServesWord, policy_if, scripts};
 
 use crate::endings::stop_unserved;
-use mst_ask::AskWord;
+use mst_ask::{
+    AskWord, Between, CheckWord, DiffWord, Question, QuestionWord, RunWord, StepsWord, VerifyWord,
+};
 use mst_command::{Flags, Stop};
 use mst_drive::Word;
 use mst_frame::{Names, Ran, Scripts, Sources, serve_named};
 use mst_hints::Script;
 use mst_io::Sink;
-use mst_tool::{
-    Between, CheckWord, DiffWord, Question, QuestionWord, RunWord, StepsWord, VerifyWord,
-};
 use std::alloc::Global;
 use std::io::Write;
 

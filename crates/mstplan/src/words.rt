@@ -3,9 +3,9 @@ ghost use Rattle.mstplan.specs.Flags.{asked_with};
 ghost use Rattle.mst_command.specs.Words.{words_of, texts_of, wanted, are_plain, behind_name, without_dashes, is_help, is_version, IsAnswer, IsRefusal};
 ghost use Rattle.mstplan.specs.Words.{question_by, are_worded as words_asking};
 
+use mst_ask::Question;
 use mst_command::{Asked, Flags, Stop, VERBS, Verb, asked_by_words};
 use mst_frame::Sources;
-use mst_tool::Question;
 
 /// What the network of a script is asked, where what is to be done asks it something: nothing, where the words are none that do.
 pub(crate) fn question_of(asked: Asked<'_>) -> Option<Question>

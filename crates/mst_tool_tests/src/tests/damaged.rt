@@ -1,7 +1,7 @@
 //! Texts that are cut off or damaged.
 
+use mst_ask::check;
 use mst_print::Form;
-use mst_tool::check;
 use std::alloc::Global;
 use std::test::Fail;
 

@@ -1,13 +1,11 @@
 //! How errors are displayed, exit statuses, and the laws.
 
 use super::counts;
-use mst_ask::laws as standing;
-use mst_engine::{laws, report_laws as answers};
+use mst_ask::{engine_laws as laws, laws as standing, report_laws as answers, status};
 use mst_ids::BadText;
 use mst_io::RunFault;
 use mst_lang::Fault;
 use mst_net::Refusal;
-use mst_tool::status;
 use mst_trees::laws as outcomes;
 use std::alloc::Global;
 use std::fmt::Display;

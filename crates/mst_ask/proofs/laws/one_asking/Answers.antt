@@ -1,4 +1,4 @@
-use Rattle.mst_tool.proofs.WholeLoad.{OneOfEach}
+use Rattle.mst_questions.proofs.WholeAsk.{OneOfEach}
 use Rattle.mst_ask.proofs.Asked.{one_asked}
 use Rattle.mst_ask.proofs.laws.one_asking.Goals as goal
 

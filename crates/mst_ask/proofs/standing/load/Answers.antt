@@ -2,10 +2,10 @@ use Rattle.std.proofs.Common.{◌≡◌, ◌∙◌, [], ◌++◌, ◌∷◌, ari
 use Rattle.std.proofs.KnownBytes.{Appends-nil}
 use Rattle.std.proofs.lemmas.Result.{err_from_is_err_and}
 use Rattle.mst_io.proofs.Calls.{works_both}
-use Rattle.mst_tool.specs.engine.Engine.{Tally, begun, does, tally_of, tallied, version_from}
-use Rattle.mst_tool.specs.engine.Script.{version_of}
-use Rattle.mst_tool.specs.engine.Steps.{texts_of}
-use Rattle.mst_tool.specs.engine.declared.engine.Input.TheVariants.{Network}
+use Rattle.mst_questions.specs.tool.engine.Engine.{Tally, begun, does, tally_of, tallied, version_from}
+use Rattle.mst_questions.specs.tool.engine.Script.{version_of}
+use Rattle.mst_questions.specs.tool.engine.Steps.{texts_of}
+use Rattle.mst_questions.specs.tool.engine.declared.engine.Input.TheVariants.{Network}
 use Rattle.mst_print.specs.Shape.{of_script}
 use Rattle.mst_ask.specs.Lines.{lines_in}
 use Rattle.mst_ask.proofs.Loading.{Loading, loading_begins, loading_breaks, loading_ends, loading_on, texts_on}

@@ -1,8 +1,8 @@
 use Rattle.std.proofs.Common.{◌≡◌, ◌<◌, ◌≤◌, ◌+◌, ◌^◌, List, length}
 use Rattle.std.specs.Io.KnownBytes.{Appends}
 use Rattle.mst_io.specs.Devices.{Works}
-use Rattle.mst_tool.specs.engine.Engine.{tally_of}
-use Rattle.mst_tool.specs.engine.Steps.{Step, texts_of}
+use Rattle.mst_questions.specs.tool.engine.Engine.{tally_of}
+use Rattle.mst_questions.specs.tool.engine.Steps.{Step, texts_of}
 use Rattle.mst_print.specs.Shape.{of_script}
 use Rattle.mst_ask.specs.Lines.{lines_in}
 use Rattle.mst_ask.proofs.Loading.{Loading}

@@ -1,8 +1,8 @@
 use Rattle.std.proofs.Common.{◌≡◌, ◌∙◌, [], ◌++◌, ◌∷◌, arith, sym, ap, subst}
-use Rattle.mst_tool.specs.engine.Engine.{Tally, begun, does, replied, shape_of, tally_of, tallied}
-use Rattle.mst_tool.specs.engine.declared.engine.Input.TheVariants.{Network}
-use Rattle.mst_tool.specs.report.Planned.{planned_state}
-use Rattle.mst_tool.specs.report.State.{State}
+use Rattle.mst_questions.specs.tool.engine.Engine.{Tally, begun, does, replied, shape_of, tally_of, tallied}
+use Rattle.mst_questions.specs.tool.engine.declared.engine.Input.TheVariants.{Network}
+use Rattle.mst_questions.specs.tool.engine.report.Planned.{planned_state}
+use Rattle.mst_questions.specs.tool.engine.report.State.{State}
 use Rattle.mst_lang.specs.Lines.{lines_of}
 use Rattle.mst_print.specs.Shape.{of_script}
 use Rattle.mst_ask.proofs.Kept.{script_loaded}

@@ -1,6 +1,6 @@
 use Rattle.std.proofs.lemmas.Result.{on_ok_weaker, on_err_weaker}
-use Rattle.mst_tool.specs.engine.Engine.{shape_of, replied}
-use Rattle.mst_tool.specs.report.Planned.{planned_state}
+use Rattle.mst_questions.specs.tool.engine.Engine.{shape_of, replied}
+use Rattle.mst_questions.specs.tool.engine.report.Planned.{planned_state}
 use Rattle.mst_ask.proofs.standing.load_line.Goals as goal
 
 pub returns-clause-ok : goal.returns-clause-ok

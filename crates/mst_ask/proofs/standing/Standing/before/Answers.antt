@@ -1,6 +1,6 @@
 use Rattle.std.proofs.Common.{rules, ◌∙◌, ap}
 use Rattle.mst_lang.specs.Reading.{reading_as}
-use Rattle.mst_tool.specs.report.Planned.{planned_state}
+use Rattle.mst_questions.specs.tool.engine.report.Planned.{planned_state}
 use Rattle.mst_ask.specs.Kept.{made_by, net_of_script}
 use Rattle.mst_ask.proofs.Kept.{line_more}
 use Rattle.mst_ask.proofs.standing.Standing.before.Goals as goal

@@ -1,5 +1,5 @@
 use Rattle.std.proofs.Common.{◌≡◌, take}
-use Rattle.mst_tool.specs.report.Planned.{planned_state}
+use Rattle.mst_questions.specs.tool.engine.report.Planned.{planned_state}
 use Rattle.mst_ask.specs.Kept.{lines_kept, lines_net, net_of_script}
 use Rattle.mst_ask.proofs.standing.Standing.before.Given as goal
 

@@ -1,7 +1,7 @@
 use Rattle.std.proofs.Common.{Ok, inl, inr, refl, sym, subst}
-use Rattle.mst_tool.specs.engine.Engine.{replied as served}
-use Rattle.mst_tool.specs.engine.Script.{ServesRead}
-use Rattle.mst_tool.specs.report.Planned.{planned_state}
+use Rattle.mst_questions.specs.tool.engine.Engine.{replied as served}
+use Rattle.mst_questions.specs.tool.engine.Script.{ServesRead}
+use Rattle.mst_questions.specs.tool.engine.report.Planned.{planned_state}
 use Rattle.mst_lang.specs.declared.line.Line.{Line as What}
 use Rattle.mst_print.specs.Shape.{of_script}
 use Rattle.mst_print.specs.declared.form.Shape.{Shape}

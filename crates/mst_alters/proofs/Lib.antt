@@ -1,0 +1,2 @@
+pub mod WholeAlter
+pub mod WholeVerify

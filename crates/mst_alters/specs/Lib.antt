@@ -1,0 +1,2 @@
+pub mod Alter
+pub mod Verify

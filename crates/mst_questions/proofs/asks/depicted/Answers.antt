@@ -1,0 +1,8 @@
+use Rattle.std.proofs.Common.{subst}
+use Rattle.std.specs.Prelude.{IfOk}
+use Rattle.mst_net.specs.Contents.{Contents}
+use Rattle.mst_words.specs.Picturing.{Depicts}
+use Rattle.mst_questions.proofs.asks.depicted.Goals as goal
+
+pub returns-clause-picture : goal.returns-clause-picture
+returns-clause-picture c = subst (λ (k : Contents). IfOk c.picture.result (λ text. Depicts k.net c.args.tree text.items)) c.settle.ensures.same c.picture.ensures
