@@ -5,8 +5,8 @@ use Rattle.std.specs.Cmp.Lexicographic.{bytes_decides}
 use Rattle.std.specs.FinMap as fin
 use Rattle.mst_lag.specs.Aggregation.{same_name}
 use Rattle.mst_lag.specs.declared.in_view.BridgeInView.{BridgeInView}
-use Rattle.mst_net.specs.Seen.{bridge_row}
-use Rattle.mst_net.specs.Tables.{BridgeRow}
+use Rattle.mst_net.specs.tables.Seen.{bridge_row}
+use Rattle.mst_net.specs.tables.Tables.{BridgeRow}
 use Rattle.mst_trees.specs.Settled.{SettledNet, IsSettledNet}
 use Rattle.mst_trees.proofs.Seen.{bridge_seen, bridge_there}
 use Rattle.mst_verify.proofs.RegionOf.{found_there, none_found}

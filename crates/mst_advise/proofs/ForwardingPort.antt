@@ -7,7 +7,7 @@ use Rattle.mst_ids.specs.declared.name.PortName.{PortName}
 use Rattle.mst_lag.specs.View.{LogicalPort, view_ports}
 use Rattle.mst_policy.specs.Items as policy
 use Rattle.mst_policy.specs.declared.expectation.Expectation.TheVariants as expect
-use Rattle.mst_net.specs.Tables.{Net, port_eq}
+use Rattle.mst_net.specs.tables.Tables.{Net, port_eq}
 use Rattle.mst_trees.specs.Roles.{forwards, role_in}
 use Rattle.mst_trees.specs.declared.kind.Role.{Role}
 use Rattle.mst_trees.specs.declared.kind.Role.TheVariants as role

@@ -2,7 +2,7 @@
 use Rattle.std.proofs.Common.{◌≡◌, ℕ, List, map, Option, Some, None, sym, ap, ◌∙◌}
 use Rattle.mst_lag.specs.View.{LogicalPort}
 use Rattle.mst_rows.specs.Rows.{Row}
-use Rattle.mst_net.specs.Tables.{Net}
+use Rattle.mst_net.specs.tables.Tables.{Net}
 use Rattle.mst_trees.specs.Roles.{role_in}
 use Rattle.mst_trees.specs.declared.kind.Role.{Role}
 use Rattle.mst_trees.specs.Outcome.{Outcome}

@@ -7,8 +7,8 @@ use Rattle.std.specs.FinMap as fin
 use Rattle.mst_graph.proofs.Members.{from_filter}
 use Rattle.mst_ids.specs.Identifiers.{bridge_id}
 use Rattle.mst_lag.specs.Aggregation.{same_name}
-use Rattle.mst_net.specs.ByTree.{by_tree}
-use Rattle.mst_net.specs.Tables.{Net, BridgeRow}
+use Rattle.mst_net.specs.tables.ByTree.{by_tree}
+use Rattle.mst_net.specs.tables.Tables.{Net, BridgeRow}
 use Rattle.mst_trees.specs.InUse.{id_in}
 use Rattle.mst_trees.specs.Outcome.{Outcome}
 use Rattle.mst_trees.proofs.Entries.{all_weaker}

@@ -10,7 +10,7 @@ use Rattle.mst_lag.specs.Trees.{mstis_of, is_among}
 use Rattle.mst_lag.specs.View.{LogicalPort}
 use Rattle.mst_lag.specs.Viewed.{named_port}
 use Rattle.mst_lag.specs.declared.in_view.PortInView.{PortInView}
-use Rattle.mst_net.specs.Tables.{Net, BridgeRow, port_eq}
+use Rattle.mst_net.specs.tables.Tables.{Net, BridgeRow, port_eq}
 use Rattle.mst_trees.specs.Roles.{cist_role, msti_role, role_in}
 use Rattle.mst_trees.specs.declared.kind.Role.{Role}
 use Rattle.mst_trees.specs.Msti.{has_msti}

@@ -1,6 +1,6 @@
 -- The settings that may bring about what is wanted: candidates, of which each is some settings that are made together.
 use Rattle.std.specs.Prelude.{◌≡◌, List, [], ◌∷◌, map}
-use Rattle.mst_net.specs.Tables.{Net}
+use Rattle.mst_net.specs.tables.Tables.{Net}
 use Rattle.mst_trees.specs.Outcome.{Outcome}
 use Rattle.mst_advise.specs.Costs.{port_named}
 use Rattle.mst_advise.specs.InQuestion.{AreInQuestionOf}

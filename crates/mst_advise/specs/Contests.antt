@@ -9,7 +9,7 @@ use Rattle.mst_kinds.specs.declared.kind.Kind.{Kind}
 use Rattle.mst_kinds.specs.declared.kind.Kind.TheVariants as kind
 use Rattle.mst_rows.specs.Cells.{Cell, port, number}
 use Rattle.mst_rows.specs.Rows.{Row}
-use Rattle.mst_net.specs.Tables.{port_eq}
+use Rattle.mst_net.specs.tables.Tables.{port_eq}
 use Rattle.mst_advise.specs.declared.contests.RootContest.{RootContest}
 
 -- a port, if it is one; and a cost, 0 where it is none

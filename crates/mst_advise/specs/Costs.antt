@@ -5,8 +5,8 @@ use Rattle.std.specs.Option.{option_map_or}
 use Rattle.mst_ids.specs.declared.name.PortName.{PortName}
 use Rattle.mst_lag.specs.View.{LogicalPort, view_ports}
 use Rattle.mst_vector.specs.Rules.{is_cost}
-use Rattle.mst_net.specs.ByTree.{by_tree}
-use Rattle.mst_net.specs.Tables.{Net, port_eq}
+use Rattle.mst_net.specs.tables.ByTree.{by_tree}
+use Rattle.mst_net.specs.tables.Tables.{Net, port_eq}
 use Rattle.mst_trees.specs.Cist.{cist_port}
 use Rattle.mst_trees.specs.Msti.{is_internal, msti_port}
 use Rattle.mst_trees.specs.Outcome.{Outcome}

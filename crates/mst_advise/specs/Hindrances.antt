@@ -3,8 +3,8 @@ use Rattle.std.specs.Prelude.{ℕ, ◌==◌, not, Bool, false, List, [], Option,
 use Rattle.std.specs.Option.{option_and_then, option_map_or}
 use Rattle.std.specs.FinMap as fin
 use Rattle.mst_lag.specs.View.{LogicalPort, is_on}
-use Rattle.mst_net.specs.ByTree.{by_tree}
-use Rattle.mst_net.specs.Tables.{Net}
+use Rattle.mst_net.specs.tables.ByTree.{by_tree}
+use Rattle.mst_net.specs.tables.Tables.{Net}
 use Rattle.mst_trees.specs.InUse.{id_in}
 use Rattle.mst_trees.specs.Outcome.{Outcome}
 use Rattle.mst_facts.specs.Roots.{root_of}

@@ -1,8 +1,8 @@
 -- What settings make of a network, and whether it has what is wanted.
 use Rattle.std.specs.Prelude.{◌≡◌, List, Result, Ok, Err, None, fold}
-use Rattle.mst_net.specs.After.{after}
-use Rattle.mst_net.specs.Tables.{Net, IsNetwork}
-use Rattle.mst_net.specs.declared.refusal.Refusal.{Refusal}
+use Rattle.mst_net.specs.tables.After.{after}
+use Rattle.mst_net.specs.tables.Tables.{Net, IsNetwork}
+use Rattle.mst_net.specs.tables.declared.refusal.Refusal.{Refusal}
 use Rattle.mst_trees.specs.Outcome.{Outcome, IsOutcome}
 use Rattle.mst_verify.specs.Holds.{Holds}
 use Rattle.mst_advise.specs.Goals.{expectation_of}

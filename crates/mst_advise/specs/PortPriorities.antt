@@ -3,8 +3,8 @@ use Rattle.std.specs.Prelude.{ℕ, zero, suc, Bool, List, [], ◌∷◌, ◌++�
 use Rattle.std.specs.Option.{option_map_or}
 use Rattle.mst_ids.specs.Identifiers.{port_id}
 use Rattle.mst_ids.specs.declared.name.PortName.{PortName}
-use Rattle.mst_net.specs.ByTree.{port_priority_in}
-use Rattle.mst_net.specs.Tables.{Net}
+use Rattle.mst_net.specs.tables.ByTree.{port_priority_in}
+use Rattle.mst_net.specs.tables.Tables.{Net}
 use Rattle.mst_advise.specs.Priorities.{greatest_upto}
 use Rattle.mst_advise.specs.declared.setting.Setting.{Setting}
 use Rattle.mst_advise.specs.declared.setting.Setting.TheVariants.{PortPriority}

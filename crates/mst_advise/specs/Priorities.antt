@@ -5,8 +5,8 @@ use Rattle.std.specs.Option.{option_map_or}
 use Rattle.std.specs.FinMap as fin
 use Rattle.mst_ids.specs.Identifiers.{bridge_id}
 use Rattle.mst_lag.specs.Aggregation.{same_name}
-use Rattle.mst_net.specs.ByTree.{priority_in}
-use Rattle.mst_net.specs.Tables.{Net}
+use Rattle.mst_net.specs.tables.ByTree.{priority_in}
+use Rattle.mst_net.specs.tables.Tables.{Net}
 use Rattle.mst_trees.specs.Outcome.{Outcome}
 use Rattle.mst_verify.specs.Roots.{concerned, identifier}
 use Rattle.mst_advise.specs.declared.setting.Setting.{Setting}

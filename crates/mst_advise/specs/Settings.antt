@@ -5,7 +5,7 @@ use Rattle.mst_lang.specs.declared.line.Edit.{Edit}
 use Rattle.mst_lang.specs.declared.line.Edit.TheVariants.{SetByTree, SetPort}
 use Rattle.mst_lang.specs.declared.line.PortChange.TheVariants.{PathCost}
 use Rattle.mst_lang.specs.declared.line.TreeChange.TheVariants as by_tree
-use Rattle.mst_net.specs.Tables.{port_eq}
+use Rattle.mst_net.specs.tables.Tables.{port_eq}
 use Rattle.mst_advise.specs.declared.setting.Setting.{Setting}
 use Rattle.mst_advise.specs.declared.setting.Setting.TheVariants.{Priority, PortPriority, ExternalCost, InternalCost}
 

@@ -3,7 +3,7 @@ ghost use Rattle.std.specs.List.{Contains};
 ghost use Rattle.mst_lag.specs.Viewed.{named_port};
 ghost use Rattle.mst_policy.specs.declared.expectation.Expectation.TheVariants as expect;
 ghost use Rattle.mst_trees.specs.Roles.{role_in};
-ghost use Rattle.mst_net.specs.Tables.{Net};
+ghost use Rattle.mst_net.specs.tables.Tables.{Net};
 ghost use Rattle.mst_trees.specs.Settled.{outcome_of};
 ghost use Rattle.mst_graph.specs.Lists.{has_any};
 ghost use Rattle.mst_verify.specs.Holds.{Holds, is_wanted};

@@ -1,6 +1,6 @@
 //! Laws of advice. Their functions do nothing: a caller has their clauses.
 ghost use Rattle.std.specs.Prelude.{◌≡◌, List};
-ghost use Rattle.mst_net.specs.Tables.{Net, IsNetwork};
+ghost use Rattle.mst_net.specs.tables.Tables.{Net, IsNetwork};
 ghost use Rattle.mst_trees.specs.Outcome.{Outcome, IsOutcome};
 ghost use Rattle.mst_advise.specs.Candidates.{AreCandidates};
 ghost use Rattle.mst_advise.specs.declared.goal.Goal.{Goal as GoalOf};

@@ -1,7 +1,7 @@
 ghost use Rattle.std.specs.Prelude.{◌≡◌};
 ghost use Rattle.std.specs.List.{find};
 ghost use Rattle.std.specs.Option.{option_copied};
-ghost use Rattle.mst_net.specs.Tables.{port_eq};
+ghost use Rattle.mst_net.specs.tables.Tables.{port_eq};
 
 use mst_ids::PortName;
 use mst_lag::PortInView;

@@ -9,8 +9,8 @@ use Rattle.mst_graph.specs.Groups.{StandOnce}
 use Rattle.mst_graph.proofs.Members.{from_filter, in_filter}
 use Rattle.mst_ids.specs.Identifiers.{bridge_id}
 use Rattle.mst_lag.specs.Aggregation.{same_name}
-use Rattle.mst_net.specs.ByTree.{priority_in}
-use Rattle.mst_net.specs.Tables.{Net, BridgeRow, IsNetwork, bridge_tree_cmp}
+use Rattle.mst_tables.specs.ByTree.{priority_in}
+use Rattle.mst_tables.specs.Tables.{Net, BridgeRow, IsNetwork, bridge_tree_cmp}
 use Rattle.mst_rows.specs.Rows.{Row}
 use Rattle.mst_trees.specs.Outcome.{Outcome, IsOutcome}
 use Rattle.mst_trees.proofs.Lists.{no_some}

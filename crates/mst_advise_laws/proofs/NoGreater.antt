@@ -11,9 +11,9 @@ use Rattle.mst_ids.specs.Identifiers.{bridge_id}
 use Rattle.mst_lag.specs.Aggregation.{same_name}
 use Rattle.mst_lang.specs.declared.line.Edit.TheVariants.{SetByTree}
 use Rattle.mst_lang.specs.declared.line.TreeChange.TheVariants as by_tree_change
-use Rattle.mst_net.specs.After.{refusal_of}
-use Rattle.mst_net.specs.ByTree.{by_tree, priority_in}
-use Rattle.mst_net.specs.Tables.{Net, AreBridges, BridgeRow, IsNetwork}
+use Rattle.mst_tables.specs.After.{refusal_of}
+use Rattle.mst_tables.specs.ByTree.{by_tree, priority_in}
+use Rattle.mst_tables.specs.Tables.{Net, AreBridges, BridgeRow, IsNetwork}
 use Rattle.mst_config.specs.Regions.{same_region}
 use Rattle.mst_trees.specs.InUse.{id_in}
 use Rattle.mst_trees.specs.Outcome.{Outcome, IsOutcome}

@@ -15,8 +15,8 @@ use Rattle.mst_vector.specs.declared.cist.CistVector.{CistVector}
 use Rattle.mst_vector.specs.declared.msti.MstiBridge.{MstiBridge}
 use Rattle.mst_vector.specs.declared.msti.MstiVector.{MstiVector}
 use Rattle.mst_topology.specs.Topology.{HasBridge}
-use Rattle.mst_net.specs.ByTree.{by_tree}
-use Rattle.mst_net.specs.Tables.{Net, BridgeRow, IsNetwork}
+use Rattle.mst_tables.specs.ByTree.{by_tree}
+use Rattle.mst_tables.specs.Tables.{Net, BridgeRow, IsNetwork}
 use Rattle.mst_config.specs.Regions.{region_of}
 use Rattle.mst_trees.specs.Cist.{cist_bridge, cist_of, cist_sight}
 use Rattle.mst_trees.specs.InUse.{id_in}

@@ -9,10 +9,10 @@ use Rattle.mst_graph.proofs.Members.{cases, here, in_none, there}
 use Rattle.mst_lag.specs.Aggregation.{same_name}
 use Rattle.mst_lang.specs.declared.line.Edit.TheVariants.{SetByTree}
 use Rattle.mst_lang.specs.declared.line.TreeChange.TheVariants as change
-use Rattle.mst_net.specs.After.{effect, refusal_of}
-use Rattle.mst_net.specs.ByTree.{priority_in}
-use Rattle.mst_net.specs.Tables.{Net, bridge_tree_cmp}
-use Rattle.mst_net.specs.declared.refusal.Refusal.{Refusal}
+use Rattle.mst_tables.specs.After.{effect, refusal_of}
+use Rattle.mst_tables.specs.ByTree.{priority_in}
+use Rattle.mst_tables.specs.Tables.{Net, bridge_tree_cmp}
+use Rattle.mst_tables.specs.declared.refusal.Refusal.{Refusal}
 use Rattle.mst_advise.specs.Made.{after_settings, then_set}
 use Rattle.mst_advise.specs.Settings.{edit_of}
 use Rattle.mst_advise.specs.declared.setting.Setting.{Setting}

@@ -8,12 +8,12 @@ use Rattle.std.proofs.lemmas.Bool.{eqb-true}
 use Rattle.mst_lag.specs.Aggregation.{same_name}
 use Rattle.mst_lang.specs.declared.line.Edit.TheVariants.{SetByTree}
 use Rattle.mst_lang.specs.declared.line.TreeChange.TheVariants.{Priority}
-use Rattle.mst_net.specs.After.{effect, own_priority}
-use Rattle.mst_net.specs.ByTree.{priority_in}
-use Rattle.mst_net.specs.Tables.{Net, BridgeTree, bridge_tree_eq}
-use Rattle.mst_net.specs.declared.refusal.Refusal.{Refusal}
-use Rattle.mst_net.proofs.Keyed.{get_kept}
-use Rattle.mst_net.proofs.Keys.{bridge_trees}
+use Rattle.mst_tables.specs.After.{effect, own_priority}
+use Rattle.mst_tables.specs.ByTree.{priority_in}
+use Rattle.mst_tables.specs.Tables.{Net, BridgeTree, bridge_tree_eq}
+use Rattle.mst_tables.specs.declared.refusal.Refusal.{Refusal}
+use Rattle.mst_tables.proofs.Keyed.{get_kept}
+use Rattle.mst_tables.proofs.Keys.{bridge_trees}
 use Rattle.mst_advise_laws.proofs.OwnRoot.{IsIn}
 
 -- an edit that isn't refused has its effect

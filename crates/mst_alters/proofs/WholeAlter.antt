@@ -3,7 +3,7 @@ use Rattle.std.proofs.Common.{◌≡◌, ℕ, ◌+◌, Bool, List, ◌++◌, Opt
 use Rattle.mst_change.specs.Reading.{LineRead}
 use Rattle.mst_lang.specs.Lines.{lines_of}
 use Rattle.mst_policy.specs.declared.policy.PolicyLine.{PolicyLine}
-use Rattle.mst_net.specs.Tables.{Net}
+use Rattle.mst_tables.specs.Tables.{Net}
 use Rattle.mst_tool.specs.engine.report.State.{State, empty_state}
 use Rattle.mst_words.specs.verdict.Stepping as network
 use Rattle.mst_words.specs.verdict.declared.stepping.Course.{Course}

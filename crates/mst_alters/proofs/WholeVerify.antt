@@ -2,7 +2,7 @@
 use Rattle.std.proofs.Common.{◌≡◌, ℕ, ◌+◌, List, ◌++◌, Option, None, ap, subst, arith}
 use Rattle.mst_lang.specs.Lines.{lines_of}
 use Rattle.mst_policy.specs.declared.policy.PolicyLine.{PolicyLine}
-use Rattle.mst_net.specs.Tables.{Net}
+use Rattle.mst_tables.specs.Tables.{Net}
 use Rattle.mst_tool.specs.engine.report.State.{State, empty_state}
 use Rattle.mst_words.specs.verdict.Verifying as network
 use Rattle.mst_words.specs.verdict.Verified.{Counts}

@@ -3,7 +3,7 @@ use Rattle.std.specs.Prelude.{◌≡◌, ◌+◌, ◌++◌, ◌==◌, ℕ, List,
 use Rattle.mst_drive.specs.Words.{Telling}
 use Rattle.mst_lang.specs.Lines.{lines_of}
 use Rattle.mst_policy.specs.declared.policy.PolicyLine.{PolicyLine}
-use Rattle.mst_net.specs.Tables.{Net}
+use Rattle.mst_tables.specs.Tables.{Net}
 use Rattle.mst_tool.specs.engine.report.State.{empty_state}
 use Rattle.mst_words.specs.verdict.Verifying as network
 use Rattle.mst_words.specs.verdict.Verified.{Counts}

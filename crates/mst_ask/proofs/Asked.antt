@@ -9,10 +9,10 @@ use Rattle.mst_lang.specs.declared.line.Fault.{Fault}
 use Rattle.mst_lang.specs.declared.line.Line.TheVariants.{Blank, Mark, Edit as edit, Query as query}
 use Rattle.mst_lang.specs.declared.line.Query.{Query}
 use Rattle.mst_lang.specs.declared.line.Version.{Version}
-use Rattle.mst_net.specs.After.{after}
+use Rattle.mst_net.specs.tables.After.{after}
 use Rattle.mst_questions.specs.words.verdict.Verifying.{Verifies}
-use Rattle.mst_net.specs.Tables.{Net, IsNetwork}
-use Rattle.mst_net.specs.declared.refusal.Refusal.{Refusal}
+use Rattle.mst_net.specs.tables.Tables.{Net, IsNetwork}
+use Rattle.mst_net.specs.tables.declared.refusal.Refusal.{Refusal}
 use Rattle.mst_questions.specs.tool.engine.Script.{ServesRead, answered as answered_by, marked}
 use Rattle.mst_questions.specs.tool.engine.Steps.{Step, silent}
 use Rattle.mst_questions.specs.tool.engine.report.Answers.{Answers}

@@ -7,7 +7,7 @@ use Rattle.std.proofs.lemmas.List.{length-map, map-append}
 use Rattle.mst_lang.specs.Reading.{reading_as}
 use Rattle.mst_lang.specs.declared.line.Edit.{Edit}
 use Rattle.mst_lang.specs.declared.line.Line.TheVariants.{Edit as edit}
-use Rattle.mst_net.specs.After.{after}
+use Rattle.mst_net.specs.tables.After.{after}
 use Rattle.mst_questions.specs.tool.engine.report.Planned.{Planned, planned_state}
 use Rattle.mst_print.specs.Shape.{listed}
 use Rattle.mst_print.specs.declared.form.Form.{Form}

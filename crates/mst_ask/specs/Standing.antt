@@ -8,11 +8,11 @@ use Rattle.mst_lang.specs.declared.line.Fault.{Fault}
 use Rattle.mst_lang.specs.declared.line.Fault.TheVariants.{E02}
 use Rattle.mst_lang.specs.declared.line.Line.TheVariants.{Blank, Mark, Edit as edit, Query as query}
 use Rattle.mst_lang.specs.declared.line.Version.{Version}
-use Rattle.mst_net.specs.After.{after}
-use Rattle.mst_net.specs.Refusals as refusal
-use Rattle.mst_net.specs.Tables.{Net, IsNetwork}
-use Rattle.mst_net.specs.declared.refusal.Refusal.{Refusal}
-use Rattle.mst_net.specs.declared.refusal.Refusal.TheVariants.{E99}
+use Rattle.mst_net.specs.tables.After.{after}
+use Rattle.mst_net.specs.tables.Refusals as refusal
+use Rattle.mst_net.specs.tables.Tables.{Net, IsNetwork}
+use Rattle.mst_net.specs.tables.declared.refusal.Refusal.{Refusal}
+use Rattle.mst_net.specs.tables.declared.refusal.Refusal.TheVariants.{E99}
 use Rattle.mst_questions.specs.tool.engine.Script.{ServesRead}
 use Rattle.mst_questions.specs.tool.engine.Steps.{Step}
 use Rattle.mst_questions.specs.tool.engine.report.State.{State, IsState}

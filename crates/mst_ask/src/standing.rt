@@ -4,7 +4,7 @@ ghost use Rattle.mst_drive.specs.Words.{Wrote, WroteFront};
 ghost use Rattle.mst_lang.specs.Lines.{lines_of};
 ghost use Rattle.mst_lang.specs.Reading.{reading_as};
 ghost use Rattle.mst_lang.specs.declared.line.Line.TheVariants as lines;
-ghost use Rattle.mst_net.specs.After.{after};
+ghost use Rattle.mst_net.specs.tables.After.{after};
 ghost use Rattle.mst_questions.specs.tool.engine.Engine.{IsCounted, IsReady, does, tally_of, tallied, version_from};
 ghost use Rattle.mst_questions.specs.tool.engine.Script.{version_of};
 ghost use Rattle.mst_questions.specs.tool.engine.Steps.{Step};

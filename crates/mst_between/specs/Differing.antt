@@ -1,6 +1,6 @@
 -- What a change does: the rows of what differs between two networks, and how much of each does.
 use Rattle.std.specs.Prelude.{List}
-use Rattle.mst_net.specs.Tables.{Net}
+use Rattle.mst_tables.specs.Tables.{Net}
 use Rattle.mst_rows.specs.Rows.{Row}
 use Rattle.mst_trees.specs.Outcome.{Outcome, IsOutcome}
 use Rattle.mst_diff.specs.DiffText.{AreDiffRowsOf}

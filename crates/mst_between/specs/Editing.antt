@@ -1,6 +1,6 @@
 -- What is to be set: the lines that make one network of another.
 use Rattle.std.specs.Prelude.{◌≡◌, Bool, List}
-use Rattle.mst_net.specs.Tables.{Net}
+use Rattle.mst_tables.specs.Tables.{Net}
 use Rattle.mst_rows.specs.Rows.{Row}
 use Rattle.mst_edits.specs.EditRows.{change_rows}
 use Rattle.mst_edits.specs.Edits.{edits, has_any}

@@ -1,5 +1,5 @@
 ghost use Rattle.std.specs.Prelude.{◌≡◌, ◌↔◌, ◌∷◌, [], List};
-ghost use Rattle.mst_net.specs.Tables.{Net, IsNetwork};
+ghost use Rattle.mst_tables.specs.Tables.{Net, IsNetwork};
 ghost use Rattle.mst_diff.specs.AlikeNets.{AreAlike};
 ghost use Rattle.mst_diff.specs.DiffText.{diff_row};
 ghost use Rattle.mst_diff.specs.declared.diff.Differing.{Differing as Counts};

@@ -6,7 +6,7 @@ use Rattle.std.proofs.lemmas.Bool.{eqb-true, ne_eqb}
 use Rattle.std.proofs.lemmas.List.{take_more, flat_map_more}
 use Rattle.std.proofs.lemmas.List.Elements.{filter-append}
 use Rattle.mst_ids.specs.declared.name.PortName.{PortName}
-use Rattle.mst_net.specs.Tables.{Net}
+use Rattle.mst_tables.specs.Tables.{Net}
 use Rattle.mst_trees.specs.declared.kind.Role.{Role}
 use Rattle.mst_trees.specs.Outcome.{Outcome}
 use Rattle.mst_trees.proofs.Lists.{some_is, no_some, all_kept}

@@ -9,9 +9,9 @@ use Rattle.std.specs.FinMap.{contains_key-keys}
 use Rattle.std.proofs.lemmas.List.Elements.{filter_map-append}
 use Rattle.mst_ids.specs.Names.{name_cmp, port_cmp}
 use Rattle.mst_ids.specs.declared.name.PortName.{PortName}
-use Rattle.mst_net.specs.Tables.{Net, BridgeRow, port_eq}
-use Rattle.mst_net.proofs.Keyed.{flipped}
-use Rattle.mst_net.proofs.Keys.{names, ports}
+use Rattle.mst_tables.specs.Tables.{Net, BridgeRow, port_eq}
+use Rattle.mst_tables.proofs.Keyed.{flipped}
+use Rattle.mst_tables.proofs.Keys.{names, ports}
 use Rattle.mst_lag.specs.Trees.{mstis_of, is_among}
 use Rattle.mst_lag.specs.View.{LogicalPort, view_ports, bridge_names, port_names}
 use Rattle.mst_trees.specs.Apart.{Apart}

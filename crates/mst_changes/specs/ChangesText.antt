@@ -8,7 +8,7 @@ use Rattle.mst_kinds.specs.declared.kind.Kind.TheVariants as kind
 use Rattle.mst_rows.specs.Cells.{Cell, absent, word, number, object}
 use Rattle.mst_rows.specs.Objects.{cist_vector, msti_vector}
 use Rattle.mst_rows.specs.Rows.{Row, row_of}
-use Rattle.mst_net.specs.Tables.{Net}
+use Rattle.mst_tables.specs.Tables.{Net}
 use Rattle.mst_trees.specs.Outcome.{Outcome}
 use Rattle.mst_trees.specs.Names.{role_text}
 use Rattle.mst_changes.specs.declared.subject.Item.{Item}

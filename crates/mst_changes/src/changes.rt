@@ -1,6 +1,6 @@
 ghost use Rattle.std.specs.Prelude.{◌≡◌, ◌<◌, ◌++◌, List, OnOk};
 ghost use Rattle.mst_rows.specs.Rows.{Row};
-ghost use Rattle.mst_net.specs.Tables.{Net};
+ghost use Rattle.mst_tables.specs.Tables.{Net};
 ghost use Rattle.mst_trees.specs.InUse.{AreInUse};
 ghost use Rattle.mst_trees.specs.Outcome.{Outcome};
 ghost use Rattle.mst_trees.specs.Settled.{outcome_of};

@@ -1,6 +1,6 @@
 //! Laws of the rows of changes. Their functions do nothing: a caller has their clauses.
 ghost use Rattle.std.specs.Prelude.{◌≡◌, []};
-ghost use Rattle.mst_net.specs.Tables.{Net, IsNetwork};
+ghost use Rattle.mst_tables.specs.Tables.{Net, IsNetwork};
 ghost use Rattle.mst_trees.specs.Outcome.{Outcome, IsOutcome};
 ghost use Rattle.mst_changes.specs.ChangesText.{all_changes};
 ghost use Rattle.mst_changes.specs.Kept.{entries_of};

@@ -3,7 +3,7 @@ use Rattle.std.proofs.Common.{◌≡◌, ℕ, suc, ◌+◌, ◌*◌, ◌/◌, �
 use Rattle.std.proofs.lemmas.Bool.{cases_lt, cases_eq}
 use Rattle.std.proofs.lemmas.List.{get_or_push, get_or_past, get_or_append_left, length_push}
 use Rattle.std.proofs.lemmas.Nat.{mod-mul-add, div-mul-add}
-use Rattle.mst_net.specs.Table.{tree_in}
+use Rattle.mst_tables.specs.Table.{tree_in}
 use Rattle.mst_classes.specs.Alike.{IsSplit}
 use Rattle.mst_classes.specs.Pairs.{ArePairs}
 

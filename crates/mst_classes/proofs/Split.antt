@@ -7,7 +7,7 @@ use Rattle.std.proofs.lemmas.List.FromFn.{map-range_with_len_more, get_or-map-ra
 use Rattle.mst_ids.specs.Vids.{has}
 use Rattle.mst_graph.specs.Numbers.{AreNumbers}
 use Rattle.mst_lag.proofs.Lists.{all_pushed}
-use Rattle.mst_net.specs.Table.{tree_in}
+use Rattle.mst_tables.specs.Table.{tree_in}
 use Rattle.mst_classes.specs.Alike.{TellApart, IsSplit, SplitBySets, keys_to}
 
 -- one more key

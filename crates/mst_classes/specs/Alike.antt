@@ -2,7 +2,7 @@
 use Rattle.std.specs.Prelude.{◌≡◌, ℕ, ◌+◌, ◌<◌, Bool, List, length, map, slice_index}
 use Rattle.std.specs.List.{AllByRecursion, range_with_len}
 use Rattle.mst_ids.specs.Vids.{has}
-use Rattle.mst_net.specs.Table.{tree_in}
+use Rattle.mst_tables.specs.Table.{tree_in}
 
 -- two VIDs have one tree in each of these tables, and are in the same of these sets
 pub record AreAlike (tables : List (List ℕ)) (sets : List (List Bool)) (x y : ℕ) : Type 0 where

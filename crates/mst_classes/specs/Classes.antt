@@ -3,7 +3,7 @@ use Rattle.std.specs.Prelude.{ℕ, Bool, List, [], nat_eq}
 use Rattle.std.specs.List.{AllByRecursion, Contains}
 use Rattle.mst_graph.specs.Numbers.{AreNumbers}
 use Rattle.mst_graph.specs.declared.keys.Numbering.{Numbering}
-use Rattle.mst_net.specs.ByTree.{table_in, vlans_in}
+use Rattle.mst_tables.specs.ByTree.{table_in, vlans_in}
 use Rattle.mst_lag.specs.Viewed.{Viewed}
 use Rattle.mst_classes.specs.Alike.{TellApart}
 

@@ -5,7 +5,7 @@ use crate::by_table::split_by_table;
 use crate::splitting::Splitting;
 use indexmap::IndexSet;
 use mst_ids::VidSet;
-use mst_net::Table;
+use mst_tables::Table;
 use std::alloc::{AllocError, Global};
 
 /// A number for each of the VIDs 1 to 4094. Two of one number have one tree in each of these tables and are in the same

@@ -1,11 +1,11 @@
 ghost use Rattle.std.specs.Prelude.{◌≡◌, ℕ, ◌<◌, ◌≤◌, IfOk, IfSome, length, slice_index};
-ghost use Rattle.mst_net.specs.Table.{tree_in};
+ghost use Rattle.mst_tables.specs.Table.{tree_in};
 ghost use Rattle.mst_classes.specs.Alike.{IsSplit};
 ghost use Rattle.mst_classes.specs.Pairs.{ArePairs};
 
 use crate::splitting::{ROOM, Splitting};
 use mst_graph::{Numbering, number_keys};
-use mst_net::Table;
+use mst_tables::Table;
 use std::alloc::{AllocError, Global};
 
 /// A number for each VID. Two of one number had one number, and have one tree in the table. `AllocError`: memory was wanted

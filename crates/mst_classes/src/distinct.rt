@@ -1,12 +1,12 @@
 ghost use Rattle.std.specs.Prelude.{◌≡◌, nat_eq, List, ℕ, Bool, IfOk, OnOk, IsTrue};
 ghost use Rattle.std.specs.Cmp.Lexicographic.{pointwise};
 ghost use Rattle.std.specs.List.{AllByRecursion, Contains};
-ghost use Rattle.mst_net.specs.ByTree.{table_in, vlans_in};
+ghost use Rattle.mst_tables.specs.ByTree.{table_in, vlans_in};
 
 use indexmap::IndexSet;
 use mst_ids::VidSet;
 use mst_lag::View;
-use mst_net::Table;
+use mst_tables::Table;
 use std::alloc::{AllocError, Global};
 
 /// The tables of the bridges, each once. `AllocError`: memory was wanted and refused.

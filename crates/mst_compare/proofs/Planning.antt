@@ -8,10 +8,10 @@ use Rattle.std.specs.FinMap as fin
 use Rattle.std.proofs.lemmas.Bool.{eqb-true}
 use Rattle.mst_ids.specs.declared.name.PortName.{PortName}
 use Rattle.mst_vector.specs.declared.cist.CistBridge.{CistBridge}
-use Rattle.mst_net.specs.Tables.{Net, Numbers, BridgeRow, port_eq}
-use Rattle.mst_net.specs.After.{table_of}
-use Rattle.mst_net.specs.ByTree.{by_tree, table_in}
-use Rattle.mst_net.specs.Seen.{bridge_row}
+use Rattle.mst_tables.specs.Tables.{Net, Numbers, BridgeRow, port_eq}
+use Rattle.mst_tables.specs.After.{table_of}
+use Rattle.mst_tables.specs.ByTree.{by_tree, table_in}
+use Rattle.mst_tables.specs.Seen.{bridge_row}
 use Rattle.mst_lag.specs.Trees.{mstis_of}
 use Rattle.mst_lag.specs.View.{LogicalPort, view_ports}
 use Rattle.mst_lag.specs.Viewed.{Viewed, named_port}

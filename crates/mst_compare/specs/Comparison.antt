@@ -1,7 +1,7 @@
 -- What a comparison of a BPDU with the plan gives.
 use Rattle.std.specs.Prelude.{◌≡◌, List, Option, Some, None}
 use Rattle.mst_ids.specs.declared.name.PortName.{PortName}
-use Rattle.mst_net.specs.Tables.{Net}
+use Rattle.mst_tables.specs.Tables.{Net}
 use Rattle.mst_trees.specs.Outcome.{Outcome, IsOutcome}
 use Rattle.mst_bpdu.specs.Differences.{differences_of}
 use Rattle.mst_bpdu.specs.declared.bpdu.Bpdu.{Bpdu}

@@ -7,9 +7,9 @@ use Rattle.mst_ids.specs.Identifiers.{bridge_id, port_id}
 use Rattle.mst_ids.specs.declared.name.PortName.{PortName}
 use Rattle.mst_vector.specs.declared.cist.CistVector.{CistVector}
 use Rattle.mst_vector.specs.declared.msti.MstiVector.{MstiVector}
-use Rattle.mst_net.specs.Tables.{Net, BridgeRow}
-use Rattle.mst_net.specs.ByTree.{ByTree, by_tree, priority_in, port_priority_in}
-use Rattle.mst_net.specs.After.{table_of}
+use Rattle.mst_tables.specs.Tables.{Net, BridgeRow}
+use Rattle.mst_tables.specs.ByTree.{ByTree, by_tree, priority_in, port_priority_in}
+use Rattle.mst_tables.specs.After.{table_of}
 use Rattle.mst_lag.specs.Trees.{mstis_of}
 use Rattle.mst_config.specs.Digest.{digest_of}
 use Rattle.mst_trees.specs.Outcome.{Outcome}

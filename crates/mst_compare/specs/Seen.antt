@@ -4,9 +4,9 @@ use Rattle.std.specs.List.{find}
 use Rattle.std.specs.Option.{option_map, option_and_then}
 use Rattle.mst_ids.specs.Identifiers.{mac_of, port_number_of}
 use Rattle.mst_settle.specs.Assignment.{vector_of}
-use Rattle.mst_net.specs.Tables.{BridgeRow}
-use Rattle.mst_net.specs.ByTree.{table_in}
-use Rattle.mst_net.specs.Seen.{bridge_row}
+use Rattle.mst_tables.specs.Tables.{BridgeRow}
+use Rattle.mst_tables.specs.ByTree.{table_in}
+use Rattle.mst_tables.specs.Seen.{bridge_row}
 use Rattle.mst_lag.specs.Viewed.{Viewed, named_port}
 use Rattle.mst_lag.specs.declared.in_view.BridgeInView.{BridgeInView}
 use Rattle.mst_lag.specs.declared.in_view.PortInView.{PortInView}

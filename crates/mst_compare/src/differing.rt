@@ -1,5 +1,5 @@
 ghost use Rattle.std.specs.Prelude.{◌≡◌, Some, IfOk, IfErr, IsSome};
-ghost use Rattle.mst_net.specs.Seen.{bridge_row};
+ghost use Rattle.mst_tables.specs.Seen.{bridge_row};
 ghost use Rattle.mst_bpdu.specs.Differences.{differences_of};
 ghost use Rattle.mst_bpdu.specs.declared.planned.Planned.{Planned as PlannedOf};
 ghost use Rattle.mst_compare.specs.Sender.{sender_of};
@@ -11,7 +11,7 @@ use crate::planned::planned;
 use crate::senders::{Origin, sender_in};
 use mst_bpdu::{Bpdu, BpduFault, Difference, differences};
 use mst_lag::View;
-use mst_net::Contents;
+use mst_tables::Contents;
 use mst_trees::{Forest, Settled};
 use std::alloc::{AllocError, Global};
 

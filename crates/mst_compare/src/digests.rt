@@ -3,7 +3,7 @@ ghost use Rattle.std.specs.Prelude.{◌≡◌, ◌↔◌, [], IsTrue};
 ghost use Rattle.mst_config.specs.Digest.{digest_of};
 
 use mst_config::digest;
-use mst_net::Table;
+use mst_tables::Table;
 use std::alloc::Global;
 use std::marker::Model;
 

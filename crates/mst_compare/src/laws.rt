@@ -1,7 +1,7 @@
 //! Laws of comparisons. Their functions do nothing: a caller has their clauses.
 ghost use Rattle.std.specs.Prelude.{◌≡◌, ℕ, List, Some};
 ghost use Rattle.mst_ids.specs.declared.name.PortName.{PortName as PortOf};
-ghost use Rattle.mst_net.specs.Tables.{Net, BridgeRow, IsNetwork};
+ghost use Rattle.mst_tables.specs.Tables.{Net, BridgeRow, IsNetwork};
 ghost use Rattle.mst_config.specs.Digest.{identifier};
 ghost use Rattle.mst_bpdu.specs.declared.bpdu.Bpdu.{Bpdu};
 ghost use Rattle.mst_bpdu.specs.declared.difference.Difference.{Difference};

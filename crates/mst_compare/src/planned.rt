@@ -1,8 +1,8 @@
 //! What the plan has for the BPDUs of a port.
 ghost use Rattle.std.specs.Prelude.{◌≡◌, ◌++◌, [], filter_map, IfOk, OnOk, IsSome, Some};
 ghost use Rattle.std.specs.List.{cons_option};
-ghost use Rattle.mst_net.specs.ByTree.{table_in};
-ghost use Rattle.mst_net.specs.Seen.{bridge_row};
+ghost use Rattle.mst_tables.specs.ByTree.{table_in};
+ghost use Rattle.mst_tables.specs.Seen.{bridge_row};
 ghost use Rattle.mst_trees.specs.Seen.{trees_at};
 ghost use Rattle.mst_compare.specs.Plan.{code_of, configuration_of, planned_cist, planned_msti};
 ghost use Rattle.mst_compare.specs.Seen.{seen_cist, seen_msti, seen_planned};
@@ -12,7 +12,7 @@ use crate::senders::Origin;
 use mst_bpdu::{ConfigurationId, Planned, PlannedCist, PlannedMsti, PlannedMstis, RoleCode};
 use mst_ids::{BridgeId, PortId, PortName, Tree, padded};
 use mst_lag::{PortInView, View};
-use mst_net::{Bridge, TreeSettings};
+use mst_tables::{Bridge, TreeSettings};
 use mst_trees::{Forest, Role, port_role};
 use mst_vector::{CistVector, MstiVector};
 use std::alloc::{AllocError, Global};

@@ -2,7 +2,7 @@ ghost use Rattle.std.specs.Prelude.{◌≡◌, ◌==◌, true};
 ghost use Rattle.std.specs.List.{find};
 ghost use Rattle.std.specs.Option.{option_copied, option_map};
 ghost use Rattle.mst_ids.specs.Identifiers.{port_number_of};
-ghost use Rattle.mst_net.specs.After.{is_rstp};
+ghost use Rattle.mst_tables.specs.After.{is_rstp};
 ghost use Rattle.mst_lag.specs.Viewed.{named_port};
 ghost use Rattle.mst_bpdu.specs.Sender.{port_of as port_id_of};
 ghost use Rattle.mst_compare.specs.Sender.{sends as is_sent_by, is_port, sender_of};

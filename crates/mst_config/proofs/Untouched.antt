@@ -10,14 +10,14 @@ use Rattle.mst_lang.specs.declared.line.Edit.{Edit}
 use Rattle.mst_lang.specs.declared.line.Edit.TheVariants.{AddBridge, DelBridge, SetBridge, AddPort, DelPort, SetPort, AddLan, DelLan, SetLan, Plug, Unplug, SetByTree}
 use Rattle.mst_lang.specs.declared.line.BridgeChange.TheVariants.{Power, Kind, SystemPriority, Configuration, MaxHops, MaxAge}
 use Rattle.mst_lang.specs.declared.line.TreeChange.TheVariants.{Priority, PortPriority, PortCost, Table, Vlans}
-use Rattle.mst_net.specs.ByTree.{table_in}
-use Rattle.mst_net.specs.Tables.{Net, Numbers, BridgeRow}
-use Rattle.mst_net.specs.After.{table_of, effect, refusal_of, bridge_with, change_bridge}
-use Rattle.mst_net.specs.Contents.{Contents, PerKind, Commits, numbers_after}
-use Rattle.mst_net.specs.declared.refusal.Refusal.{Refusal}
-use Rattle.mst_net.proofs.Changed.{get_changed}
-use Rattle.mst_net.proofs.Keys.{names, name_eq}
-use Rattle.mst_net.proofs.NamesInOrder.{names_stay}
+use Rattle.mst_tables.specs.ByTree.{table_in}
+use Rattle.mst_tables.specs.Tables.{Net, Numbers, BridgeRow}
+use Rattle.mst_tables.specs.After.{table_of, effect, refusal_of, bridge_with, change_bridge}
+use Rattle.mst_tables.specs.Contents.{Contents, PerKind, Commits, numbers_after}
+use Rattle.mst_tables.specs.declared.refusal.Refusal.{Refusal}
+use Rattle.mst_tables.proofs.Changed.{get_changed}
+use Rattle.mst_tables.proofs.Keys.{names, name_eq}
+use Rattle.mst_tables.proofs.NamesInOrder.{names_stay}
 use Rattle.mst_config.specs.Regions.{same_region, first_of_region, region_of}
 use Rattle.mst_config.specs.Shared.{AreRegions}
 use Rattle.mst_config.specs.Touching.{touches_regions}

@@ -6,7 +6,7 @@ use Rattle.std.specs.List.{AllByRecursion, Contains, filter, filter_map, flat_ma
 use Rattle.std.specs.Option.{option_map_or}
 use Rattle.std.specs.FinMap as fin
 use Rattle.std.proofs.lemmas.List.Sums.{length-filter}
-use Rattle.mst_net.specs.Tables.{Net, BridgeRow}
+use Rattle.mst_tables.specs.Tables.{Net, BridgeRow}
 use Rattle.mst_lag.specs.Aggregation.{same_name}
 use Rattle.mst_config.specs.Regions.{first_of_region}
 use Rattle.mst_vlan.specs.trees.Outcome.{Outcome}
@@ -22,7 +22,7 @@ use Rattle.mst_changes.specs.PortChanges.{counted, port_change_rows}
 use Rattle.mst_changes.specs.Values.{value_at}
 use Rattle.mst_changes.proofs.Same.{none_at}
 use Rattle.mst_ids.specs.Names.{port_cmp}
-use Rattle.mst_net.proofs.Keys.{names}
+use Rattle.mst_tables.proofs.Keys.{names}
 use Rattle.mst_rows.specs.Rows.{Row}
 use Rattle.mst_diff.specs.declared.roots.RootPair.{RootPair}
 use Rattle.mst_facts.specs.Told.{same_told}

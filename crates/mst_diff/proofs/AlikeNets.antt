@@ -15,9 +15,9 @@ use Rattle.mst_ids.specs.Names.{port_cmp}
 use Rattle.mst_ids.specs.Vids.{is_vid}
 use Rattle.mst_ids.specs.declared.name.PortName.{PortName}
 use Rattle.mst_graph.proofs.Members.{in_none, cases, passing, in_map, in_filter, filter_none}
-use Rattle.mst_net.specs.Tables.{Net, BridgeRow, port_eq}
-use Rattle.mst_net.proofs.Keyed.{flipped}
-use Rattle.mst_net.proofs.Keys.{names, ports}
+use Rattle.mst_tables.specs.Tables.{Net, BridgeRow, port_eq}
+use Rattle.mst_tables.proofs.Keyed.{flipped}
+use Rattle.mst_tables.proofs.Keys.{names, ports}
 use Rattle.mst_lag.specs.Aggregation.{same_name}
 use Rattle.mst_lag.specs.View.{LogicalPort, view_ports, bridge_names, port_names}
 use Rattle.mst_config.specs.Regions.{first_of_region}

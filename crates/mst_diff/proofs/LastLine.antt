@@ -7,7 +7,7 @@ use Rattle.std.proofs.lemmas.List.{length-append}
 use Rattle.std.proofs.lemmas.List.Sums.{length-filter}
 use Rattle.mst_ids.specs.Vids.{runs_from, set_where}
 use Rattle.mst_graph.proofs.Members.{in_none, here, in_whole, in_filter, filter_none}
-use Rattle.mst_net.specs.Tables.{Net}
+use Rattle.mst_tables.specs.Tables.{Net}
 use Rattle.mst_lag.specs.Trees.{is_among}
 use Rattle.mst_vlan.specs.trees.Outcome.{Outcome}
 use Rattle.mst_vlan.proofs.trees_lemmas.Entries.{all_weaker}

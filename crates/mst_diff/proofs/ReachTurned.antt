@@ -8,7 +8,7 @@ use Rattle.mst_kinds.specs.declared.kind.Kind.TheVariants as kind
 use Rattle.mst_graph.specs.Groups.{AreGroups}
 use Rattle.mst_graph.proofs.Alike.{alike_groups}
 use Rattle.mst_graph.proofs.Members.{here, there, in_whole}
-use Rattle.mst_net.specs.Tables.{Net}
+use Rattle.mst_tables.specs.Tables.{Net}
 use Rattle.mst_lag.specs.Trees.{is_among}
 use Rattle.mst_vlan.specs.trees.Outcome.{Outcome}
 use Rattle.mst_classes.specs.AllVids.{all_vids}

@@ -14,8 +14,8 @@ use Rattle.std.proofs.lemmas.List.{length-map, map-append}
 use Rattle.std.proofs.lemmas.List.Folds.{flat_map-map, list_any-append}
 use Rattle.mst_ids.specs.Names.{name_cmp, port_cmp}
 use Rattle.mst_ids.specs.declared.name.PortName.{PortName}
-use Rattle.mst_net.specs.Tables.{Net, BridgeRow}
-use Rattle.mst_net.proofs.Keys.{names, ports}
+use Rattle.mst_tables.specs.Tables.{Net, BridgeRow}
+use Rattle.mst_tables.proofs.Keys.{names, ports}
 use Rattle.mst_lag.specs.Aggregation.{same_name}
 use Rattle.mst_config.specs.Regions.{first_of_region}
 use Rattle.mst_vlan.specs.trees.Apart.{Apart}

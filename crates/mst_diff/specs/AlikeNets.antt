@@ -5,7 +5,7 @@ use Rattle.std.specs.FinMap as fin
 use Rattle.mst_ids.specs.Vids.{is_vid}
 use Rattle.mst_ids.specs.declared.name.PortName.{PortName}
 use Rattle.mst_graph.specs.Islands.{Island}
-use Rattle.mst_net.specs.Tables.{Net, BridgeRow}
+use Rattle.mst_tables.specs.Tables.{Net, BridgeRow}
 use Rattle.mst_config.specs.Regions.{first_of_region}
 use Rattle.mst_vlan.specs.trees.Outcome.{Outcome}
 use Rattle.mst_vlan.specs.trees.Roles.{role_of}

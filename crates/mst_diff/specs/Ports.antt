@@ -1,7 +1,7 @@
 -- The rows of logical ports whose roles are other ones.
 use Rattle.std.specs.Prelude.{List}
 use Rattle.std.specs.List.{flat_map}
-use Rattle.mst_net.specs.Tables.{Net}
+use Rattle.mst_tables.specs.Tables.{Net}
 use Rattle.mst_vlan.specs.trees.Outcome.{Outcome}
 use Rattle.mst_trees.specs.AllTrees.{all_trees}
 use Rattle.mst_changes.specs.PortChanges.{port_change_rows}

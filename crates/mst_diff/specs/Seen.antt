@@ -1,8 +1,8 @@
 -- What differs between two views with their forests.
 use Rattle.std.specs.Prelude.{◌≡◌, ℕ, ◌+◌, ◌-◌, ◌<◌, Bool, false, length, List, [], ◌∷◌, Option, None, Some, map, filter, filter_map, slice_index, slice_index_or, if◌then◌else◌}
 use Rattle.std.specs.List.{list_any}
-use Rattle.mst_net.specs.Seen.{bridge_row}
-use Rattle.mst_net.specs.Tables.{Net}
+use Rattle.mst_tables.specs.Seen.{bridge_row}
+use Rattle.mst_tables.specs.Tables.{Net}
 use Rattle.mst_lag.specs.Viewed.{Viewed}
 use Rattle.mst_config.specs.Regions.{first_of_region}
 use Rattle.mst_vlan.specs.trees.Settled.{SettledNet, outcome_of}

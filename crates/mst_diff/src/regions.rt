@@ -1,6 +1,6 @@
 ghost use Rattle.std.specs.Prelude.{◌≡◌, ◌++◌, ◌∷◌, [], List, IfOk, OnOk, map};
 ghost use Rattle.std.specs.List.{AllByRecursion, Contains, flat_map};
-ghost use Rattle.mst_net.specs.Seen.{bridge_row};
+ghost use Rattle.mst_tables.specs.Seen.{bridge_row};
 ghost use Rattle.mst_config.specs.Regions.{first_of_region};
 ghost use Rattle.mst_rows.specs.Rows.{Row};
 ghost use Rattle.mst_facts.specs.Told.{same_told};
@@ -15,8 +15,8 @@ use mst_ids::{ConfName, Name};
 use mst_kinds::{ChangeLine, Kind as RowKind};
 use mst_lag::{BridgeInView, View};
 use mst_lang::Kind;
-use mst_net::Bridge;
 use mst_rows::{RegionSide, Rows, Value, put};
+use mst_tables::Bridge;
 use mst_vlan::{Forest, Settled};
 use std::alloc::{AllocError, Global};
 

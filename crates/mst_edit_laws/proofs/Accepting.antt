@@ -7,9 +7,9 @@ use Rattle.std.specs.declared.cmp.Ordering.{Ordering}
 use Rattle.std.proofs.lemmas.List.{length-map}
 use Rattle.mst_ids.specs.declared.name.PortName.{PortName}
 use Rattle.mst_lang.specs.declared.line.Edit.{Edit}
-use Rattle.mst_net.specs.Tables.{Net}
-use Rattle.mst_net.specs.After.{effect}
-use Rattle.mst_net.proofs.Keyed.{IsKeyed, same_keys}
+use Rattle.mst_net.specs.tables.Tables.{Net}
+use Rattle.mst_net.specs.tables.After.{effect}
+use Rattle.mst_net.proofs.tables_lemmas.Keyed.{IsKeyed, same_keys}
 use Rattle.mst_save.specs.Making.{made, Accepted}
 use Rattle.mst_save.proofs.Lists.{Distinct, holds, holds_first, holds_later, pigeons, keys_distinct, keys_hold}
 use Rattle.mst_save.proofs.Steps.{Stays, stays}

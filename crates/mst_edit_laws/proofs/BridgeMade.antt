@@ -17,14 +17,14 @@ use Rattle.mst_lang.specs.declared.line.Edit.TheVariants.{AddBridge, DelBridge, 
 use Rattle.mst_lang.specs.declared.line.BridgeChange.{BridgeChange}
 use Rattle.mst_lang.specs.declared.line.BridgeChange.TheVariants.{Power as PowerOf, Kind as KindOf, SystemPriority, Configuration, MaxHops, MaxAge}
 use Rattle.mst_lang.specs.declared.line.TreeChange.TheVariants.{Priority}
-use Rattle.mst_net.specs.Table.{no_table, tree_count}
-use Rattle.mst_net.specs.Tables.{Net, IsNetwork, BridgeRow, IsTable, empty_net}
-use Rattle.mst_net.proofs.AfterLemmas.{no_network}
-use Rattle.mst_net.specs.After.{has_bridge, table_of, new_bridge, bridge_with, is_rstp, is_on}
-use Rattle.mst_net.specs.Contents.{priority_of}
-use Rattle.mst_net.specs.Settings.{kind_of, power_of}
-use Rattle.mst_net.proofs.Keys.{name_eq, names}
-use Rattle.mst_net.proofs.Changed.{itself}
+use Rattle.mst_net.specs.tables.Table.{no_table, tree_count}
+use Rattle.mst_net.specs.tables.Tables.{Net, IsNetwork, BridgeRow, IsTable, empty_net}
+use Rattle.mst_net.proofs.tables_lemmas.AfterLemmas.{no_network}
+use Rattle.mst_net.specs.tables.After.{has_bridge, table_of, new_bridge, bridge_with, is_rstp, is_on}
+use Rattle.mst_net.specs.tables.Contents.{priority_of}
+use Rattle.mst_net.specs.tables.Settings.{kind_of, power_of}
+use Rattle.mst_net.proofs.tables_lemmas.Keys.{name_eq, names}
+use Rattle.mst_net.proofs.tables_lemmas.Changed.{itself}
 use Rattle.mst_save.specs.Making.{made}
 use Rattle.mst_save.specs.Saved.{when, joined, ports_of}
 use Rattle.mst_save.proofs.Lists.{all_append, all_flat, all_as, all_when, keys_distinct, keys_hold}

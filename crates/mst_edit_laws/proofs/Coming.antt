@@ -15,18 +15,18 @@ use Rattle.mst_lang.specs.declared.line.BridgeChange.{BridgeChange}
 use Rattle.mst_lang.specs.declared.line.BridgeChange.TheVariants.{Power as PowerOf, Kind as KindOf, SystemPriority, Configuration, MaxHops, MaxAge}
 use Rattle.mst_lang.specs.declared.line.LanChange.TheVariants.{State, Speed}
 use Rattle.mst_lang.specs.declared.line.TreeChange.TheVariants.{Priority, PortPriority, PortCost, Table, Vlans}
-use Rattle.mst_net.specs.declared.refusal.Refusal.TheVariants.{E04, E05, E06, E07, E08, E09, E10, E14}
-use Rattle.mst_net.specs.Table.{tree_count}
-use Rattle.mst_net.specs.Tables.{Net, IsNetwork, BridgeRow, PortRow, LanRow, IsTable, port_eq}
-use Rattle.mst_net.specs.Settings.{kind_of, power_of, state_of}
-use Rattle.mst_net.specs.Contents.{priority_of, port_priority_of, port_cost_of}
-use Rattle.mst_net.specs.declared.settings.PortSettings.{PortSettings}
+use Rattle.mst_net.specs.tables.declared.refusal.Refusal.TheVariants.{E04, E05, E06, E07, E08, E09, E10, E14}
+use Rattle.mst_net.specs.tables.Table.{tree_count}
+use Rattle.mst_net.specs.tables.Tables.{Net, IsNetwork, BridgeRow, PortRow, LanRow, IsTable, port_eq}
+use Rattle.mst_net.specs.tables.Settings.{kind_of, power_of, state_of}
+use Rattle.mst_net.specs.tables.Contents.{priority_of, port_priority_of, port_cost_of}
+use Rattle.mst_net.specs.tables.declared.settings.PortSettings.{PortSettings}
 use Rattle.mst_lang.specs.declared.line.PortChange.TheVariants.{Key, PathCost, RestrictedRole}
-use Rattle.mst_net.specs.After.{effect, refusal_of, first_of, has_bridge, has_port, has_lan, mac_taken, is_plugged, table_of, vlans_of, new_bridge, new_port, new_lan, bridge_with, port_with, lan_with, change_bridge, change_port, change_lan}
-use Rattle.mst_net.proofs.Keyed.{same_keys, get_inserted, after_insert}
-use Rattle.mst_net.proofs.Keys.{name_eq, names, ports}
-use Rattle.mst_net.proofs.Changed.{itself, contains_changed, changed_from, value_found}
-use Rattle.mst_net.proofs.Somes.{no_some}
+use Rattle.mst_net.specs.tables.After.{effect, refusal_of, first_of, has_bridge, has_port, has_lan, mac_taken, is_plugged, table_of, vlans_of, new_bridge, new_port, new_lan, bridge_with, port_with, lan_with, change_bridge, change_port, change_lan}
+use Rattle.mst_net.proofs.tables_lemmas.Keyed.{same_keys, get_inserted, after_insert}
+use Rattle.mst_net.proofs.tables_lemmas.Keys.{name_eq, names, ports}
+use Rattle.mst_net.proofs.tables_lemmas.Changed.{itself, contains_changed, changed_from, value_found}
+use Rattle.mst_net.proofs.tables_lemmas.Somes.{no_some}
 use Rattle.mst_save.specs.Making.{made, Accepted}
 use Rattle.mst_save.specs.Saved.{when, joined, ports_of}
 use Rattle.mst_save.proofs.Lists.{all_append, all_when, all_map, all_flat, all_as, in_filter, distinct_filter, keys_distinct, keys_hold}

@@ -9,13 +9,13 @@ use Rattle.std.specs.declared.cmp.Ordering.{Ordering}
 use Rattle.std.proofs.lemmas.Bool.{and_parts}
 use Rattle.mst_ids.specs.declared.name.PortName.{PortName}
 use Rattle.mst_lang.specs.declared.line.Edit.TheVariants.{DelBridge, DelPort, DelLan, Unplug}
-use Rattle.mst_net.specs.declared.refusal.Refusal.TheVariants.{E04, E05, E06, E10, E11, E12, E13}
-use Rattle.mst_net.specs.Tables.{Net, IsNetwork, PortRow}
-use Rattle.mst_net.specs.After.{first_of, has_bridge, has_port, has_lan, is_plugged, some_port, is_of_bridge, is_in_lan, in_lan}
-use Rattle.mst_net.proofs.Keyed.{IsKeyed, same_keys}
-use Rattle.mst_net.proofs.Keys.{name_eq, names, ports}
-use Rattle.mst_net.proofs.Changed.{value_found}
-use Rattle.mst_net.proofs.Somes.{some_is, no_some}
+use Rattle.mst_net.specs.tables.declared.refusal.Refusal.TheVariants.{E04, E05, E06, E10, E11, E12, E13}
+use Rattle.mst_net.specs.tables.Tables.{Net, IsNetwork, PortRow}
+use Rattle.mst_net.specs.tables.After.{first_of, has_bridge, has_port, has_lan, is_plugged, some_port, is_of_bridge, is_in_lan, in_lan}
+use Rattle.mst_net.proofs.tables_lemmas.Keyed.{IsKeyed, same_keys}
+use Rattle.mst_net.proofs.tables_lemmas.Keys.{name_eq, names, ports}
+use Rattle.mst_net.proofs.tables_lemmas.Changed.{value_found}
+use Rattle.mst_net.proofs.tables_lemmas.Somes.{some_is, no_some}
 use Rattle.mst_save.specs.Making.{made, Accepted}
 use Rattle.mst_save.specs.Saved.{when, joined}
 use Rattle.mst_save.proofs.Lists.{all_as, holds, holds_first, holds_later, keys_distinct, keys_hold}

@@ -9,11 +9,11 @@ use Rattle.std.proofs.lemmas.Bool.{eqb-true}
 use Rattle.mst_lang.specs.declared.line.Edit.TheVariants.{AddLan, DelLan, SetLan}
 use Rattle.mst_lang.specs.declared.line.LanChange.{LanChange}
 use Rattle.mst_lang.specs.declared.line.LanChange.TheVariants.{State, Speed}
-use Rattle.mst_net.specs.Tables.{Net, LanRow}
-use Rattle.mst_net.specs.After.{has_lan, new_lan, lan_with, is_up}
-use Rattle.mst_net.specs.Settings.{state_of}
-use Rattle.mst_net.proofs.Keys.{name_eq, names}
-use Rattle.mst_net.proofs.Changed.{itself}
+use Rattle.mst_net.specs.tables.Tables.{Net, LanRow}
+use Rattle.mst_net.specs.tables.After.{has_lan, new_lan, lan_with, is_up}
+use Rattle.mst_net.specs.tables.Settings.{state_of}
+use Rattle.mst_net.proofs.tables_lemmas.Keys.{name_eq, names}
+use Rattle.mst_net.proofs.tables_lemmas.Changed.{itself}
 use Rattle.mst_save.specs.Making.{made}
 use Rattle.mst_save.specs.Saved.{when, joined, ports_of}
 use Rattle.mst_save.proofs.Lists.{all_append, all_flat, all_as, keys_distinct, keys_hold}

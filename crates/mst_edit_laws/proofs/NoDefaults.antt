@@ -13,13 +13,13 @@ use Rattle.mst_ids.specs.declared.name.PortName.{PortName}
 use Rattle.mst_lang.specs.declared.line.Edit.{Edit}
 use Rattle.mst_lang.specs.declared.line.Edit.TheVariants.{AddBridge, DelBridge, SetBridge, AddPort, DelPort, SetPort, AddLan, DelLan, SetLan, Plug, Unplug, SetByTree}
 use Rattle.mst_lang.specs.declared.line.TreeChange.TheVariants.{Priority, PortPriority, PortCost, Table, Vlans}
-use Rattle.mst_net.specs.Table.{no_table, mapped}
-use Rattle.mst_net.specs.Tables.{Net, IsNetwork, BridgeTree, PortTree, port_eq}
-use Rattle.mst_net.specs.After.{effect, all_vids, table_of, own_priority, own_table, own_vlans}
-use Rattle.mst_net.proofs.Somes.{some_is, no_some}
-use Rattle.mst_net.proofs.Keyed.{after_keep, after_remove}
-use Rattle.mst_net.proofs.Keys.{name_eq, names, ports, bridge_trees, port_trees}
-use Rattle.mst_net.proofs.Changed.{left_without}
+use Rattle.mst_net.specs.tables.Table.{no_table, mapped}
+use Rattle.mst_net.specs.tables.Tables.{Net, IsNetwork, BridgeTree, PortTree, port_eq}
+use Rattle.mst_net.specs.tables.After.{effect, all_vids, table_of, own_priority, own_table, own_vlans}
+use Rattle.mst_net.proofs.tables_lemmas.Somes.{some_is, no_some}
+use Rattle.mst_net.proofs.tables_lemmas.Keyed.{after_keep, after_remove}
+use Rattle.mst_net.proofs.tables_lemmas.Keys.{name_eq, names, ports, bridge_trees, port_trees}
+use Rattle.mst_net.proofs.tables_lemmas.Changed.{left_without}
 use Rattle.mst_save.specs.Making.{made}
 use Rattle.mst_save.proofs.BridgeEnds.{AtBridge, at_bridge}
 use Rattle.mst_save.proofs.PortEnds.{AtPort, at_port}

@@ -13,13 +13,13 @@ use Rattle.mst_lang.specs.declared.line.Edit.TheVariants.{AddPort, DelPort, SetP
 use Rattle.mst_lang.specs.declared.line.PortChange.{PortChange}
 use Rattle.mst_lang.specs.declared.line.PortChange.TheVariants.{Key, PathCost, RestrictedRole}
 use Rattle.mst_lang.specs.declared.line.TreeChange.TheVariants.{PortPriority, PortCost, Vlans}
-use Rattle.mst_net.specs.Tables.{Net, IsNetwork, PortRow, port_eq}
-use Rattle.mst_net.specs.declared.settings.PortSettings.{PortSettings}
-use Rattle.mst_net.specs.After.{has_bridge, has_port, vlans_of, all_vids, new_settings, new_port, in_lan, port_with, settings_with}
-use Rattle.mst_net.specs.Contents.{port_priority_of, port_cost_of}
-use Rattle.mst_net.proofs.Keyed.{same_keys}
-use Rattle.mst_net.proofs.Keys.{name_eq, names, ports}
-use Rattle.mst_net.proofs.Changed.{itself}
+use Rattle.mst_net.specs.tables.Tables.{Net, IsNetwork, PortRow, port_eq}
+use Rattle.mst_net.specs.tables.declared.settings.PortSettings.{PortSettings}
+use Rattle.mst_net.specs.tables.After.{has_bridge, has_port, vlans_of, all_vids, new_settings, new_port, in_lan, port_with, settings_with}
+use Rattle.mst_net.specs.tables.Contents.{port_priority_of, port_cost_of}
+use Rattle.mst_net.proofs.tables_lemmas.Keyed.{same_keys}
+use Rattle.mst_net.proofs.tables_lemmas.Keys.{name_eq, names, ports}
+use Rattle.mst_net.proofs.tables_lemmas.Changed.{itself}
 use Rattle.mst_save.specs.Making.{made}
 use Rattle.mst_save.specs.Saved.{when, joined, ports_of}
 use Rattle.mst_save.proofs.Lists.{all_append, all_flat_of, all_as, all_of, all_when, holds, in_filter, into_filter, distinct_filter, keys_distinct, keys_hold}

@@ -10,9 +10,9 @@ use Rattle.mst_lang.specs.Words.{is_plain}
 use Rattle.mst_lang.specs.declared.line.Version.TheVariants.{V2}
 use Rattle.mst_lang.specs.declared.line.Line.TheVariants.{Edit as edit}
 use Rattle.mst_lang.specs.declared.line.Edit.{Edit}
-use Rattle.mst_net.specs.Tables.{Net, IsNetwork}
-use Rattle.mst_net.specs.After.{effect}
-use Rattle.mst_net.proofs.AfterLemmas.{after_accepted}
+use Rattle.mst_net.specs.tables.Tables.{Net, IsNetwork}
+use Rattle.mst_net.specs.tables.After.{effect}
+use Rattle.mst_net.proofs.tables_lemmas.AfterLemmas.{after_accepted}
 use Rattle.mst_save.specs.Making.{made, Accepted}
 use Rattle.mst_save.specs.SaveText.{Makes, Leave, IsShort}
 use Rattle.mst_save.proofs.Spaced.{spaced_is_plain}

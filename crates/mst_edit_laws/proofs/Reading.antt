@@ -17,7 +17,7 @@ use Rattle.mst_lang.specs.declared.line.Edit.{Edit}
 use Rattle.mst_lang.specs.declared.line.Edit.TheVariants.{DelPort, SetByTree}
 use Rattle.mst_lang.specs.declared.line.TreeChange.TheVariants.{Vlans}
 use Rattle.mst_lang.specs.declared.line.Fault.TheVariants.{E02}
-use Rattle.mst_net.specs.After.{all_vids}
+use Rattle.mst_net.specs.tables.After.{all_vids}
 use Rattle.mst_save.specs.EditLine.{spaced, line_of, IsSayable}
 use Rattle.mst_save.proofs.Numbers.{number_of_read}
 use Rattle.mst_save.proofs.Reading.{edit_words, line_read}

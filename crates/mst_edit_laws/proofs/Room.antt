@@ -10,14 +10,14 @@ use Rattle.mst_ids.specs.VidBits.{has-set_where}
 use Rattle.mst_ids.proofs.VidRangeLemmas.{is_vid_set}
 use Rattle.mst_lang.specs.declared.line.Edit.TheVariants.{SetByTree}
 use Rattle.mst_lang.specs.declared.line.TreeChange.TheVariants.{Table}
-use Rattle.mst_net.specs.declared.refusal.Refusal.TheVariants.{E04, E15}
-use Rattle.mst_net.specs.Table.{tree_in, has_tree, mapped, mstis_in, tree_count}
-use Rattle.mst_net.specs.Tables.{Net}
-use Rattle.mst_net.specs.After.{effect, refusal_of, first_of, has_bridge, table_of}
+use Rattle.mst_net.specs.tables.declared.refusal.Refusal.TheVariants.{E04, E15}
+use Rattle.mst_net.specs.tables.Table.{tree_in, has_tree, mapped, mstis_in, tree_count}
+use Rattle.mst_net.specs.tables.Tables.{Net}
+use Rattle.mst_net.specs.tables.After.{effect, refusal_of, first_of, has_bridge, table_of}
 use Rattle.mst_net.proofs.ForeseenLemmas.{foreseen_table}
-use Rattle.mst_net.proofs.Keys.{names}
-use Rattle.mst_net.proofs.Changed.{itself}
-use Rattle.mst_net.proofs.TableFits.{length-mapped}
+use Rattle.mst_net.proofs.tables_lemmas.Keys.{names}
+use Rattle.mst_net.proofs.tables_lemmas.Changed.{itself}
+use Rattle.mst_net.proofs.tables_lemmas.TableFits.{length-mapped}
 use Rattle.mst_save.specs.Making.{made, Accepted}
 use Rattle.mst_save.specs.Runs.{vids_of}
 use Rattle.mst_save.specs.Saved.{vids_in, fits, cut}

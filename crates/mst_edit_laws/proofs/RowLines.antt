@@ -20,7 +20,7 @@ use Rattle.mst_lang.specs.declared.line.TreeChange.TheVariants.{Priority, PortPr
 use Rattle.mst_lang.specs.declared.line.Kind.TheVariants.{Mstp, Rstp}
 use Rattle.mst_lang.specs.declared.line.Power.TheVariants.{On, Off}
 use Rattle.mst_lang.specs.declared.line.LanState.TheVariants.{Up, Down}
-use Rattle.mst_net.specs.After.{all_vids}
+use Rattle.mst_net.specs.tables.After.{all_vids}
 use Rattle.mst_rows.specs.Cells.{vids}
 use Rattle.mst_rows.specs.Lines.{row_line}
 use Rattle.mst_save.specs.EditLine.{spaced, words_of, cost_text, no_vids, vlans_text}

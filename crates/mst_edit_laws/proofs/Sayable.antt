@@ -18,13 +18,13 @@ use Rattle.mst_lang.specs.declared.line.PortChange.TheVariants.{Key, PathCost, R
 use Rattle.mst_lang.specs.declared.line.LanChange.{LanChange}
 use Rattle.mst_lang.specs.declared.line.LanChange.TheVariants.{State, Speed}
 use Rattle.mst_lang.specs.declared.line.TreeChange.TheVariants.{Priority, PortPriority, PortCost, Vlans}
-use Rattle.mst_net.specs.After.{all_vids, has_lan, table_of, vlans_of}
-use Rattle.mst_net.specs.Contents.{priority_of, port_priority_of, port_cost_of}
-use Rattle.mst_net.specs.Settings.{kind_of, power_of, state_of}
-use Rattle.mst_net.specs.Table.{has_tree, mapped, mstis_in, tree_in}
-use Rattle.mst_net.specs.Tables.{Net, IsNetwork, BridgeRow, PortRow, LanRow}
-use Rattle.mst_net.specs.declared.settings.PortSettings.{PortSettings}
-use Rattle.mst_net.proofs.Keys.{names, ports}
+use Rattle.mst_net.specs.tables.After.{all_vids, has_lan, table_of, vlans_of}
+use Rattle.mst_net.specs.tables.Contents.{priority_of, port_priority_of, port_cost_of}
+use Rattle.mst_net.specs.tables.Settings.{kind_of, power_of, state_of}
+use Rattle.mst_net.specs.tables.Table.{has_tree, mapped, mstis_in, tree_in}
+use Rattle.mst_net.specs.tables.Tables.{Net, IsNetwork, BridgeRow, PortRow, LanRow}
+use Rattle.mst_net.specs.tables.declared.settings.PortSettings.{PortSettings}
+use Rattle.mst_net.proofs.tables_lemmas.Keys.{names, ports}
 use Rattle.mst_save.specs.EditLine.{line_of, IsSayable}
 use Rattle.mst_save.specs.Runs.{vids_of}
 use Rattle.mst_save.specs.Saved.{when, joined, mapping, fits, cut, ports_of}

@@ -13,12 +13,12 @@ use Rattle.mst_ids.specs.declared.name.PortName.{PortName}
 use Rattle.mst_lang.specs.declared.line.Edit.{Edit}
 use Rattle.mst_lang.specs.declared.line.Edit.TheVariants.{AddBridge, DelBridge, SetBridge, AddPort, DelPort, SetPort, AddLan, DelLan, SetLan, Plug, Unplug, SetByTree}
 use Rattle.mst_lang.specs.declared.line.TreeChange.TheVariants.{Priority, PortPriority, PortCost, Table, Vlans}
-use Rattle.mst_net.specs.Tables.{Net, BridgeRow, PortRow, LanRow, port_eq}
-use Rattle.mst_net.specs.Table.{no_table, mapped}
-use Rattle.mst_net.specs.After.{new_bridge, new_port, new_lan, in_lan, has_lan, bridge_with, port_with, lan_with, table_of, all_vids}
-use Rattle.mst_net.proofs.Keyed.{IsKeyed}
-use Rattle.mst_net.proofs.Keys.{name_eq}
-use Rattle.mst_net.specs.declared.settings.PortSettings.{PortSettings}
+use Rattle.mst_net.specs.tables.Tables.{Net, BridgeRow, PortRow, LanRow, port_eq}
+use Rattle.mst_net.specs.tables.Table.{no_table, mapped}
+use Rattle.mst_net.specs.tables.After.{new_bridge, new_port, new_lan, in_lan, has_lan, bridge_with, port_with, lan_with, table_of, all_vids}
+use Rattle.mst_net.proofs.tables_lemmas.Keyed.{IsKeyed}
+use Rattle.mst_net.proofs.tables_lemmas.Keys.{name_eq}
+use Rattle.mst_net.specs.tables.declared.settings.PortSettings.{PortSettings}
 use Rattle.mst_save.specs.Saved.{when, joined}
 use Rattle.mst_save.proofs.Lists.{all_when, all_map, all_flat, all_as, Distinct, holds}
 use Rattle.mst_save.proofs.Whose.{all_joined}

@@ -2,7 +2,7 @@
 ghost use Rattle.std.specs.Prelude.{◌≡◌};
 ghost use Rattle.std.specs.List.{AllByRecursion};
 ghost use Rattle.mst_lang.specs.Lines.{lines_of};
-ghost use Rattle.mst_net.specs.Tables.{Net, IsNetwork};
+ghost use Rattle.mst_net.specs.tables.Tables.{Net, IsNetwork};
 ghost use Rattle.mst_save.specs.Making.{made, Accepted};
 ghost use Rattle.mst_save.specs.SaveText.{IsShort};
 ghost use Rattle.mst_edits.specs.Edits.{edits};

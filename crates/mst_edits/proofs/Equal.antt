@@ -12,11 +12,11 @@ use Rattle.mst_lang.specs.declared.line.Edit.{Edit}
 use Rattle.mst_lang.specs.declared.line.Edit.TheVariants.{Unplug, DelPort, DelLan, DelBridge, SetLan, SetByTree, Plug}
 use Rattle.mst_lang.specs.declared.line.LanChange.TheVariants.{Speed}
 use Rattle.mst_lang.specs.declared.line.TreeChange.TheVariants.{Priority, PortPriority, PortCost}
-use Rattle.mst_net.specs.After.{has_port, has_lan, has_bridge, table_of, vlans_of, new_bridge, new_port, new_lan}
-use Rattle.mst_net.specs.Contents.{priority_of, port_priority_of, port_cost_of}
-use Rattle.mst_net.specs.Tables.{Net, IsNetwork, BridgeRow, PortRow, LanRow}
-use Rattle.mst_net.specs.declared.settings.PortSettings.{PortSettings}
-use Rattle.mst_net.proofs.Keys.{names, ports}
+use Rattle.mst_net.specs.tables.After.{has_port, has_lan, has_bridge, table_of, vlans_of, new_bridge, new_port, new_lan}
+use Rattle.mst_net.specs.tables.Contents.{priority_of, port_priority_of, port_cost_of}
+use Rattle.mst_net.specs.tables.Tables.{Net, IsNetwork, BridgeRow, PortRow, LanRow}
+use Rattle.mst_net.specs.tables.declared.settings.PortSettings.{PortSettings}
+use Rattle.mst_net.proofs.tables_lemmas.Keys.{names, ports}
 use Rattle.mst_save.specs.Saved.{when, joined, ports_of}
 use Rattle.mst_save.proofs.Lists.{all_of, keys_hold}
 use Rattle.mst_edits.specs.Staying.{bridge_stays, port_stays, plug_stays, lan_of, is_same_lan, has_mac, bridge_before, settings_before, lan_before}

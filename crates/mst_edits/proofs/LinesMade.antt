@@ -9,7 +9,7 @@ use Rattle.mst_ids.specs.VidBits.{length-set_where, has-set_where}
 use Rattle.mst_ids.proofs.VidSetLemmas.{set_where-same}
 use Rattle.mst_ids.proofs.VidTextLemmas.{no_next_run}
 use Rattle.mst_lang.specs.declared.line.Edit.{Edit}
-use Rattle.mst_net.specs.Table.{no_table, tree_in, mapped, mstis_in}
+use Rattle.mst_net.specs.tables.Table.{no_table, tree_in, mapped, mstis_in}
 use Rattle.mst_save.specs.EditLine.{no_vids}
 use Rattle.mst_save.specs.Runs.{vids_of}
 use Rattle.mst_save.specs.Saved.{vids_in, fits, cut}

@@ -9,7 +9,7 @@ use Rattle.mst_ids.specs.Vids.{has, is_vid, runs_from, IsVidSet}
 use Rattle.mst_ids.specs.VidBits.{has-set_where, length-set_where}
 use Rattle.mst_ids.proofs.VidRangeLemmas.{is_vid_set}
 use Rattle.mst_lang.specs.Ranges.{IsName}
-use Rattle.mst_net.specs.Table.{tree_in, has_tree, mapped, mstis_in}
+use Rattle.mst_net.specs.tables.Table.{tree_in, has_tree, mapped, mstis_in}
 use Rattle.mst_save.specs.EditLine.{no_vids}
 use Rattle.mst_save.specs.Runs.{vids_of}
 use Rattle.mst_save.specs.Saved.{vids_in, fits, cut}

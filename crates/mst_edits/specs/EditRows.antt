@@ -15,8 +15,8 @@ use Rattle.mst_lang.specs.declared.line.TreeChange.TheVariants.{Vlans}
 use Rattle.mst_lang.specs.declared.line.Kind.TheVariants.{Mstp}
 use Rattle.mst_lang.specs.declared.line.Power.TheVariants.{On}
 use Rattle.mst_lang.specs.declared.line.LanState.TheVariants.{Up}
-use Rattle.mst_net.specs.After.{all_vids}
-use Rattle.mst_net.specs.Tables.{Net}
+use Rattle.mst_net.specs.tables.After.{all_vids}
+use Rattle.mst_net.specs.tables.Tables.{Net}
 use Rattle.mst_rows.specs.Cells.{vids as vids_cell}
 use Rattle.mst_rows.specs.Rows.{Row}
 use Rattle.mst_save.specs.SaveRows.{of_bridge, of_lan, of_port, edit_rows, first_row}

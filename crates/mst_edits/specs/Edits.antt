@@ -12,11 +12,11 @@ use Rattle.mst_lang.specs.declared.line.BridgeChange.TheVariants.{Power as Power
 use Rattle.mst_lang.specs.declared.line.PortChange.TheVariants.{Key, PathCost, RestrictedRole}
 use Rattle.mst_lang.specs.declared.line.LanChange.TheVariants.{State, Speed}
 use Rattle.mst_lang.specs.declared.line.TreeChange.TheVariants.{Priority, PortPriority, PortCost, Vlans}
-use Rattle.mst_net.specs.After.{has_lan, table_of, vlans_of}
-use Rattle.mst_net.specs.Contents.{priority_of, port_priority_of, port_cost_of}
-use Rattle.mst_net.specs.Settings.{kind_of, power_of, state_of}
-use Rattle.mst_net.specs.Tables.{Net, BridgeRow, PortRow, LanRow}
-use Rattle.mst_net.specs.declared.settings.PortSettings.{PortSettings}
+use Rattle.mst_net.specs.tables.After.{has_lan, table_of, vlans_of}
+use Rattle.mst_net.specs.tables.Contents.{priority_of, port_priority_of, port_cost_of}
+use Rattle.mst_net.specs.tables.Settings.{kind_of, power_of, state_of}
+use Rattle.mst_net.specs.tables.Tables.{Net, BridgeRow, PortRow, LanRow}
+use Rattle.mst_net.specs.tables.declared.settings.PortSettings.{PortSettings}
 use Rattle.mst_save.specs.Saved.{when, joined, ports_of}
 use Rattle.mst_edits.specs.Staying.{bridge_stays, port_stays, plug_stays, lan_of, bridge_before, settings_before, lan_before, table_before, priority_before, port_priority_before, port_cost_before, vlans_before}
 use Rattle.mst_edits.specs.TableLines.{table_edits}

@@ -4,11 +4,11 @@ use Rattle.std.specs.Option.{option_map_or}
 use Rattle.std.specs.Cmp.Lexicographic.{pointwise}
 use Rattle.std.specs.FinMap as fin
 use Rattle.mst_ids.specs.declared.name.PortName.{PortName}
-use Rattle.mst_net.specs.After.{has_port, new_bridge, new_port, new_lan, all_vids, table_of, vlans_of}
-use Rattle.mst_net.specs.Contents.{priority_of, port_priority_of, port_cost_of}
-use Rattle.mst_net.specs.Table.{no_table}
-use Rattle.mst_net.specs.Tables.{Net, BridgeRow, LanRow}
-use Rattle.mst_net.specs.declared.settings.PortSettings.{PortSettings}
+use Rattle.mst_net.specs.tables.After.{has_port, new_bridge, new_port, new_lan, all_vids, table_of, vlans_of}
+use Rattle.mst_net.specs.tables.Contents.{priority_of, port_priority_of, port_cost_of}
+use Rattle.mst_net.specs.tables.Table.{no_table}
+use Rattle.mst_net.specs.tables.Tables.{Net, BridgeRow, LanRow}
+use Rattle.mst_net.specs.tables.declared.settings.PortSettings.{PortSettings}
 
 -- a bridge stays where both have one of that name with the same MAC
 abbrev pub has_mac : ℕ → Option BridgeRow → Bool

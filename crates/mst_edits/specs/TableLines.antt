@@ -5,7 +5,7 @@ use Rattle.mst_ids.specs.Vids.{is_vid, has, set_where, runs_from}
 use Rattle.mst_lang.specs.declared.line.Edit.{Edit}
 use Rattle.mst_lang.specs.declared.line.Edit.TheVariants.{SetByTree}
 use Rattle.mst_lang.specs.declared.line.TreeChange.TheVariants.{Table}
-use Rattle.mst_net.specs.Table.{tree_in, has_tree, mapped, mstis_in, tree_count}
+use Rattle.mst_net.specs.tables.Table.{tree_in, has_tree, mapped, mstis_in, tree_count}
 use Rattle.mst_save.specs.EditLine.{no_vids}
 use Rattle.mst_save.specs.Runs.{vids_of}
 use Rattle.mst_save.specs.Saved.{vids_in, fits, cut}

@@ -1,7 +1,7 @@
 ghost use Rattle.std.specs.Prelude.{◌≡◌, ◌++◌, OnOk, not, ◌==◌};
 ghost use Rattle.std.specs.FinMap as fin;
 ghost use Rattle.std.specs.List.{flat_map};
-ghost use Rattle.mst_net.specs.Seen.{lan_row};
+ghost use Rattle.mst_net.specs.tables.Seen.{lan_row};
 ghost use Rattle.mst_save.specs.Saved.{joined};
 ghost use Rattle.mst_edits.specs.Edits.{lan_edits, lan_set, lan_settings, state_edits, state_settings};
 

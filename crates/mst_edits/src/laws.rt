@@ -1,7 +1,7 @@
 //! Laws of the edits between networks. Their functions do nothing: a caller has their clauses.
 ghost use Rattle.std.specs.Prelude.{◌≡◌, ℕ, List, [], length};
 ghost use Rattle.mst_lang.specs.Ranges.{IsName};
-ghost use Rattle.mst_net.specs.Tables.{Net, IsNetwork, IsTable};
+ghost use Rattle.mst_net.specs.tables.Tables.{Net, IsNetwork, IsTable};
 ghost use Rattle.mst_edits.specs.Edits.{edits};
 ghost use Rattle.mst_edits.specs.TableLines.{direct_moves, table_after, with_ways};
 

@@ -1,7 +1,7 @@
 ghost use Rattle.std.specs.Prelude.{◌≡◌, ◌==◌, if◌then◌else◌};
 ghost use Rattle.std.specs.Option.{option_map};
-ghost use Rattle.mst_net.specs.Seen.{bridge_row, lan_row, port_row};
-ghost use Rattle.mst_net.specs.After.{has_lan as has_lan_of, new_bridge, new_port};
+ghost use Rattle.mst_net.specs.tables.Seen.{bridge_row, lan_row, port_row};
+ghost use Rattle.mst_net.specs.tables.After.{has_lan as has_lan_of, new_bridge, new_port};
 ghost use Rattle.mst_edits.specs.Staying.{has_mac as has_mac_of, bridge_stays as bridge_stays_in, port_stays as port_stays_in, lan_of as lan_in, is_same_lan as are_same_lan, plug_stays as plug_stays_in, bridge_before as bridge_was, settings_before as settings_were, lan_before as lan_was, priority_before as priority_was, port_priority_before as port_priority_was, port_cost_before as port_cost_was, vlans_before as vlans_were};
 
 use mst_ids::{

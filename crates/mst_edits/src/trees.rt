@@ -1,7 +1,7 @@
 ghost use Rattle.std.specs.Prelude.{◌≡◌, ℕ, Bool, ◌-◌, ◌<◌, ◌≤◌, ◌||◌, false, length, slice_index_or, count_by, IfOk, filter};
 ghost use Rattle.std.specs.List.{range_with_len};
-ghost use Rattle.mst_net.specs.Table.{has_tree, mapped, mstis_in, tree_count as count_of};
-ghost use Rattle.mst_net.specs.TreesSet.{trees_where};
+ghost use Rattle.mst_net.specs.tables.Table.{has_tree, mapped, mstis_in, tree_count as count_of};
+ghost use Rattle.mst_net.specs.tables.TreesSet.{trees_where};
 ghost use Rattle.mst_edits.specs.TableLines.{unwanted as unwanted_of};
 
 use mst_ids::{Tree, VidSet};

@@ -1,6 +1,6 @@
 ghost use Rattle.std.specs.Prelude.{◌≡◌, ◌≤◌, ◌||◌, ◌&&◌, ◌==◌, not, length};
 ghost use Rattle.mst_ids.specs.Vids.{has, is_within, set_where};
-ghost use Rattle.mst_net.specs.Table.{tree_in};
+ghost use Rattle.mst_net.specs.tables.Table.{tree_in};
 ghost use Rattle.mst_edits.specs.TableLines.{moved_to as moved_of, with_tree};
 
 use mst_ids::{Tree, Vid, VidSet};

@@ -4,9 +4,9 @@ use Rattle.mst_lang.specs.declared.line.Line.{Line}
 use Rattle.mst_lang.specs.declared.line.Line.TheVariants.{Blank, Mark, Edit as edit, Query as query}
 use Rattle.mst_lang.specs.declared.line.Fault.{Fault}
 use Rattle.mst_lang.specs.declared.line.Version.{Version}
-use Rattle.mst_net.specs.declared.refusal.Refusal.{Refusal}
-use Rattle.mst_net.specs.Tables.{Net}
-use Rattle.mst_net.specs.After.{after}
+use Rattle.mst_net.specs.tables.declared.refusal.Refusal.{Refusal}
+use Rattle.mst_net.specs.tables.Tables.{Net}
+use Rattle.mst_net.specs.tables.After.{after}
 use Rattle.mst_changes.specs.declared.subject.Entry.{Entry}
 use Rattle.mst_report.specs.State.{State}
 use Rattle.mst_engine.specs.Script.{Serves, ServesRead, Loads, loading, unmarked, reading_at, edited, marked}

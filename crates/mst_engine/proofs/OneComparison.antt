@@ -5,7 +5,7 @@ use Rattle.mst_bpdu.specs.declared.bpdu.Bpdu.{Bpdu}
 use Rattle.mst_bpdu.specs.declared.difference.Difference.{Difference}
 use Rattle.mst_bpdu.specs.declared.fault.BpduFault.{BpduFault}
 use Rattle.mst_bpdu.specs.declared.fault.BpduFault.TheVariants.{B07}
-use Rattle.mst_net.specs.Tables.{Net, IsNetwork}
+use Rattle.mst_net.specs.tables.Tables.{Net, IsNetwork}
 use Rattle.mst_compare.specs.Comparison.{AreDifferences}
 use Rattle.mst_compare.specs.Sender.{sender_of}
 use Rattle.mst_report.specs.State.{State, IsState}

@@ -11,10 +11,10 @@ use Rattle.mst_lang.specs.declared.line.Version.{Version}
 use Rattle.mst_lang.specs.declared.line.Version.TheVariants.{V1, V2}
 use Rattle.mst_lang.specs.Ranges.{InRange}
 use Rattle.mst_lang.specs.Faults as fault
-use Rattle.mst_net.specs.declared.refusal.Refusal.{Refusal}
-use Rattle.mst_net.specs.Refusals as refusal
-use Rattle.mst_net.specs.Tables.{Net, IsNetwork, empty_net}
-use Rattle.mst_net.specs.After.{after}
+use Rattle.mst_net.specs.tables.declared.refusal.Refusal.{Refusal}
+use Rattle.mst_net.specs.tables.Refusals as refusal
+use Rattle.mst_net.specs.tables.Tables.{Net, IsNetwork, empty_net}
+use Rattle.mst_net.specs.tables.After.{after}
 use Rattle.mst_changes.specs.declared.subject.Entry.{Entry}
 use Rattle.mst_report.specs.Answers.{Answers}
 use Rattle.mst_report.specs.State.{State, IsState, IsMark, IsMarkNow, empty_state}

@@ -7,7 +7,7 @@ use Rattle.mst_lang.specs.declared.line.Fault.{Fault}
 use Rattle.mst_lang.specs.declared.line.Line.{Line}
 use Rattle.mst_lang.specs.declared.line.Line.TheVariants.{Blank, Mark, Edit as edit, Query as query}
 use Rattle.mst_lang.specs.declared.line.Version.TheVariants.{V1, V2}
-use Rattle.mst_net.specs.Tables.{Net}
+use Rattle.mst_net.specs.tables.Tables.{Net}
 use Rattle.mst_report.specs.State.{State, empty_state}
 use Rattle.mst_save.specs.SaveText.{Makes, Leave, Restores}
 use Rattle.mst_engine.specs.Script.{Serves, ServesRead, Runs, reading_at, version_said, edited}

@@ -4,8 +4,8 @@ use Rattle.mst_report.specs.State.{State}
 use Rattle.mst_report.specs.Planned.{planned_state}
 use Rattle.mst_lang.specs.Faults as fault
 use Rattle.mst_lang.specs.declared.line.Version.{Version}
-use Rattle.mst_net.specs.Refusals as refusal
-use Rattle.mst_net.specs.declared.refusal.Refusal.TheVariants.{E99}
+use Rattle.mst_net.specs.tables.Refusals as refusal
+use Rattle.mst_net.specs.tables.declared.refusal.Refusal.TheVariants.{E99}
 use Rattle.mst_bpdu.specs.CaptureText.{fault_row}
 use Rattle.mst_bpdu.specs.declared.fault.BpduFault.TheVariants.{B99}
 use Rattle.mst_engine.specs.Captures.{ServesCapture, Compares}

@@ -9,7 +9,7 @@ use Rattle.mst_topology.specs.Topology.{TreePort, Topology, IsTopology, HasBridg
 use Rattle.mst_topology.specs.Settled.{IsDesignatedVector, IsDesignated}
 use Rattle.mst_topology.proofs.Below.{one_speaker}
 use Rattle.mst_topology.proofs.Orders.{both}
-use Rattle.mst_net.specs.Tables.{Net, IsNetwork}
+use Rattle.mst_tables.specs.Tables.{Net, IsNetwork}
 use Rattle.mst_lag.specs.View.{LogicalPort, view_ports}
 use Rattle.mst_trees.specs.Sight.{Sight, tree_port, tree_of}
 use Rattle.mst_trees.specs.Outcome.{TreeOutcome, IsTreeOutcome}

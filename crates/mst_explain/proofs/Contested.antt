@@ -8,7 +8,7 @@ use Rattle.mst_ids.specs.declared.name.PortName.{PortName}
 use Rattle.mst_vector.specs.Rules.{Rules, IsMetric}
 use Rattle.mst_topology.specs.Topology.{Topology, IsTopology}
 use Rattle.mst_topology.specs.Settled.{Settled}
-use Rattle.mst_net.specs.Tables.{Net, Numbers}
+use Rattle.mst_tables.specs.Tables.{Net, Numbers}
 use Rattle.mst_lag.specs.View.{LogicalPort, view_ports}
 use Rattle.mst_lag.specs.Viewed.{Viewed, named_port}
 use Rattle.mst_lag.specs.declared.in_view.PortInView.{PortInView}

@@ -11,7 +11,7 @@ use Rattle.mst_vector.specs.Rules.{Rules, IsMetric}
 use Rattle.mst_topology.specs.Topology.{TreePort, Topology, IsTopology, HasBridge, HasPort}
 use Rattle.mst_topology.specs.Settled.{Designates, IsRootPathVector, IsDesignated}
 use Rattle.mst_topology.proofs.Below.{one_designated}
-use Rattle.mst_net.specs.Tables.{Net, Numbers}
+use Rattle.mst_tables.specs.Tables.{Net, Numbers}
 use Rattle.mst_lag.specs.Viewed.{Viewed, named_port}
 use Rattle.mst_lag.specs.declared.in_view.PortInView.{PortInView}
 use Rattle.mst_trees.specs.Sight.{Sight, tree_port, tree_of}

@@ -14,7 +14,7 @@ use Rattle.mst_vector.specs.declared.cist.CistVector.{CistVector}
 use Rattle.mst_vector.specs.declared.cist.CistBridge.{CistBridge}
 use Rattle.mst_vector.specs.declared.msti.MstiVector.{MstiVector}
 use Rattle.mst_vector.specs.declared.msti.MstiBridge.{MstiBridge}
-use Rattle.mst_net.specs.Tables.{Net, IsNetwork}
+use Rattle.mst_tables.specs.Tables.{Net, IsNetwork}
 use Rattle.mst_trees.specs.Cist.{cist_sight, cist_of}
 use Rattle.mst_trees.specs.Msti.{msti_sight, msti_of}
 use Rattle.mst_trees.specs.Outcome.{Outcome}

@@ -16,7 +16,7 @@ use Rattle.mst_topology.specs.Topology.{TreePort, Topology, IsTopology, HasBridg
 use Rattle.mst_topology.specs.Settled.{IsDesignatedVector, Designates, IsRootPathVector}
 use Rattle.mst_topology.proofs.Below.{one_message, one_speaker, one_designated}
 use Rattle.mst_topology.proofs.Orders.{both}
-use Rattle.mst_net.specs.Tables.{Net, IsNetwork}
+use Rattle.mst_tables.specs.Tables.{Net, IsNetwork}
 use Rattle.mst_lag.specs.View.{LogicalPort}
 use Rattle.mst_trees.specs.Cist.{cist_sight, cist_of}
 use Rattle.mst_trees.specs.Msti.{msti_sight, msti_of, is_internal}

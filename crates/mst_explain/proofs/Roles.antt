@@ -16,8 +16,8 @@ use Rattle.mst_topology.specs.Topology.{TreePort, Topology, IsTopology, HasBridg
 use Rattle.mst_topology.specs.Settled.{IsDesignatedVector, Designates, IsDesignated, IsVectorOf}
 use Rattle.mst_topology.proofs.Below.{one_speaker, one_designated}
 use Rattle.mst_topology.proofs.Orders.{both}
-use Rattle.mst_net.specs.Tables.{Net, IsNetwork, port_eq}
-use Rattle.mst_net.specs.ByTree.{by_tree}
+use Rattle.mst_tables.specs.Tables.{Net, IsNetwork, port_eq}
+use Rattle.mst_tables.specs.ByTree.{by_tree}
 use Rattle.mst_lag.specs.Aggregation.{same_name}
 use Rattle.mst_lag.specs.View.{LogicalPort, view_ports}
 use Rattle.mst_trees.specs.Sight.{Sight, tree_port, tree_of}

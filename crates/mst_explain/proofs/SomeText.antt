@@ -10,8 +10,8 @@ use Rattle.mst_vector.specs.CistLaws.{cist_lawful}
 use Rattle.mst_vector.specs.Msti.{msti_rules}
 use Rattle.mst_vector.specs.MstiLaws.{msti_lawful}
 use Rattle.mst_topology.specs.Topology.{Topology}
-use Rattle.mst_net.specs.Tables.{Net, IsNetwork}
-use Rattle.mst_net.specs.ByTree.{by_tree}
+use Rattle.mst_tables.specs.Tables.{Net, IsNetwork}
+use Rattle.mst_tables.specs.ByTree.{by_tree}
 use Rattle.mst_lag.specs.View.{LogicalPort, view_ports, is_on, is_up}
 use Rattle.mst_trees.specs.Sight.{Sight, tree_of}
 use Rattle.mst_trees.specs.Cist.{cist_port, cist_sight, cist_of}

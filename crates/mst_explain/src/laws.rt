@@ -8,7 +8,7 @@ ghost use Rattle.mst_vector.specs.declared.cist.CistVector.{CistVector as Cist};
 ghost use Rattle.mst_vector.specs.declared.cist.CistBridge.{CistBridge};
 ghost use Rattle.mst_vector.specs.declared.msti.MstiBridge.{MstiBridge};
 ghost use Rattle.mst_vector.specs.declared.msti.MstiVector.{MstiVector as Msti};
-ghost use Rattle.mst_net.specs.Tables.{Net, IsNetwork};
+ghost use Rattle.mst_tables.specs.Tables.{Net, IsNetwork};
 ghost use Rattle.mst_lag.specs.View.{LogicalPort, view_ports};
 ghost use Rattle.mst_trees.specs.Outcome.{Outcome, IsOutcome};
 ghost use Rattle.mst_trees.specs.Cist.{cist_of};

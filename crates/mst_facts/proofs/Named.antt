@@ -8,11 +8,11 @@ use Rattle.std.specs.FinMap.{get-entries}
 use Rattle.std.specs.FinMap.Entries as entries
 use Rattle.mst_ids.specs.Names.{name_cmp}
 use Rattle.mst_settle.specs.Assignment.{vector_of}
-use Rattle.mst_net.specs.Tables.{Net, Numbers, BridgeRow}
-use Rattle.mst_net.specs.ByTree.{by_tree}
-use Rattle.mst_net.specs.Seen.{bridge_row}
-use Rattle.mst_net.proofs.Keyed.{flipped}
-use Rattle.mst_net.proofs.Keys.{names}
+use Rattle.mst_tables.specs.Tables.{Net, Numbers, BridgeRow}
+use Rattle.mst_tables.specs.ByTree.{by_tree}
+use Rattle.mst_tables.specs.Seen.{bridge_row}
+use Rattle.mst_tables.proofs.Keyed.{flipped}
+use Rattle.mst_tables.proofs.Keys.{names}
 use Rattle.mst_lag.proofs.Lists.{find_same}
 use Rattle.mst_lag.specs.Aggregation.{same_name}
 use Rattle.mst_lag.specs.Trees.{is_among, mstis_of}

@@ -4,7 +4,7 @@ use Rattle.std.proofs.lemmas.Bool.{eqb-true}
 use Rattle.std.specs.Option.{option_map, option_or, unwrap_or}
 use Rattle.std.specs.Map.{lookup}
 use Rattle.std.specs.Cmp.Lexicographic.{pointwise}
-use Rattle.mst_net.specs.Tables.{Net}
+use Rattle.mst_net.specs.tables.Tables.{Net}
 use Rattle.mst_hints.specs.Puts.{Put, first_put, held_by, is_held, same_holder}
 use Rattle.mst_hints.specs.declared.puts.Holder.{Holder}
 use Rattle.mst_hints.specs.declared.puts.Holder.TheVariants.{AtMac, OnBridge, InLan}

@@ -10,10 +10,10 @@ use Rattle.mst_lang.specs.declared.line.Line.{Line}
 use Rattle.mst_lang.specs.declared.line.Line.TheVariants.{Blank, Mark, Edit as edit, Query as query}
 use Rattle.mst_lang.specs.declared.line.Query.TheVariants as queries
 use Rattle.mst_lang.specs.declared.line.TreeChange.TheVariants as trees
-use Rattle.mst_net.specs.After.{after, effect, first_of, has_bridge, refusals, refusal_of}
-use Rattle.mst_net.specs.Tables.{Net}
-use Rattle.mst_net.specs.declared.refusal.Refusal.{Refusal}
-use Rattle.mst_net.specs.declared.refusal.Refusal.TheVariants.{E04, E16}
+use Rattle.mst_net.specs.tables.After.{after, effect, first_of, has_bridge, refusals, refusal_of}
+use Rattle.mst_net.specs.tables.Tables.{Net}
+use Rattle.mst_net.specs.tables.declared.refusal.Refusal.{Refusal}
+use Rattle.mst_net.specs.tables.declared.refusal.Refusal.TheVariants.{E04, E16}
 use Rattle.mst_hints.specs.Puts.{Put}
 use Rattle.mst_hints.specs.Scripts.{Adding, after_line, refused_text}
 use Rattle.mst_hints.specs.Standing.{Making}

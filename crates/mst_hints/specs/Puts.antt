@@ -7,8 +7,8 @@ use Rattle.mst_ids.specs.declared.name.PortName.{PortName}
 use Rattle.mst_lang.specs.Arguments.{is_text}
 use Rattle.mst_lang.specs.declared.line.Edit.{Edit}
 use Rattle.mst_lang.specs.declared.line.Edit.TheVariants.{AddBridge, DelBridge, SetBridge, AddPort, DelPort, SetPort, AddLan, DelLan, SetLan, Plug as PlugIn, Unplug, SetByTree}
-use Rattle.mst_net.specs.After.{has_port}
-use Rattle.mst_net.specs.Tables.{Net}
+use Rattle.mst_net.specs.tables.After.{has_port}
+use Rattle.mst_net.specs.tables.Tables.{Net}
 use Rattle.mst_hints.specs.declared.record.Record.{Record}
 use Rattle.mst_hints.specs.declared.record.Record.TheVariants.{Bridge, Port}
 use Rattle.mst_hints.specs.declared.puts.Holder.{Holder}

@@ -14,9 +14,9 @@ use Rattle.mst_lang.specs.declared.line.Edit.TheVariants.{AddBridge, DelBridge, 
 use Rattle.mst_lang.specs.declared.line.Query.TheVariants.{ShowConfiguration}
 use Rattle.mst_lang.specs.declared.line.TreeChange.{TreeChange}
 use Rattle.mst_lang.specs.declared.line.TreeChange.TheVariants.{Priority, PortPriority, PortCost, Table, Vlans}
-use Rattle.mst_net.specs.Tables.{port_eq}
-use Rattle.mst_net.specs.declared.refusal.Refusal.{Refusal}
-use Rattle.mst_net.specs.declared.refusal.Refusal.TheVariants.{E04, E05, E06}
+use Rattle.mst_net.specs.tables.Tables.{port_eq}
+use Rattle.mst_net.specs.tables.declared.refusal.Refusal.{Refusal}
+use Rattle.mst_net.specs.tables.declared.refusal.Refusal.TheVariants.{E04, E05, E06}
 use Rattle.mst_hints.specs.Hints.{near_alone}
 use Rattle.mst_hints.specs.declared.record.Record.{Record}
 use Rattle.mst_hints.specs.declared.record.Record.TheVariants.{Bridge, Port, Lan, Plug}

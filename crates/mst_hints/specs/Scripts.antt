@@ -10,10 +10,10 @@ use Rattle.mst_lang.specs.declared.line.Line.TheVariants.{Blank, Mark, Edit as e
 use Rattle.mst_lang.specs.declared.line.Query.TheVariants.{Changes, ShowConfiguration}
 use Rattle.mst_lang.specs.declared.line.Version.{Version}
 use Rattle.mst_lang.specs.declared.line.Version.TheVariants.{V1, V2}
-use Rattle.mst_net.specs.After.{after, has_bridge}
-use Rattle.mst_net.specs.Tables.{Net, empty_net}
-use Rattle.mst_net.specs.declared.refusal.Refusal.{Refusal}
-use Rattle.mst_net.specs.declared.refusal.Refusal.TheVariants.{E04, E16}
+use Rattle.mst_net.specs.tables.After.{after, has_bridge}
+use Rattle.mst_net.specs.tables.Tables.{Net, empty_net}
+use Rattle.mst_net.specs.tables.declared.refusal.Refusal.{Refusal}
+use Rattle.mst_net.specs.tables.declared.refusal.Refusal.TheVariants.{E04, E16}
 use Rattle.mst_hints.specs.Hints.{hint_of, hint_line}
 use Rattle.mst_hints.specs.Records.{missing_of, added_of, made_by, same_record}
 use Rattle.mst_hints.specs.Puts.{Put, put_by, with_put}

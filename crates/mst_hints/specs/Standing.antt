@@ -9,9 +9,9 @@ use Rattle.mst_lang.specs.declared.line.Edit.TheVariants.{AddBridge}
 use Rattle.mst_lang.specs.declared.line.Line.{Line}
 use Rattle.mst_lang.specs.declared.line.Line.TheVariants.{Edit as edit, Query as query}
 use Rattle.mst_lang.specs.declared.line.Query.TheVariants.{Changes}
-use Rattle.mst_net.specs.Tables.{Net}
-use Rattle.mst_net.specs.declared.refusal.Refusal.{Refusal}
-use Rattle.mst_net.specs.declared.refusal.Refusal.TheVariants.{E07, E08, E09, E10, E11, E12, E13, E14, E15, E16}
+use Rattle.mst_net.specs.tables.Tables.{Net}
+use Rattle.mst_net.specs.tables.declared.refusal.Refusal.{Refusal}
+use Rattle.mst_net.specs.tables.declared.refusal.Refusal.TheVariants.{E07, E08, E09, E10, E11, E12, E13, E14, E15, E16}
 use Rattle.mst_hints.specs.Records.{bridge_for, lan_for, made_by, port_for, same_record}
 use Rattle.mst_hints.specs.Puts.{Put, held_by, lan_of}
 use Rattle.mst_hints.specs.declared.puts.Holder.TheVariants.{AtMac, InLan, OnBridge}

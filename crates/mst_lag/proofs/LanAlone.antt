@@ -5,13 +5,13 @@ use Rattle.std.specs.Option.{option_map, option_map_or}
 use Rattle.std.specs.FinMap as fin
 use Rattle.mst_lang.specs.declared.line.Edit.TheVariants.{SetLan}
 use Rattle.mst_lang.specs.declared.line.LanChange.{LanChange}
-use Rattle.mst_net.specs.Tables.{Net, Numbers, LanRow}
-use Rattle.mst_net.specs.After.{after, change as changed, effect, lan_with, refusal_of}
-use Rattle.mst_net.specs.Contents.{Contents, Commits, numbers_after}
-use Rattle.mst_net.specs.declared.refusal.Refusal.{Refusal}
-use Rattle.mst_net.proofs.Changed.{get_changed}
-use Rattle.mst_net.proofs.Keys.{names}
-use Rattle.mst_net.proofs.NamesInOrder.{names_stay}
+use Rattle.mst_tables.specs.Tables.{Net, Numbers, LanRow}
+use Rattle.mst_tables.specs.After.{after, change as changed, effect, lan_with, refusal_of}
+use Rattle.mst_tables.specs.Contents.{Contents, Commits, numbers_after}
+use Rattle.mst_tables.specs.declared.refusal.Refusal.{Refusal}
+use Rattle.mst_tables.proofs.Changed.{get_changed}
+use Rattle.mst_tables.proofs.Keys.{names}
+use Rattle.mst_tables.proofs.NamesInOrder.{names_stay}
 use Rattle.mst_lag.specs.Aggregation.{same_name}
 use Rattle.mst_lag.specs.Viewed.{Viewed, IsView}
 use Rattle.mst_lag.specs.Renewed.{DifferInLan, IsViewButLan}

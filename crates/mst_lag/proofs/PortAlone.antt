@@ -7,13 +7,13 @@ use Rattle.mst_ids.specs.declared.name.PortName.{PortName}
 use Rattle.mst_lang.specs.declared.line.Edit.TheVariants.{SetPort}
 use Rattle.mst_lang.specs.declared.line.PortChange.{PortChange}
 use Rattle.mst_lang.specs.declared.line.PortChange.TheVariants.{Key, PathCost, RestrictedRole}
-use Rattle.mst_net.specs.Tables.{Net, Numbers, PortRow, IsNetwork, port_eq}
-use Rattle.mst_net.specs.After.{after, change as changed, effect, port_with, refusal_of}
-use Rattle.mst_net.specs.Contents.{Contents, Commits, IsNumbered}
-use Rattle.mst_net.specs.declared.refusal.Refusal.{Refusal}
-use Rattle.mst_net.proofs.Changed.{get_changed}
-use Rattle.mst_net.proofs.Keys.{ports}
-use Rattle.mst_net.proofs.NamesInOrder.{names_stay}
+use Rattle.mst_tables.specs.Tables.{Net, Numbers, PortRow, IsNetwork, port_eq}
+use Rattle.mst_tables.specs.After.{after, change as changed, effect, port_with, refusal_of}
+use Rattle.mst_tables.specs.Contents.{Contents, Commits, IsNumbered}
+use Rattle.mst_tables.specs.declared.refusal.Refusal.{Refusal}
+use Rattle.mst_tables.proofs.Changed.{get_changed}
+use Rattle.mst_tables.proofs.Keys.{ports}
+use Rattle.mst_tables.proofs.NamesInOrder.{names_stay}
 use Rattle.mst_lag.specs.Viewed.{Viewed, IsView}
 use Rattle.mst_lag.specs.Renewed.{port_part, leaves_key, IsViewButPort}
 

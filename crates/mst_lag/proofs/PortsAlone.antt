@@ -8,10 +8,10 @@ use Rattle.mst_ids.specs.declared.name.PortName.{PortName}
 use Rattle.mst_lang.specs.declared.line.Edit.{Edit}
 use Rattle.mst_lang.specs.declared.line.Edit.TheVariants.{SetPort, Plug, Unplug}
 use Rattle.mst_lang.specs.declared.line.PortChange.{PortChange}
-use Rattle.mst_net.specs.Tables.{Net, Numbers, PortRow}
-use Rattle.mst_net.specs.After.{after, change as changed, effect, in_lan, port_with, refusal_of}
-use Rattle.mst_net.specs.Contents.{Contents, Commits}
-use Rattle.mst_net.specs.declared.refusal.Refusal.{Refusal}
+use Rattle.mst_tables.specs.Tables.{Net, Numbers, PortRow}
+use Rattle.mst_tables.specs.After.{after, change as changed, effect, in_lan, port_with, refusal_of}
+use Rattle.mst_tables.specs.Contents.{Contents, Commits}
+use Rattle.mst_tables.specs.declared.refusal.Refusal.{Refusal}
 use Rattle.mst_lag.specs.Viewed.{Viewed, AreLinks, IsView}
 use Rattle.mst_lag.specs.Renewed.{IsViewButPorts}
 use Rattle.mst_lag.specs.declared.viewed.Links.{Links}

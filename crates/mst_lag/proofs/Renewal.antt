@@ -8,8 +8,8 @@ use Rattle.std.proofs.lemmas.List.{length-map}
 use Rattle.std.specs.FinMap as fin
 use Rattle.std.specs.FinMap.{contains_key-keys, len-entries}
 use Rattle.mst_ids.specs.Names.{name_cmp}
-use Rattle.mst_net.specs.Tables.{Net, Numbers, LanRow, IsNetwork, port_eq}
-use Rattle.mst_net.specs.Contents.{IsNumbered}
+use Rattle.mst_tables.specs.Tables.{Net, Numbers, LanRow, IsNetwork, port_eq}
+use Rattle.mst_tables.specs.Contents.{IsNumbered}
 use Rattle.mst_lag.specs.Aggregation.{Plug, plugs, same_name, lans_as_one}
 use Rattle.mst_lag.specs.Lag.{lag_of}
 use Rattle.mst_lag.specs.View.{LogicalLan, LogicalPort, logical_lan, logical_port, members, up_members, is_up, speed, is_on, as_lan, as_port, view_lans, view_ports}

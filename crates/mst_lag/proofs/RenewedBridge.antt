@@ -9,8 +9,8 @@ use Rattle.std.proofs.lemmas.List.Sums.{sum_by-cons}
 use Rattle.std.specs.FinMap as fin
 use Rattle.std.specs.FinMap.{contains_key-keys}
 use Rattle.mst_ids.specs.Names.{name_cmp}
-use Rattle.mst_net.specs.Tables.{Net, Numbers, BridgeRow, LanRow, IsNetwork, port_eq}
-use Rattle.mst_net.specs.Seen.{bridge_row}
+use Rattle.mst_tables.specs.Tables.{Net, Numbers, BridgeRow, LanRow, IsNetwork, port_eq}
+use Rattle.mst_tables.specs.Seen.{bridge_row}
 use Rattle.mst_lag.specs.Aggregation.{Plug, Side, plugs, same_name, sides}
 use Rattle.mst_lag.specs.Lag.{lag_of, lag_between, end_of}
 use Rattle.mst_lag.specs.Trees.{mstis_of}

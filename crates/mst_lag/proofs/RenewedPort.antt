@@ -7,10 +7,10 @@ use Rattle.std.specs.FinMap as fin
 use Rattle.std.specs.FinMap.{contains_key-keys}
 use Rattle.mst_ids.specs.Names.{port_cmp}
 use Rattle.mst_ids.specs.declared.name.PortName.{PortName}
-use Rattle.mst_net.specs.Tables.{Net, Numbers, PortRow, LanRow, IsNetwork, port_eq}
-use Rattle.mst_net.specs.declared.settings.PortSettings.{PortSettings}
-use Rattle.mst_net.specs.After.{new_settings}
-use Rattle.mst_net.specs.Contents.{IsNumbered}
+use Rattle.mst_tables.specs.Tables.{Net, Numbers, PortRow, LanRow, IsNetwork, port_eq}
+use Rattle.mst_tables.specs.declared.settings.PortSettings.{PortSettings}
+use Rattle.mst_tables.specs.After.{new_settings}
+use Rattle.mst_tables.specs.Contents.{IsNumbered}
 use Rattle.mst_lag.specs.Aggregation.{Plug, Side, plug_of, plugs, plugs_in, same_name, same_sides, sides_of, sides, lans_as_one, ports_as_one}
 use Rattle.mst_lag.specs.Lag.{lag_of, lag_between, end_of}
 use Rattle.mst_lag.specs.View.{LogicalPort, logical_lan, logical_port, is_up, speed, is_on, as_port, view_lans, view_ports}

@@ -10,9 +10,9 @@ use Rattle.std.proofs.lemmas.List.Folds.{list_any_at, list_any_none}
 use Rattle.std.proofs.lemmas.List.Elements.{All-from_get_or}
 use Rattle.std.proofs.lemmas.Bool.{eq-eqb, cases_lt}
 use Rattle.std.proofs.lemmas.Bool.Decides.{eqb_tells}
-use Rattle.mst_net.specs.Table.{has_tree, mstis_in}
-use Rattle.mst_net.specs.After.{table_of}
-use Rattle.mst_net.specs.Tables.{Net, BridgeRow}
+use Rattle.mst_tables.specs.Table.{has_tree, mstis_in}
+use Rattle.mst_tables.specs.After.{table_of}
+use Rattle.mst_tables.specs.Tables.{Net, BridgeRow}
 use Rattle.mst_lag.specs.Trees.{mstis_of, is_among}
 
 range_rises : (a n : ℕ) → IsNonDecreasingBy (λ t. t) (range_with_len a n)

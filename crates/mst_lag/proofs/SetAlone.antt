@@ -5,13 +5,13 @@ use Rattle.std.specs.Option.{option_map_or}
 use Rattle.mst_lang.specs.declared.line.Edit.TheVariants.{SetByTree}
 use Rattle.mst_lang.specs.declared.line.TreeChange.{TreeChange}
 use Rattle.mst_lang.specs.declared.line.TreeChange.TheVariants.{Priority, PortPriority, PortCost, Table, Vlans}
-use Rattle.mst_net.specs.ByTree.{ByTree, by_tree, with_by_tree, table_in}
-use Rattle.mst_net.specs.Seen.{bridge_row}
-use Rattle.mst_net.specs.Table.{mstis_in}
-use Rattle.mst_net.specs.Tables.{Net, Numbers}
-use Rattle.mst_net.specs.After.{after, effect, set_with, refusal_of}
-use Rattle.mst_net.specs.Contents.{Contents, Commits}
-use Rattle.mst_net.specs.declared.refusal.Refusal.{Refusal}
+use Rattle.mst_tables.specs.ByTree.{ByTree, by_tree, with_by_tree, table_in}
+use Rattle.mst_tables.specs.Seen.{bridge_row}
+use Rattle.mst_tables.specs.Table.{mstis_in}
+use Rattle.mst_tables.specs.Tables.{Net, Numbers}
+use Rattle.mst_tables.specs.After.{after, effect, set_with, refusal_of}
+use Rattle.mst_tables.specs.Contents.{Contents, Commits}
+use Rattle.mst_tables.specs.declared.refusal.Refusal.{Refusal}
 use Rattle.mst_lag.specs.Viewed.{Viewed, IsView, bridge_trees}
 use Rattle.mst_lag.specs.Renewed.{IsViewButSet, IsViewButSettings, leaves_tables}
 use Rattle.mst_lag.specs.declared.in_view.BridgeInView.{BridgeInView}

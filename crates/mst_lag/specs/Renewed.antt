@@ -9,13 +9,13 @@ use Rattle.mst_lang.specs.declared.line.BridgeChange.{BridgeChange}
 use Rattle.mst_lang.specs.declared.line.BridgeChange.TheVariants.{Power, Kind, SystemPriority, Configuration, MaxHops, MaxAge}
 use Rattle.mst_lang.specs.declared.line.TreeChange.{TreeChange}
 use Rattle.mst_lang.specs.declared.line.TreeChange.TheVariants.{Priority, PortPriority, PortCost, Table, Vlans}
-use Rattle.mst_net.specs.ByTree.{ByTree, with_by_tree}
+use Rattle.mst_tables.specs.ByTree.{ByTree, with_by_tree}
 use Rattle.mst_lang.specs.declared.line.PortChange.{PortChange}
 use Rattle.mst_lang.specs.declared.line.PortChange.TheVariants.{Key, PathCost, RestrictedRole}
-use Rattle.mst_net.specs.After.{new_settings}
-use Rattle.mst_net.specs.Contents.{IsNumbered}
-use Rattle.mst_net.specs.declared.settings.PortSettings.{PortSettings}
-use Rattle.mst_net.specs.Tables.{Net, Numbers, BridgeRow, PortRow, LanRow, IsNetwork, port_eq}
+use Rattle.mst_tables.specs.After.{new_settings}
+use Rattle.mst_tables.specs.Contents.{IsNumbered}
+use Rattle.mst_tables.specs.declared.settings.PortSettings.{PortSettings}
+use Rattle.mst_tables.specs.Tables.{Net, Numbers, BridgeRow, PortRow, LanRow, IsNetwork, port_eq}
 use Rattle.mst_lag.specs.Aggregation.{same_name}
 use Rattle.mst_lag.specs.View.{is_on}
 use Rattle.mst_lag.specs.Viewed.{Viewed, IsView}

@@ -1,9 +1,9 @@
 -- Which trees a bridge has.
 use Rattle.std.specs.Prelude.{ℕ, ◌==◌, Bool, List, [], if◌then◌else◌}
 use Rattle.std.specs.List.{list_any}
-use Rattle.mst_net.specs.Table.{mstis_in}
-use Rattle.mst_net.specs.Tables.{Net, BridgeRow}
-use Rattle.mst_net.specs.After.{table_of}
+use Rattle.mst_tables.specs.Table.{mstis_in}
+use Rattle.mst_tables.specs.Tables.{Net, BridgeRow}
+use Rattle.mst_tables.specs.After.{table_of}
 
 -- the trees that a bridge has beside tree 0, the CIST, in rising order: a bridge of kind mstp has those that its
 -- table maps some VID to, and one of kind rstp none

@@ -6,9 +6,9 @@ ghost use Rattle.mst_lang.specs.declared.line.LanChange.{LanChange};
 ghost use Rattle.mst_ids.specs.declared.name.PortName.{PortName};
 ghost use Rattle.mst_lang.specs.declared.line.PortChange.{PortChange};
 ghost use Rattle.mst_lang.specs.declared.line.TreeChange.{TreeChange};
-ghost use Rattle.mst_net.specs.Tables.{Net, Numbers, IsNetwork};
-ghost use Rattle.mst_net.specs.After.{effect};
-ghost use Rattle.mst_net.specs.Contents.{Contents, Commits, IsNumbered};
+ghost use Rattle.mst_tables.specs.Tables.{Net, Numbers, IsNetwork};
+ghost use Rattle.mst_tables.specs.After.{effect};
+ghost use Rattle.mst_tables.specs.Contents.{Contents, Commits, IsNumbered};
 ghost use Rattle.mst_lag.specs.Viewed.{Viewed, IsView};
 ghost use Rattle.mst_lag.specs.Renewed.{IsViewButLan, IsViewButBridge, IsViewButSet, IsViewButSettings, leaves_links, leaves_tables, leaves_key, IsViewButPort, IsViewButPorts};
 

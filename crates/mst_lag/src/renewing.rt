@@ -14,7 +14,7 @@ use crate::members::{LanSeen, Total, total_at, totals};
 use crate::viewed::{Links, links_now, listed_bridges, listed_trees};
 use mst_ids::{Name, PortName};
 use mst_lang::{BridgeChange, LanState, PortChange, TreeChange};
-use mst_net::{Contents, PortSettings};
+use mst_tables::{Contents, PortSettings};
 use std::alloc::{AllocError, Global};
 
 /// The member of this name.

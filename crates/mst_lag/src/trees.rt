@@ -1,13 +1,13 @@
 ghost use Rattle.std.specs.Prelude.{◌≡◌, IfOk, map};
 ghost use Rattle.std.specs.List.Sorted.{IsNonDecreasingBy};
-ghost use Rattle.mst_net.specs.Seen.{bridge_row};
+ghost use Rattle.mst_tables.specs.Seen.{bridge_row};
 ghost use Rattle.mst_lag.specs.Trees.{mstis_of, is_among};
 ghost use Rattle.mst_lag.specs.Viewed.{bridge_trees};
 
 use crate::in_view::BridgeInView;
 use mst_ids::{BridgeNo, Tree};
 use mst_lang::Kind;
-use mst_net::Contents;
+use mst_tables::Contents;
 use std::alloc::{AllocError, Global};
 use std::marker::Model;
 

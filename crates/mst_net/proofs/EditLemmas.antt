@@ -15,22 +15,22 @@ use Rattle.mst_lang.specs.declared.line.BridgeChange.{BridgeChange}
 use Rattle.mst_lang.specs.declared.line.PortChange.{PortChange}
 use Rattle.mst_lang.specs.declared.line.LanChange.{LanChange}
 use Rattle.mst_lang.specs.declared.line.TreeChange.{TreeChange}
-use Rattle.mst_net.specs.Tables.{Net, IsNetwork, BridgeRow, PortRow, LanRow, port_eq}
-use Rattle.mst_net.specs.After.{has_bridge, has_port, has_lan, mac_taken, is_of_bridge, is_in_lan, effect, new_bridge, new_port, new_lan, bridge_with, port_with, lan_with, in_lan, change}
-use Rattle.mst_net.specs.Contents.{CanCommit, Makes}
-use Rattle.mst_net.specs.Counting.{count_where}
+use Rattle.mst_tables.specs.Tables.{Net, IsNetwork, BridgeRow, PortRow, LanRow, port_eq}
+use Rattle.mst_tables.specs.After.{has_bridge, has_port, has_lan, mac_taken, is_of_bridge, is_in_lan, effect, new_bridge, new_port, new_lan, bridge_with, port_with, lan_with, in_lan, change}
+use Rattle.mst_tables.specs.Contents.{CanCommit, Makes}
+use Rattle.mst_tables.specs.Counting.{count_where}
 use Rattle.mst_records.specs.Rows.{IsNumberedBy}
-use Rattle.mst_net.specs.ByTree.{with_by_tree}
-use Rattle.mst_net.specs.SettingsAfter.{set_after}
+use Rattle.mst_tables.specs.ByTree.{with_by_tree}
+use Rattle.mst_tables.specs.SettingsAfter.{set_after}
 use Rattle.mst_records.specs.Tally.{count_in}
 use Rattle.mst_net.specs.NetworkKept.{contents_of, IsSound}
 use Rattle.mst_net.specs.declared.network.Network.TheInside.{Inside}
-use Rattle.mst_net.proofs.Somes.{some_is}
-use Rattle.mst_net.proofs.Keyed.{same_keys, flipped, contains_keyed, set_keyed, removed_keyed, any_added, any_set, any_value}
-use Rattle.mst_net.proofs.Keys.{name_eq, names, ports}
-use Rattle.mst_net.proofs.Changed.{itself, changed_is, any_changed, left_of, other_left, value_found}
-use Rattle.mst_net.proofs.Counting.{count_added, count_removed, count_set, count_le}
-use Rattle.mst_net.proofs.AfterLemmas.{effect_is_network, bridge_kept, bridge_there, port_there, lan_there, bridge_addable, bridge_deletable, port_addable, port_deletable, port_pluggable, lan_addable, lan_deletable}
+use Rattle.mst_tables.proofs.Somes.{some_is}
+use Rattle.mst_tables.proofs.Keyed.{same_keys, flipped, contains_keyed, set_keyed, removed_keyed, any_added, any_set, any_value}
+use Rattle.mst_tables.proofs.Keys.{name_eq, names, ports}
+use Rattle.mst_tables.proofs.Changed.{itself, changed_is, any_changed, left_of, other_left, value_found}
+use Rattle.mst_tables.proofs.Counting.{count_added, count_removed, count_set, count_le}
+use Rattle.mst_tables.proofs.AfterLemmas.{effect_is_network, bridge_kept, bridge_there, port_there, lan_there, bridge_addable, bridge_deletable, port_addable, port_deletable, port_pluggable, lan_addable, lan_deletable}
 
 pub absent : {X : Type 0} (o : Option X) → is_some o ≡ false → o ≡ None
 absent None e = refl

@@ -12,17 +12,17 @@ use Rattle.mst_ids.specs.declared.name.PortName.{PortName}
 use Rattle.mst_lang.specs.declared.line.Edit.{Edit}
 use Rattle.mst_lang.specs.declared.line.Edit.TheVariants.{AddBridge, DelBridge, SetBridge, AddPort, DelPort, SetPort, AddLan, DelLan, SetLan, Plug, Unplug, SetByTree}
 use Rattle.mst_lang.specs.declared.line.TreeChange.TheVariants.{Priority, PortPriority, PortCost, Table, Vlans}
-use Rattle.mst_net.specs.Table.{no_table, mapped}
-use Rattle.mst_net.specs.Tables.{Net, Numbers, port_eq, bridge_tree_eq, port_tree_eq}
-use Rattle.mst_net.specs.After.{effect, refusal_of, own_priority, own_table, own_vlans, all_vids, table_of, vlans_of, new_bridge, new_port, new_lan, bridge_with, port_with, lan_with, in_lan}
-use Rattle.mst_net.specs.Contents.{PerKind, IsNumbered, numbers_after, priority_of, port_priority_of, port_cost_of}
+use Rattle.mst_tables.specs.Table.{no_table, mapped}
+use Rattle.mst_tables.specs.Tables.{Net, Numbers, port_eq, bridge_tree_eq, port_tree_eq}
+use Rattle.mst_tables.specs.After.{effect, refusal_of, own_priority, own_table, own_vlans, all_vids, table_of, vlans_of, new_bridge, new_port, new_lan, bridge_with, port_with, lan_with, in_lan}
+use Rattle.mst_tables.specs.Contents.{PerKind, IsNumbered, numbers_after, priority_of, port_priority_of, port_cost_of}
 use Rattle.mst_net.specs.Foreseen.{bridge_row_after, port_row_after, lan_row_after, bridge_number_after, port_number_after, lan_number_after, priority_after, port_priority_after, port_cost_after, table_after, vlans_after, without, bridge_name_after, port_name_after, lan_name_after}
-use Rattle.mst_net.proofs.Somes.{some_is, no_some}
-use Rattle.mst_net.proofs.Keyed.{IsKeyed, same_keys, after_insert, get_inserted, get_removed, get_kept}
-use Rattle.mst_net.proofs.AfterLemmas.{bridge_addable, port_addable, lan_addable}
-use Rattle.mst_net.proofs.Keys.{name_eq, names, ports, bridge_trees, port_trees}
-use Rattle.mst_net.proofs.Changed.{itself, get_changed, get_without, left_of, other_left}
-use Rattle.mst_net.proofs.TableFits.{same_flags, default_mapped}
+use Rattle.mst_tables.proofs.Somes.{some_is, no_some}
+use Rattle.mst_tables.proofs.Keyed.{IsKeyed, same_keys, after_insert, get_inserted, get_removed, get_kept}
+use Rattle.mst_tables.proofs.AfterLemmas.{bridge_addable, port_addable, lan_addable}
+use Rattle.mst_tables.proofs.Keys.{name_eq, names, ports, bridge_trees, port_trees}
+use Rattle.mst_tables.proofs.Changed.{itself, get_changed, get_without, left_of, other_left}
+use Rattle.mst_tables.proofs.TableFits.{same_flags, default_mapped}
 
 -- ---- what is kept of a setting, seen again
 own_seen : (priority : ℕ) (t : Bool) (o : Option ℕ) → unwrap_or (cond t (own_priority priority) o) 8 ≡ cond t priority (unwrap_or o 8)

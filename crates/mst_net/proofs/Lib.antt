@@ -1,21 +1,7 @@
-pub mod Somes
-pub mod Keyed
-pub mod Keys
-pub mod Counting
-pub mod Changed
-pub mod TableLemmas
-pub mod Rising
-pub mod TableFits
-pub mod TablesCounted
-pub mod SetByTree
-pub mod MarkedLemmas
-pub mod AfterLemmas
+pub use Rattle.mst_tables.proofs as tables_lemmas
 pub mod StandingLemmas
 pub mod SoundLemmas
-pub mod SettingsLemmas
 pub mod EditLemmas
 pub mod ForeseenLemmas
-pub mod NamesInOrder
 pub mod NumbersAfter
 pub mod NamesAfter
-pub mod TreesListed

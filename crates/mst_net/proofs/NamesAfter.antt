@@ -4,10 +4,10 @@ use Rattle.std.specs.FinMap as fin
 use Rattle.mst_ids.specs.declared.name.PortName.{PortName}
 use Rattle.mst_lang.specs.declared.line.Edit.{Edit}
 use Rattle.mst_lang.specs.declared.line.Edit.TheVariants.{AddBridge, DelBridge, SetBridge, AddPort, DelPort, SetPort, AddLan, DelLan, SetLan, Plug, Unplug, SetByTree}
-use Rattle.mst_net.specs.Tables.{Net}
-use Rattle.mst_net.specs.After.{effect, bridge_with, port_with, lan_with, in_lan}
-use Rattle.mst_net.proofs.Keys.{names, ports}
-use Rattle.mst_net.proofs.NamesInOrder.{names_stay}
+use Rattle.mst_tables.specs.Tables.{Net}
+use Rattle.mst_tables.specs.After.{effect, bridge_with, port_with, lan_with, in_lan}
+use Rattle.mst_tables.proofs.Keys.{names, ports}
+use Rattle.mst_tables.proofs.NamesInOrder.{names_stay}
 
 pub bridge_names_stay : (e : Edit) (net : Net) → ((bridge : List ℕ) (mac : ℕ) → e ≡ AddBridge bridge mac → ⊥) → ((bridge : List ℕ) → e ≡ DelBridge bridge → ⊥) → fin.keys net.bridges ≡ fin.keys (effect e net).bridges
 bridge_names_stay (AddBridge bridge mac) net added gone = absurd (added bridge mac refl)

@@ -7,12 +7,12 @@ use Rattle.mst_ids.specs.Names.{name_cmp, port_cmp}
 use Rattle.mst_ids.specs.declared.name.PortName.{PortName}
 use Rattle.mst_lang.specs.declared.line.Edit.{Edit}
 use Rattle.mst_lang.specs.declared.line.Edit.TheVariants.{AddBridge, DelBridge, SetBridge, AddPort, DelPort, SetPort, AddLan, DelLan, SetLan, Plug, Unplug, SetByTree}
-use Rattle.mst_net.specs.Tables.{Net, Numbers}
-use Rattle.mst_net.specs.After.{effect, new_bridge, new_port, new_lan, bridge_with, port_with, lan_with, in_lan}
-use Rattle.mst_net.specs.Contents.{PerKind, IsNumbered, numbers_after}
-use Rattle.mst_net.proofs.Keyed.{IsKeyed, get_inserted, get_removed, after_insert}
-use Rattle.mst_net.proofs.Keys.{names, ports}
-use Rattle.mst_net.proofs.Changed.{contains_changed, left_of}
+use Rattle.mst_tables.specs.Tables.{Net, Numbers}
+use Rattle.mst_tables.specs.After.{effect, new_bridge, new_port, new_lan, bridge_with, port_with, lan_with, in_lan}
+use Rattle.mst_tables.specs.Contents.{PerKind, IsNumbered, numbers_after}
+use Rattle.mst_tables.proofs.Keyed.{IsKeyed, get_inserted, get_removed, after_insert}
+use Rattle.mst_tables.proofs.Keys.{names, ports}
+use Rattle.mst_tables.proofs.Changed.{contains_changed, left_of}
 
 -- no two keys have the same number
 abbrev Differ : {K : Type 0} {R : K → K → Ordering} → FinMap R ℕ → Type 0

@@ -5,19 +5,19 @@ use Rattle.std.specs.FinMap as fin
 use Rattle.std.specs.FinMap.{len-entries, len-empty, entries}
 use Rattle.std.specs.Map.{values_of}
 use Rattle.mst_ids.specs.Names.{name_cmp}
-use Rattle.mst_net.specs.Tables.{Net, IsNetwork, BridgeRow, port_eq, empty_net}
-use Rattle.mst_net.specs.After.{mac_taken, is_of_bridge, is_in_lan}
-use Rattle.mst_net.specs.Contents.{IsNumbered}
-use Rattle.mst_net.specs.Counting.{count_where}
+use Rattle.mst_tables.specs.Tables.{Net, IsNetwork, BridgeRow, port_eq, empty_net}
+use Rattle.mst_tables.specs.After.{mac_taken, is_of_bridge, is_in_lan}
+use Rattle.mst_tables.specs.Contents.{IsNumbered}
+use Rattle.mst_tables.specs.Counting.{count_where}
 use Rattle.mst_records.specs.Rows.{IsNumberedBy}
-use Rattle.mst_net.specs.ByTree.{nothing_set}
+use Rattle.mst_tables.specs.ByTree.{nothing_set}
 use Rattle.mst_records.specs.Tally.{count_in}
-use Rattle.mst_net.proofs.Counting.{count_empty}
+use Rattle.mst_tables.proofs.Counting.{count_empty}
 use Rattle.mst_net.specs.NetworkKept.{contents_of, IsSound}
 use Rattle.mst_net.specs.declared.network.Network.TheInside.{Inside}
-use Rattle.mst_net.proofs.Keyed.{get_keyed, contains_keyed, same_keys}
-use Rattle.mst_net.proofs.Keys.{name_eq, names, ports}
-use Rattle.mst_net.proofs.AfterLemmas.{no_network}
+use Rattle.mst_tables.proofs.Keyed.{get_keyed, contains_keyed, same_keys}
+use Rattle.mst_tables.proofs.Keys.{name_eq, names, ports}
+use Rattle.mst_tables.proofs.AfterLemmas.{no_network}
 
 no_length : {A : Type 0} (es : List A) → length es ≡ 0 → es ≡ []
 no_length [] e = refl

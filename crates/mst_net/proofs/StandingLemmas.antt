@@ -13,12 +13,12 @@ use Rattle.mst_ids.specs.declared.name.PortName.{PortName}
 use Rattle.mst_lang.specs.declared.line.Edit.{Edit}
 use Rattle.mst_lang.specs.declared.line.Edit.TheVariants.{AddBridge, DelBridge, SetBridge, AddPort, DelPort, SetPort, AddLan, DelLan, SetLan, Plug, Unplug, SetByTree}
 use Rattle.mst_lang.specs.declared.line.TreeChange.TheVariants.{Priority, PortPriority, PortCost, Table, Vlans}
-use Rattle.mst_net.specs.Table.{no_table, mapped}
-use Rattle.mst_net.specs.Tables.{Net, IsNetwork, BridgeRow, PortRow, LanRow, BridgeTree, PortTree}
-use Rattle.mst_net.specs.After.{effect, all_vids, table_of, change, change_bridge, change_port, change_lan, keep, own_priority, own_table, own_vlans, bridge_with, port_with, lan_with}
+use Rattle.mst_tables.specs.Table.{no_table, mapped}
+use Rattle.mst_tables.specs.Tables.{Net, IsNetwork, BridgeRow, PortRow, LanRow, BridgeTree, PortTree}
+use Rattle.mst_tables.specs.After.{effect, all_vids, table_of, change, change_bridge, change_port, change_lan, keep, own_priority, own_table, own_vlans, bridge_with, port_with, lan_with}
 use Rattle.mst_net.specs.Standing.{Stands}
-use Rattle.mst_net.proofs.Keyed.{IsKeyed, same_keys, get_kept}
-use Rattle.mst_net.proofs.Keys.{names, ports, bridge_trees, port_trees}
+use Rattle.mst_tables.proofs.Keyed.{IsKeyed, same_keys, get_kept}
+use Rattle.mst_tables.proofs.Keys.{names, ports, bridge_trees, port_trees}
 
 -- ---- tables
 module _ {K X : Type 0} {E : K → K → Bool} {R : K → K → Ordering} (keyed : IsKeyed E R) where

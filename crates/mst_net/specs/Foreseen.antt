@@ -6,9 +6,9 @@ use Rattle.mst_ids.specs.declared.name.PortName.{PortName}
 use Rattle.mst_lang.specs.declared.line.Edit.{Edit}
 use Rattle.mst_lang.specs.declared.line.Edit.TheVariants.{AddBridge, DelBridge, SetBridge, AddPort, DelPort, SetPort, AddLan, DelLan, SetLan, Plug, Unplug, SetByTree}
 use Rattle.mst_lang.specs.declared.line.TreeChange.TheVariants.{Priority, PortPriority, PortCost, Table, Vlans}
-use Rattle.mst_net.specs.Table.{no_table, mapped}
-use Rattle.mst_net.specs.Tables.{BridgeRow, PortRow, LanRow, port_eq}
-use Rattle.mst_net.specs.After.{new_bridge, new_port, new_lan, bridge_with, port_with, lan_with, in_lan, all_vids}
+use Rattle.mst_tables.specs.Table.{no_table, mapped}
+use Rattle.mst_tables.specs.Tables.{BridgeRow, PortRow, LanRow, port_eq}
+use Rattle.mst_tables.specs.After.{new_bridge, new_port, new_lan, bridge_with, port_with, lan_with, in_lan, all_vids}
 
 -- what the edit makes of the settings of a bridge, where it is there
 abbrev pub bridge_row_after : Edit → List ℕ → Option BridgeRow → Option BridgeRow

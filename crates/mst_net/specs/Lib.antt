@@ -1,18 +1,5 @@
-pub mod Table
-pub mod KeptTables
-pub mod Tables
-pub mod SetByTree
-pub mod Refusals
-pub mod ByTree
-pub mod After
-pub mod Contents
-pub mod SettingsAfter
+pub use Rattle.mst_tables.specs as tables
 pub mod Standing
-pub mod Counting
 pub mod Checks
-pub mod Settings
-pub mod SettingsKept
 pub mod NetworkKept
-pub mod Seen
 pub mod Foreseen
-pub mod TreesSet

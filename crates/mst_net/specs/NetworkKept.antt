@@ -3,10 +3,10 @@ use Rattle.std.specs.Prelude.{◌≡◌, ℕ, List, min, nat_eq}
 use Rattle.std.specs.FinMap as fin
 use Rattle.std.specs.Cmp.Lexicographic.{pointwise}
 use Rattle.std.specs.HashSet as set
-use Rattle.mst_net.specs.Tables.{IsNetwork, port_eq}
-use Rattle.mst_net.specs.After.{mac_taken, is_of_bridge, is_in_lan}
-use Rattle.mst_net.specs.Contents.{Contents}
-use Rattle.mst_net.specs.Counting.{count_where}
+use Rattle.mst_tables.specs.Tables.{IsNetwork, port_eq}
+use Rattle.mst_tables.specs.After.{mac_taken, is_of_bridge, is_in_lan}
+use Rattle.mst_tables.specs.Contents.{Contents}
+use Rattle.mst_tables.specs.Counting.{count_where}
 use Rattle.mst_records.specs.Rows.{IsNumberedBy}
 use Rattle.mst_records.specs.Tally.{count_in}
 use Rattle.mst_net.specs.declared.network.Network.TheInside.{Inside}

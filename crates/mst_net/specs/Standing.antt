@@ -5,10 +5,10 @@ use Rattle.std.specs.FinMap as fin
 use Rattle.mst_lang.specs.declared.line.Edit.{Edit}
 use Rattle.mst_lang.specs.declared.line.Edit.TheVariants.{SetBridge, SetPort, SetLan, SetByTree}
 use Rattle.mst_lang.specs.declared.line.TreeChange.TheVariants.{Priority, PortPriority, PortCost, Table, Vlans}
-use Rattle.mst_net.specs.Table.{mapped}
-use Rattle.mst_net.specs.Tables.{Net}
-use Rattle.mst_net.specs.After.{table_of, vlans_of, bridge_with, port_with, lan_with}
-use Rattle.mst_net.specs.Contents.{priority_of, port_priority_of, port_cost_of}
+use Rattle.mst_tables.specs.Table.{mapped}
+use Rattle.mst_tables.specs.Tables.{Net}
+use Rattle.mst_tables.specs.After.{table_of, vlans_of, bridge_with, port_with, lan_with}
+use Rattle.mst_tables.specs.Contents.{priority_of, port_priority_of, port_cost_of}
 
 -- what the edit sets stands already: its bridge, LAN or port, if it is there, stays the same with the new
 -- setting; the priority, the cost or the VLANs are those that are seen, set or the default; the table of the

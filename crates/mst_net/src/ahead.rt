@@ -1,17 +1,16 @@
 ghost use Rattle.std.specs.Prelude.{◌≡◌};
 ghost use Rattle.std.specs.Option.{option_map};
-ghost use Rattle.mst_net.specs.After.{bridge_with, port_with, lan_with, in_lan};
+ghost use Rattle.mst_tables.specs.After.{bridge_with, port_with, lan_with, in_lan};
 ghost use Rattle.mst_net.specs.Foreseen.{bridge_row_after, port_row_after, lan_row_after, bridge_number_after, port_number_after, lan_number_after, bridge_name_after, port_name_after, lan_name_after, table_after};
 
-use crate::contents::{Bridge, Contents, Lan, Port};
 use crate::names::{with_name, without_name};
 use crate::network::{Network, kept_bridge, kept_lan, kept_port};
-use crate::settings::{BridgeSettings, KeptPort, LanSettings};
-use crate::table::Table;
-use crate::tree_settings::TreeSettings;
 use mst_ids::{BridgeNo, LanNo, Name, PortName, PortNo, Tree};
 use mst_lang::{BridgeChange, Edit, LanChange, PortChange, TreeChange};
 use mst_records::Record;
+use mst_tables::{
+    Bridge, BridgeSettings, Contents, KeptPort, Lan, LanSettings, Port, Table, TreeSettings,
+};
 use std::alloc::{AllocError, Global};
 use std::marker::Model;
 
@@ -23,7 +22,7 @@ pub struct Ahead<'a> {
 }
 
 impl<'a> Model for Ahead<'a> {
-    ghost use Rattle.mst_net.specs.Contents.{CanCommit, Tables, tables_code, ahead_of};
+    ghost use Rattle.mst_tables.specs.Contents.{CanCommit, Tables, tables_code, ahead_of};
 
     ghost Value = { Tables };
 

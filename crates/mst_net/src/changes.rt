@@ -1,10 +1,10 @@
 ghost use Rattle.mst_lang.specs.declared.line.Edit.TheVariants.{AddBridge, DelBridge, SetBridge, AddPort, DelPort, SetPort, AddLan, DelLan, SetLan, Plug, Unplug, SetByTree};
-ghost use Rattle.mst_net.specs.Contents.{CanCommit, Makes};
+ghost use Rattle.mst_tables.specs.Contents.{CanCommit, Makes};
 
 use crate::network::Network;
-use crate::settings::{BridgeSettings, KeptPort, LanSettings};
 use mst_ids::{Mac, Name, PortName};
 use mst_lang::{BridgeChange, Edit, LanChange, PortChange, TreeChange};
+use mst_tables::{BridgeSettings, KeptPort, LanSettings};
 
 // What edits make of the records.
 impl Network {

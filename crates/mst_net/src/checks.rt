@@ -2,23 +2,19 @@ ghost use Rattle.std.specs.Prelude.{◌≡◌, Err, ok_or, if◌then◌else◌};
 ghost use Rattle.std.specs.FinMap as fin;
 ghost use Rattle.mst_lang.specs.declared.line.Edit.TheVariants.{AddBridge, DelBridge, AddPort, DelPort, AddLan, DelLan, Plug, Unplug, SetByTree};
 ghost use Rattle.mst_lang.specs.declared.line.TreeChange.TheVariants.{Table};
-ghost use Rattle.mst_net.specs.After.{first_of, of_bridge, of_port, of_lan, refusal_of};
+ghost use Rattle.mst_tables.specs.After.{first_of, of_bridge, of_port, of_lan, refusal_of};
 ghost use Rattle.mst_net.specs.Checks.{answer_of};
 
-use crate::Refusal;
 use crate::network::Network;
-use crate::settings::KeptPort;
 use mst_ids::{Mac, Name, PortName, Tree, VidSet};
 use mst_lang::{Edit, TreeChange};
+use mst_tables::{KeptPort, Refusal, TREE_LIMIT};
 
 const BRIDGE_LIMIT: usize = 1024;
 
 const PORT_LIMIT: usize = 16_384;
 
 const LAN_LIMIT: usize = 8192;
-
-/// How many trees a bridge can have beside the CIST.
-pub(crate) const TREE_LIMIT: usize = 64;
 
 // What refuses an edit.
 impl Network {

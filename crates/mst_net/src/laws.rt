@@ -2,8 +2,8 @@
 ghost use Rattle.std.specs.Prelude.{◌≡◌, Ok};
 ghost use Rattle.mst_lang.specs.declared.line.Edit.{Edit};
 ghost use Rattle.mst_lang.specs.Ranges.{InRange};
-ghost use Rattle.mst_net.specs.Tables.{Net, IsNetwork, empty_net};
-ghost use Rattle.mst_net.specs.After.{after, effect};
+ghost use Rattle.mst_tables.specs.Tables.{Net, IsNetwork, empty_net};
+ghost use Rattle.mst_tables.specs.After.{after, effect};
 ghost use Rattle.mst_net.specs.Standing.{Stands};
 
 /// The empty tables are a network, and an edit whose values are in their ranges makes a network of a

@@ -2,22 +2,21 @@ ghost use Rattle.std.specs.Prelude.{◌≡◌, ◌≢◌, ◌<◌, List, ℕ, So
 ghost use Rattle.std.specs.FinMap as fin;
 ghost use Rattle.std.specs.Option.{option_map};
 ghost use Rattle.mst_ids.specs.declared.name.PortName.{PortName};
-ghost use Rattle.mst_net.specs.Tables.{empty_net, no_numbers};
-ghost use Rattle.mst_net.specs.After.{after, mac_taken, some_port, is_of_bridge, is_in_lan};
-ghost use Rattle.mst_net.specs.Seen.{bridge_row, port_row, lan_row};
-ghost use Rattle.mst_net.specs.Contents.{SameContents, CanCommit, Commits, ahead_of, room_for};
+ghost use Rattle.mst_tables.specs.Tables.{empty_net, no_numbers};
+ghost use Rattle.mst_tables.specs.After.{after, mac_taken, some_port, is_of_bridge, is_in_lan};
+ghost use Rattle.mst_tables.specs.Seen.{bridge_row, port_row, lan_row};
+ghost use Rattle.mst_tables.specs.Contents.{SameContents, CanCommit, Commits, ahead_of, room_for};
 
-use crate::Refusal;
 use crate::ahead::Ahead;
-use crate::contents::{Bridge, Contents, Lan, Port, seen_bridge, seen_lan, seen_port};
 use crate::saved::Saved;
-use crate::settings::{BridgeSettings, KeptPort, LanSettings};
-use crate::table::Table;
-use crate::tree_settings::TreeSettings;
 use indexmap::IndexSet;
 use mst_ids::{BridgeNo, Cost, LanNo, Mac, Name, PortName, PortNo, Priority, Tree, VidSet};
 use mst_lang::{Edit, laws};
 use mst_records::{Record, Records, Tally};
+use mst_tables::{
+    Bridge, BridgeSettings, Contents, KeptPort, Lan, LanSettings, Port, Refusal, Table,
+    TreeSettings, seen_bridge, seen_lan, seen_port,
+};
 use std::alloc::{AllocError, Global};
 use std::marker::Model;
 
@@ -50,7 +49,7 @@ impl Drop for Network {
 }
 
 impl Model for Network {
-    ghost use Rattle.mst_net.specs.Contents.{Contents, contents_code};
+    ghost use Rattle.mst_tables.specs.Contents.{Contents, contents_code};
 
     ghost Value = { Contents };
 
@@ -299,7 +298,7 @@ impl Network {
 }
 
 impl Contents for Network {
-    ghost use Rattle.mst_net.specs.Contents.{tables_of};
+    ghost use Rattle.mst_tables.specs.Contents.{tables_of};
 
     ghost tables = { tables_of };
 

@@ -1,10 +1,10 @@
 ghost use Rattle.std.specs.Prelude.{◌≡◌, IfOk};
-ghost use Rattle.mst_net.specs.Contents.{priority_of, port_priority_of, port_cost_of};
-ghost use Rattle.mst_net.specs.After.{vlans_of};
-ghost use Rattle.mst_net.specs.TreesSet.{priority_trees, port_priority_trees, port_cost_trees};
+ghost use Rattle.mst_tables.specs.Contents.{priority_of, port_priority_of, port_cost_of};
+ghost use Rattle.mst_tables.specs.After.{vlans_of};
+ghost use Rattle.mst_tables.specs.TreesSet.{priority_trees, port_priority_trees, port_cost_trees};
 
-use crate::contents::Contents;
 use mst_ids::{Cost, Name, PortName, Priority, Tree, VidSet};
+use mst_tables::Contents;
 use std::alloc::{AllocError, Global};
 
 /// What is set in a network by tree or VID, beside what is asked of any [`Contents`], one bridge or port at a time. Who writes a

@@ -7,7 +7,7 @@ use Rattle.mst_vector.specs.Rules.{Rules, IsMetric}
 use Rattle.mst_topology.specs.Topology.{TreePort}
 use Rattle.mst_topology.specs.Settled.{IsDesignated, Designates}
 use Rattle.mst_topology.proofs.Below.{one_designated}
-use Rattle.mst_net.specs.Tables.{Net, Numbers}
+use Rattle.mst_tables.specs.Tables.{Net, Numbers}
 use Rattle.mst_lag.specs.View.{LogicalPort}
 use Rattle.mst_lag.specs.Viewed.{Viewed, named_port}
 use Rattle.mst_lag.specs.declared.in_view.PortInView.{PortInView}

@@ -9,7 +9,7 @@ use Rattle.mst_kinds.specs.declared.kind.Kind.TheVariants as kind
 use Rattle.mst_kinds.specs.declared.note_line.NoteLine.TheVariants as note_line
 use Rattle.mst_vector.specs.declared.cist.CistVector.{CistVector}
 use Rattle.mst_vector.specs.declared.msti.MstiVector.{MstiVector}
-use Rattle.mst_net.specs.Tables.{Net}
+use Rattle.mst_tables.specs.Tables.{Net}
 use Rattle.mst_rows.specs.Cells.{word, number}
 use Rattle.mst_rows.specs.Rows.{Row, row_of}
 use Rattle.mst_lag.specs.View.{LogicalPort, view_ports}

@@ -7,11 +7,11 @@ use Rattle.std.specs.FinMap as fin
 use Rattle.std.proofs.lemmas.Bool.{eqb-true}
 use Rattle.mst_lag.specs.declared.in_view.BridgeInView.{BridgeInView}
 use Rattle.mst_lag.specs.declared.in_view.PortInView.{PortInView}
-use Rattle.mst_net.specs.After.{table_of}
-use Rattle.mst_net.specs.ByTree.{table_in}
-use Rattle.mst_net.specs.Seen.{bridge_row}
-use Rattle.mst_net.specs.Table.{tree_in}
-use Rattle.mst_net.specs.Tables.{BridgeRow}
+use Rattle.mst_tables.specs.After.{table_of}
+use Rattle.mst_tables.specs.ByTree.{table_in}
+use Rattle.mst_tables.specs.Seen.{bridge_row}
+use Rattle.mst_tables.specs.Table.{tree_in}
+use Rattle.mst_tables.specs.Tables.{BridgeRow}
 use Rattle.mst_graph.specs.Lists.{has_any}
 use Rattle.mst_trees.specs.Roles.{tree_of_vid}
 use Rattle.mst_trees.specs.SeenRoles.{seen_tree}

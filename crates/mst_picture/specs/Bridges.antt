@@ -1,8 +1,8 @@
 -- Bridges in a picture.
 use Rattle.std.specs.Prelude.{ℕ, ◌==◌, Bool, false, not, List, [], ◌∷◌, codes, if◌then◌else◌}
 use Rattle.std.specs.Option.{option_map_or}
-use Rattle.mst_net.specs.Tables.{Net, BridgeRow}
-use Rattle.mst_net.specs.ByTree.{by_tree}
+use Rattle.mst_tables.specs.Tables.{Net, BridgeRow}
+use Rattle.mst_tables.specs.ByTree.{by_tree}
 use Rattle.mst_trees.specs.InUse.{id_in}
 use Rattle.mst_trees.specs.Outcome.{Outcome}
 use Rattle.mst_trees.specs.Msti.{has_tree}

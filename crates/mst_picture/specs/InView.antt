@@ -6,7 +6,7 @@ use Rattle.mst_lag.specs.Viewed.{named_bridge, named_port}
 use Rattle.mst_lag.specs.declared.in_view.BridgeInView.{BridgeInView}
 use Rattle.mst_lag.specs.declared.in_view.LanInView.{LanInView}
 use Rattle.mst_lag.specs.declared.in_view.PortInView.{PortInView}
-use Rattle.mst_net.specs.Seen.{bridge_row}
+use Rattle.mst_tables.specs.Seen.{bridge_row}
 use Rattle.mst_graph.specs.Lists.{has_any}
 use Rattle.mst_trees.specs.SeenRoles.{seen_tree}
 use Rattle.mst_trees.specs.Msti.{has_tree}

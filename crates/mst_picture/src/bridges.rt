@@ -1,7 +1,7 @@
 ghost use Rattle.std.specs.Prelude.{◌≡◌, ◌++◌, OnOk};
 ghost use Rattle.std.specs.List.{Contains, flat_map};
 ghost use Rattle.mst_lag.specs.Viewed.{named_bridge};
-ghost use Rattle.mst_net.specs.Seen.{bridge_row};
+ghost use Rattle.mst_tables.specs.Seen.{bridge_row};
 ghost use Rattle.mst_trees.specs.Settled.{outcome_of};
 ghost use Rattle.mst_picture.specs.Bridges.{bridge_line, is_root as is_root_in, style as style_by};
 ghost use Rattle.mst_picture.specs.InView.{style_of as style_in, bridge_of, off_of};

@@ -5,13 +5,13 @@ use Rattle.std.specs.Option.{option_map_or}
 use Rattle.std.specs.FinMap as fin
 use Rattle.mst_lang.specs.declared.line.Edit.{Edit}
 use Rattle.mst_lang.specs.declared.line.Edit.TheVariants.{AddBridge, DelBridge, SetBridge, AddPort, DelPort, SetPort, AddLan, DelLan, SetLan, Plug, Unplug, SetByTree}
-use Rattle.mst_net.specs.Tables.{Net, Numbers, IsNetwork}
-use Rattle.mst_net.specs.After.{has_bridge, mac_taken, first_of, refusal_of, effect}
-use Rattle.mst_net.specs.Contents.{Contents, IsNumbered, Commits}
-use Rattle.mst_net.specs.declared.refusal.Refusal.{Refusal}
-use Rattle.mst_net.specs.declared.refusal.Refusal.TheVariants.{E07, E08, E14}
-use Rattle.mst_net.proofs.Keyed.{get_inserted, same_keys, after_remove}
-use Rattle.mst_net.proofs.Keys.{names, name_eq}
+use Rattle.mst_net.specs.tables.Tables.{Net, Numbers, IsNetwork}
+use Rattle.mst_net.specs.tables.After.{has_bridge, mac_taken, first_of, refusal_of, effect}
+use Rattle.mst_net.specs.tables.Contents.{Contents, IsNumbered, Commits}
+use Rattle.mst_net.specs.tables.declared.refusal.Refusal.{Refusal}
+use Rattle.mst_net.specs.tables.declared.refusal.Refusal.TheVariants.{E07, E08, E14}
+use Rattle.mst_net.proofs.tables_lemmas.Keyed.{get_inserted, same_keys, after_remove}
+use Rattle.mst_net.proofs.tables_lemmas.Keys.{names, name_eq}
 use Rattle.mst_vector.specs.Rules.{Rules}
 use Rattle.mst_trees.specs.Sight.{Sight, tree_of}
 use Rattle.mst_trees.specs.Outcome.{TreeOutcome, IsTreeOutcome}

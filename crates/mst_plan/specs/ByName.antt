@@ -2,8 +2,8 @@
 use Rattle.std.specs.Prelude.{◌≡◌, ◌≢◌, ◌↔◌, ℕ, ◌*◌, ◌≤◌, List, length, Option, Some, None}
 use Rattle.std.specs.FinMap as fin
 use Rattle.std.specs.List.{Contains, AllPairs}
-use Rattle.mst_net.specs.Contents.{Contents, IsNumbered}
-use Rattle.mst_net.specs.Tables.{Numbers, IsNetwork}
+use Rattle.mst_net.specs.tables.Contents.{Contents, IsNumbered}
+use Rattle.mst_net.specs.tables.Tables.{Numbers, IsNetwork}
 use Rattle.mst_trees.specs.Forest.{Forest, IsForest}
 use Rattle.mst_trees.specs.Outcome.{Outcome}
 use Rattle.mst_plan.specs.Standing.{Standing, msti_settlings}

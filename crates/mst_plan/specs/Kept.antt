@@ -3,8 +3,8 @@ use Rattle.std.specs.Prelude.{◌≡◌, ℕ, Bool, true, false, List}
 use Rattle.mst_config.specs.Shared.{AreRegions}
 use Rattle.mst_lag.specs.Viewed.{IsView}
 use Rattle.mst_lang.specs.declared.line.Edit.{Edit}
-use Rattle.mst_net.specs.Contents.{Contents, Commits, IsNumbered}
-use Rattle.mst_net.specs.Tables.{Net, Numbers, IsNetwork}
+use Rattle.mst_net.specs.tables.Contents.{Contents, Commits, IsNumbered}
+use Rattle.mst_net.specs.tables.Tables.{Net, Numbers, IsNetwork}
 use Rattle.mst_trees.specs.Forest.{Forest}
 use Rattle.mst_plan.specs.Plan.{IsPlan}
 use Rattle.mst_plan.specs.Standing.{Standing, nothing, standing_of}

@@ -1,7 +1,7 @@
 -- What a plan is of a network.
 use Rattle.std.specs.Prelude.{ℕ, List}
-use Rattle.mst_net.specs.Tables.{Net, Numbers, IsNetwork}
-use Rattle.mst_net.specs.Contents.{Contents, Commits, IsNumbered}
+use Rattle.mst_net.specs.tables.Tables.{Net, Numbers, IsNetwork}
+use Rattle.mst_net.specs.tables.Contents.{Contents, Commits, IsNumbered}
 use Rattle.mst_lang.specs.declared.line.Edit.{Edit}
 use Rattle.mst_lag.specs.Viewed.{Viewed, IsView}
 use Rattle.mst_config.specs.Shared.{AreRegions}

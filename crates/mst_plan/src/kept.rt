@@ -1,6 +1,6 @@
 ghost use Rattle.std.specs.Prelude.{◌≡◌, true, false, IfOk, OnOk, OnErr};
 ghost use Rattle.mst_config.specs.Touching.{touches_regions};
-ghost use Rattle.mst_net.specs.Contents.{CanCommit, ahead_of};
+ghost use Rattle.mst_net.specs.tables.Contents.{CanCommit, ahead_of};
 ghost use Rattle.mst_plan.specs.Kept.{HasRegions, IsKept, WasKept, is_settled_of, regions_stand_in, settled_by, standing_in};
 ghost use Rattle.mst_plan.specs.Plan.{IsPlan};
 ghost use Rattle.mst_plan.specs.Standing.{KeepsBounds, msti_settlings, settlings_of, standing_of};

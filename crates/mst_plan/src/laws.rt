@@ -1,8 +1,8 @@
 //! Laws of the bound on settlings. Their functions do nothing: a caller has their clauses.
 ghost use Rattle.std.specs.Prelude.{ℕ};
 ghost use Rattle.mst_lang.specs.declared.line.Edit.{Edit};
-ghost use Rattle.mst_net.specs.Tables.{IsNetwork};
-ghost use Rattle.mst_net.specs.Contents.{Contents, IsNumbered, Commits};
+ghost use Rattle.mst_net.specs.tables.Tables.{IsNetwork};
+ghost use Rattle.mst_net.specs.tables.Contents.{Contents, IsNumbered, Commits};
 ghost use Rattle.mst_trees.specs.Forest.{Forest as ForestOf, IsForest};
 ghost use Rattle.mst_trees.specs.Outcome.{Outcome, IsOutcome};
 ghost use Rattle.mst_plan.specs.ByName.{KeepsBoundByName, KeepBoundsByName, KeepFirstBounds, StandsFor, KeepNumbers};

@@ -6,8 +6,8 @@ use Rattle.std.proofs.lemmas.List.{get_or-map}
 use Rattle.mst_ids.specs.Vids.{is_vid}
 use Rattle.mst_ids.specs.declared.name.PortName.{PortName}
 use Rattle.mst_graph.specs.Numbers.{AreNumbers}
-use Rattle.mst_net.specs.ByTree.{table_in, vlans_in}
-use Rattle.mst_net.specs.Tables.{Net, Numbers}
+use Rattle.mst_tables.specs.ByTree.{table_in, vlans_in}
+use Rattle.mst_tables.specs.Tables.{Net, Numbers}
 use Rattle.mst_lag.specs.Viewed.{Viewed}
 use Rattle.mst_text.specs.trees.Agrees.{AreOf}
 use Rattle.mst_text.specs.trees.Outcome.{Outcome}

@@ -1,6 +1,6 @@
 -- The rows of a group, by its first VID.
 use Rattle.std.proofs.Common.{◌≡◌, ℕ, ◌≤◌, List, [], ◌∷◌, length, get_or, arith}
-use Rattle.mst_net.specs.Tables.{Net}
+use Rattle.mst_tables.specs.Tables.{Net}
 use Rattle.mst_text.specs.trees.Outcome.{Outcome}
 use Rattle.mst_text.specs.VlanRows.{heading}
 use Rattle.mst_text.specs.VlanText.{body_rows}

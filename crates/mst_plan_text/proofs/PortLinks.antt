@@ -5,7 +5,7 @@ use Rattle.std.specs.Option.{option_map, option_map_or, option_and_then}
 use Rattle.std.specs.FinMap as fin
 use Rattle.mst_ids.specs.declared.name.PortName.{PortName}
 use Rattle.mst_graph.specs.Islands.{Link, AreIslands}
-use Rattle.mst_net.specs.Tables.{Net, PortRow, port_eq}
+use Rattle.mst_tables.specs.Tables.{Net, PortRow, port_eq}
 use Rattle.mst_lag.specs.Aggregation.{Plug, plug_of, plugs}
 use Rattle.mst_lag.specs.View.{LogicalPort, as_port, logical_lan, logical_port, view_ports}
 use Rattle.mst_lag.proofs.Entries.{entries_found}

@@ -1,7 +1,7 @@
 -- What tells the bodies of VIDs, by numbers. The VID at a place, counted from 0, is one more than the place.
 use Rattle.std.specs.Prelude.{ℕ, ◌-◌, Bool, List, [], map, slice_index, slice_index_or}
 use Rattle.mst_ids.specs.declared.name.PortName.{PortName}
-use Rattle.mst_net.specs.Tables.{Net}
+use Rattle.mst_tables.specs.Tables.{Net}
 use Rattle.mst_lag.specs.Viewed.{Viewed}
 use Rattle.mst_lag.specs.declared.in_view.PortInView.{PortInView}
 use Rattle.mst_rows.specs.declared.value.ActivePort.{ActivePort}

@@ -1,6 +1,6 @@
 //! Laws of the rows of a plan. Their functions do nothing: a caller has their clauses.
 ghost use Rattle.std.specs.Prelude.{◌≡◌, List};
-ghost use Rattle.mst_net.specs.Tables.{Net, IsNetwork};
+ghost use Rattle.mst_tables.specs.Tables.{Net, IsNetwork};
 ghost use Rattle.mst_rows.specs.Rows.{Row};
 ghost use Rattle.mst_text.specs.trees.Outcome.{Outcome};
 ghost use Rattle.mst_plan_text.specs.PlanText.{ArePlanRows};

@@ -11,9 +11,9 @@ use Rattle.mst_kinds.specs.declared.refusal_line.RefusalLine.TheVariants.{Line, 
 use Rattle.mst_lang.specs.declared.line.Fault.{Fault}
 use Rattle.mst_lang.specs.declared.line.Fault.TheVariants.{E01, E02, E03}
 use Rattle.mst_lang.specs.Faults as fault
-use Rattle.mst_net.specs.declared.refusal.Refusal.{Refusal}
-use Rattle.mst_net.specs.declared.refusal.Refusal.TheVariants.{E04, E05, E06, E07, E08, E09, E10, E11, E12, E13, E14, E15, E16, E99}
-use Rattle.mst_net.specs.Refusals as refusal
+use Rattle.mst_tables.specs.declared.refusal.Refusal.{Refusal}
+use Rattle.mst_tables.specs.declared.refusal.Refusal.TheVariants.{E04, E05, E06, E07, E08, E09, E10, E11, E12, E13, E14, E15, E16, E99}
+use Rattle.mst_tables.specs.Refusals as refusal
 use Rattle.mst_rows.specs.Answers.{IsPlain}
 
 -- ---- of the fault of a line

@@ -1,6 +1,6 @@
 ghost use Rattle.std.specs.Prelude.{◌≡◌, ◌∷◌, [], false, OnOk, OnErr};
 ghost use Rattle.std.specs.Io.KnownBytes.{Appends};
-ghost use Rattle.mst_net.specs.Refusals.{code_of as refusal_code, text_of as refusal_text};
+ghost use Rattle.mst_tables.specs.Refusals.{code_of as refusal_code, text_of as refusal_text};
 ghost use Rattle.mst_bpdu.specs.CaptureText.{fault_row};
 ghost use Rattle.mst_io.specs.Devices.{Works, IsStopped};
 ghost use Rattle.mst_io.specs.Written.{AppendsFront};
@@ -12,7 +12,7 @@ use crate::form::{Form, Shape, Side};
 use itoa::Buffer;
 use mst_bpdu::BpduFault;
 use mst_io::{Sink, WriteFailed, put_parts};
-use mst_net::Refusal;
+use mst_tables::Refusal;
 
 /// The words that the line of a refusal begins with.
 fn word(side: Side) -> &'static str

@@ -13,9 +13,9 @@ use Rattle.std.proofs.lemmas.Bool.{cases_Bool, eqb-true, ne_eqb}
 use Rattle.std.proofs.lemmas.Grind.{common_steps}
 use Rattle.mst_ids.specs.Names.{name_cmp, port_cmp}
 use Rattle.mst_ids.specs.declared.name.PortName.{PortName}
-use Rattle.mst_net.specs.After.{has_bridge, is_plugged, table_of}
-use Rattle.mst_net.specs.Table.{has_tree as is_mapped, mstis_in}
-use Rattle.mst_net.specs.Tables.{BridgeRow, Net, PortRow, port_eq}
+use Rattle.mst_net.specs.tables.After.{has_bridge, is_plugged, table_of}
+use Rattle.mst_net.specs.tables.Table.{has_tree as is_mapped, mstis_in}
+use Rattle.mst_net.specs.tables.Tables.{BridgeRow, Net, PortRow, port_eq}
 use Rattle.mst_lag.specs.Aggregation.{Plug, can_aggregate, plug_of, plugs, plugs_in, ports_as_one, same_name, same_sides, side_of, sides, sides_of}
 use Rattle.mst_lag.specs.Trees.{is_among, mstis_of}
 use Rattle.mst_lag.specs.View.{LogicalPort, as_port, logical_port, view_ports}

@@ -1,5 +1,5 @@
 -- Why a port isn't explained is told without escapes: by the codes and the texts of refusals, and of a fault.
-use Rattle.mst_net.specs.declared.refusal.Refusal.TheVariants.{E04, E05}
+use Rattle.mst_net.specs.tables.declared.refusal.Refusal.TheVariants.{E04, E05}
 use Rattle.mst_words.specs.Explaining.{code_of, text_of}
 use Rattle.mst_words.specs.declared.explaining.Unexplained.{Unexplained}
 use Rattle.mst_words.specs.declared.explaining.Unexplained.TheVariants.{NoBridge, NoPort, NoTree}

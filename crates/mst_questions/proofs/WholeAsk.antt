@@ -2,7 +2,7 @@
 use Rattle.std.proofs.Common.{◌≡◌, ℕ, ◌+◌, Bool, List, Option, None, Some, refl, sym, ap, subst, ◌∙◌, ◌++◌, arith}
 use Rattle.mst_ids.specs.declared.name.PortName.{PortName}
 use Rattle.mst_lang.specs.Lines.{lines_of}
-use Rattle.mst_net.specs.Tables.{Net, IsNetwork}
+use Rattle.mst_net.specs.tables.Tables.{Net, IsNetwork}
 use Rattle.mst_words.specs.advise.declared.goal.Goal.{Goal}
 use Rattle.mst_words.specs.advise.Advising.{Advises}
 use Rattle.mst_words.specs.Unadvised.{unadvised_of}

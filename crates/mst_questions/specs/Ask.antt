@@ -12,8 +12,8 @@ use Rattle.mst_lang.specs.declared.line.Fault.{Fault}
 use Rattle.mst_kinds.specs.declared.refusal_line.RefusalLine.TheVariants as refusal
 use Rattle.mst_words.specs.advise.declared.goal.Goal.{Goal}
 use Rattle.mst_words.specs.advise.declared.goal.Goal.TheVariants as goal
-use Rattle.mst_net.specs.After.{has_bridge, is_plugged}
-use Rattle.mst_net.specs.Tables.{Net}
+use Rattle.mst_net.specs.tables.After.{has_bridge, is_plugged}
+use Rattle.mst_net.specs.tables.Tables.{Net}
 use Rattle.mst_words.specs.advise.Advising.{Advises}
 use Rattle.mst_words.specs.Unadvised.{unadvised_of, unrooted_of}
 use Rattle.mst_words.specs.Explaining.{Explains, has_asked, unexplained_of}

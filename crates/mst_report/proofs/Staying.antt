@@ -2,10 +2,10 @@
 use Rattle.std.proofs.Common.{◌≡◌, Option, Some, None, Ok, Err, sym, subst, ◌∙◌}
 use Rattle.std.specs.Option.{option_map_or}
 use Rattle.mst_lang.specs.declared.line.Edit.{Edit}
-use Rattle.mst_net.specs.After.{after, effect, refusal_of}
-use Rattle.mst_net.specs.declared.refusal.Refusal.{Refusal}
-use Rattle.mst_net.specs.Tables.{Net}
-use Rattle.mst_net.specs.Contents.{Contents, Tables, SameContents}
+use Rattle.mst_net.specs.tables.After.{after, effect, refusal_of}
+use Rattle.mst_net.specs.tables.declared.refusal.Refusal.{Refusal}
+use Rattle.mst_net.specs.tables.Tables.{Net}
+use Rattle.mst_net.specs.tables.Contents.{Contents, Tables, SameContents}
 use Rattle.mst_plan.specs.Kept.{IsKept}
 use Rattle.mst_plan.specs.declared.kept.KeptPlan.{KeptPlan}
 

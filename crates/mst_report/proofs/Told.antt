@@ -1,7 +1,7 @@
 -- What is said of a settled network answers a query of its tables.
 use Rattle.std.proofs.Common.{◌≡◌, List, refl, subst}
 use Rattle.std.specs.Prelude.{Ok}
-use Rattle.mst_net.specs.Tables.{Net}
+use Rattle.mst_net.specs.tables.Tables.{Net}
 use Rattle.mst_rows.specs.Rows.{Row}
 use Rattle.mst_trees.specs.Outcome.{Outcome}
 use Rattle.mst_trees.specs.Settled.{SettledNet, outcome_of, IsSettledNet}

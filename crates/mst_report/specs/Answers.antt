@@ -4,9 +4,9 @@ use Rattle.std.specs.List.{flat_map}
 use Rattle.std.specs.Option.{option_map_or}
 use Rattle.mst_lang.specs.declared.line.Query.{Query}
 use Rattle.mst_lang.specs.declared.line.Query.TheVariants.{ShowPlan, ShowLag, ShowRegions, ShowNotes, ShowTree, ShowVlan, ShowConfiguration, Changes, Save, Digest}
-use Rattle.mst_net.specs.Tables.{Net}
-use Rattle.mst_net.specs.declared.refusal.Refusal.{Refusal}
-use Rattle.mst_net.specs.declared.refusal.Refusal.TheVariants.{E04, E16}
+use Rattle.mst_net.specs.tables.Tables.{Net}
+use Rattle.mst_net.specs.tables.declared.refusal.Refusal.{Refusal}
+use Rattle.mst_net.specs.tables.declared.refusal.Refusal.TheVariants.{E04, E16}
 use Rattle.mst_rows.specs.Lines.{row_line}
 use Rattle.mst_rows.specs.Rows.{Row}
 use Rattle.mst_trees.specs.Outcome.{Outcome, IsOutcome}

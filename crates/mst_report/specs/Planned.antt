@@ -1,6 +1,6 @@
 -- What is seen of a planner.
 use Rattle.std.specs.Prelude.{Bool, List, Option}
-use Rattle.mst_net.specs.Contents.{Contents}
+use Rattle.mst_net.specs.tables.Contents.{Contents}
 use Rattle.mst_changes.specs.declared.subject.Entry.{Entry}
 use Rattle.mst_report.specs.State.{State}
 use Rattle.mst_plan.specs.Standing.{Standing}

@@ -1,8 +1,8 @@
 -- Which queries are refused.
 use Rattle.std.specs.Prelude.{◌≢◌, ℕ, List, Option, None, Some, Ok, Err}
 use Rattle.mst_lang.specs.declared.line.Query.{Query}
-use Rattle.mst_net.specs.declared.refusal.Refusal.{Refusal}
-use Rattle.mst_net.specs.declared.refusal.Refusal.TheVariants.{E99}
+use Rattle.mst_net.specs.tables.declared.refusal.Refusal.{Refusal}
+use Rattle.mst_net.specs.tables.declared.refusal.Refusal.TheVariants.{E99}
 use Rattle.mst_rows.specs.Rows.{Row}
 use Rattle.mst_report.specs.Answers.{Answers}
 use Rattle.mst_report.specs.State.{State}

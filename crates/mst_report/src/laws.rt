@@ -1,8 +1,8 @@
 //! Laws of answers. Their functions do nothing: a caller has their clauses.
 ghost use Rattle.std.specs.Prelude.{◌≡◌, List, Result};
 ghost use Rattle.mst_lang.specs.declared.line.Query.{Query};
-ghost use Rattle.mst_net.specs.Tables.{Net, IsNetwork};
-ghost use Rattle.mst_net.specs.declared.refusal.Refusal.{Refusal};
+ghost use Rattle.mst_net.specs.tables.Tables.{Net, IsNetwork};
+ghost use Rattle.mst_net.specs.tables.declared.refusal.Refusal.{Refusal};
 ghost use Rattle.mst_rows.specs.Rows.{Row};
 ghost use Rattle.mst_report.specs.Answers.{Answers};
 ghost use Rattle.mst_report.specs.State.{State, IsState, IsMark, IsMarkNow};

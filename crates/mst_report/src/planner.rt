@@ -1,6 +1,6 @@
 ghost use Rattle.std.specs.Prelude.{◌≡◌, ◌≢◌, ◌≤◌, ◌<◌, ◌^◌, ◌+◌, ◌++◌, length, true, false, List, None, Err, IsOk, IfOk, IfErr, OnOk, OnErr, IsTrue};
-ghost use Rattle.mst_net.specs.After.{after};
-ghost use Rattle.mst_net.specs.Contents.{SameContents, CanCommit, Commits, room_for};
+ghost use Rattle.mst_net.specs.tables.After.{after};
+ghost use Rattle.mst_net.specs.tables.Contents.{SameContents, CanCommit, Commits, room_for};
 ghost use Rattle.std.specs.Option.{option_map};
 ghost use Rattle.mst_trees.specs.Agrees.{AreOf};
 ghost use Rattle.mst_trees.specs.Forest.{IsForest, SettlesNoUnused};
@@ -50,7 +50,7 @@ impl Model for Planner {
     ghost Value = { Planned };
 
     ghost use Rattle.std.specs.Coded.{codes};
-    ghost use Rattle.mst_net.specs.Contents.{contents_code};
+    ghost use Rattle.mst_net.specs.tables.Contents.{contents_code};
 
     ghost coded = { Prim.hlevel (codes, contents_code) };
 

@@ -18,16 +18,16 @@ use Rattle.mst_lang.specs.declared.line.BridgeChange.TheVariants.{Power as Power
 use Rattle.mst_lang.specs.declared.line.TreeChange.TheVariants.{Priority, Table}
 use Rattle.mst_lang.specs.declared.line.Kind.TheVariants.{Rstp}
 use Rattle.mst_lang.specs.declared.line.Power.TheVariants.{Off}
-use Rattle.mst_net.specs.Table.{no_table, tree_in, mapped, has_tree, mstis_in}
-use Rattle.mst_net.specs.Tables.{Net, IsNetwork, BridgeRow}
-use Rattle.mst_net.specs.After.{effect, table_of, new_bridge, bridge_with}
-use Rattle.mst_net.specs.Contents.{priority_of}
+use Rattle.mst_net.specs.tables.Table.{no_table, tree_in, mapped, has_tree, mstis_in}
+use Rattle.mst_net.specs.tables.Tables.{Net, IsNetwork, BridgeRow}
+use Rattle.mst_net.specs.tables.After.{effect, table_of, new_bridge, bridge_with}
+use Rattle.mst_net.specs.tables.Contents.{priority_of}
 use Rattle.mst_net.specs.Foreseen.{bridge_row_after, priority_after, table_after}
-use Rattle.mst_net.specs.TreesSet.{trees_where, priority_trees}
+use Rattle.mst_net.specs.tables.TreesSet.{trees_where, priority_trees}
 use Rattle.mst_net.proofs.ForeseenLemmas.{foreseen_bridge, foreseen_priority, foreseen_table}
-use Rattle.mst_net.proofs.Keys.{name_eq, names}
-use Rattle.mst_net.proofs.Changed.{itself}
-use Rattle.mst_net.proofs.TableFits.{length-mapped, tree_in-no_table, no_table_fits}
+use Rattle.mst_net.proofs.tables_lemmas.Keys.{name_eq, names}
+use Rattle.mst_net.proofs.tables_lemmas.Changed.{itself}
+use Rattle.mst_net.proofs.tables_lemmas.TableFits.{length-mapped, tree_in-no_table, no_table_fits}
 use Rattle.mst_save.specs.Making.{made}
 use Rattle.mst_save.specs.Runs.{vids_of}
 use Rattle.mst_save.specs.Saved.{when, joined, vids_in, mapping, fits, cut, tree_maps, maps, own_configuration, bridge_set, bridge_settings, bridge_edits}

@@ -10,7 +10,7 @@ use Rattle.mst_ids.proofs.VidSetLemmas.{or_assoc}
 use Rattle.mst_ids.proofs.VidRangeLemmas.{is_vid_set}
 use Rattle.mst_lang.specs.Ranges.{IsName}
 use Rattle.mst_save.proofs.Short.{spaced_short, name_short, number_short, run_short}
-use Rattle.mst_net.specs.Table.{tree_in}
+use Rattle.mst_net.specs.tables.Table.{tree_in}
 use Rattle.mst_save.specs.EditLine.{no_vids, line_of}
 use Rattle.mst_save.specs.Runs.{vids_of, AreRuns}
 use Rattle.mst_save.specs.Saved.{vids_in, mapping, fits, cut_from, cut}

@@ -15,13 +15,13 @@ use Rattle.mst_lang.specs.declared.line.Edit.{Edit}
 use Rattle.mst_lang.specs.declared.line.Edit.TheVariants.{SetBridge, SetPort, AddLan, SetLan, Plug, SetByTree}
 use Rattle.mst_lang.specs.declared.line.LanChange.{LanChange}
 use Rattle.mst_lang.specs.declared.line.TreeChange.TheVariants.{Priority, PortPriority, PortCost, Table, Vlans}
-use Rattle.mst_net.specs.Table.{no_table}
-use Rattle.mst_net.specs.Tables.{Net, IsNetwork, BridgeRow, PortRow, LanRow, bridge_tree_cmp, port_tree_cmp, port_eq, empty_net}
-use Rattle.mst_net.specs.After.{has_bridge, has_port, vlans_of, all_vids, in_lan}
-use Rattle.mst_net.specs.Contents.{port_priority_of, port_cost_of}
-use Rattle.mst_net.proofs.Keyed.{same_keys}
-use Rattle.mst_net.proofs.Keys.{name_eq, names, ports, bridge_trees, port_trees}
-use Rattle.mst_net.proofs.Changed.{itself}
+use Rattle.mst_net.specs.tables.Table.{no_table}
+use Rattle.mst_net.specs.tables.Tables.{Net, IsNetwork, BridgeRow, PortRow, LanRow, bridge_tree_cmp, port_tree_cmp, port_eq, empty_net}
+use Rattle.mst_net.specs.tables.After.{has_bridge, has_port, vlans_of, all_vids, in_lan}
+use Rattle.mst_net.specs.tables.Contents.{port_priority_of, port_cost_of}
+use Rattle.mst_net.proofs.tables_lemmas.Keyed.{same_keys}
+use Rattle.mst_net.proofs.tables_lemmas.Keys.{name_eq, names, ports, bridge_trees, port_trees}
+use Rattle.mst_net.proofs.tables_lemmas.Changed.{itself}
 use Rattle.mst_save.specs.Making.{made}
 use Rattle.mst_save.specs.Saved.{bridge_settings, port_settings, lan_settings, plug_settings, bridge_edits, port_edits, lan_edits, plug_edits, ports_of, bridge_part, saved_edits}
 use Rattle.mst_save.proofs.Lists.{all_append, all_flat, all_flat_of, all_of, holds, in_filter, into_filter, distinct_filter, keys_distinct, keys_hold}

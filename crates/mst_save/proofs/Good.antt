@@ -20,11 +20,11 @@ use Rattle.mst_lang.specs.declared.line.TreeChange.TheVariants.{Priority, PortPr
 use Rattle.mst_lang.specs.declared.line.Kind.TheVariants.{Rstp}
 use Rattle.mst_lang.specs.declared.line.Power.TheVariants.{Off}
 use Rattle.mst_lang.specs.declared.line.LanState.TheVariants.{Down}
-use Rattle.mst_net.specs.Table.{mstis_in, has_tree}
-use Rattle.mst_net.specs.Tables.{Net, IsNetwork, BridgeRow, PortRow, LanRow}
-use Rattle.mst_net.specs.After.{table_of, vlans_of, all_vids}
-use Rattle.mst_net.specs.Contents.{priority_of, port_priority_of, port_cost_of}
-use Rattle.mst_net.specs.TreesSet.{trees_where, priority_trees, port_priority_trees, port_cost_trees}
+use Rattle.mst_net.specs.tables.Table.{mstis_in, has_tree}
+use Rattle.mst_net.specs.tables.Tables.{Net, IsNetwork, BridgeRow, PortRow, LanRow}
+use Rattle.mst_net.specs.tables.After.{table_of, vlans_of, all_vids}
+use Rattle.mst_net.specs.tables.Contents.{priority_of, port_priority_of, port_cost_of}
+use Rattle.mst_net.specs.tables.TreesSet.{trees_where, priority_trees, port_priority_trees, port_cost_trees}
 use Rattle.mst_save.specs.EditLine.{line_of, IsSayable}
 use Rattle.mst_save.specs.Saved.{vids_in, mapping, fits, cut, tree_maps, own_configuration, bridge_set, bridge_settings, port_set, port_settings, lan_set, lan_settings, plug_settings, bridge_edits, port_edits, lan_edits, plug_edits, ports_of, bridge_part, saved_edits}
 use Rattle.mst_save.specs.SaveText.{IsShort}

@@ -15,16 +15,16 @@ use Rattle.mst_lang.specs.declared.line.Edit.TheVariants.{AddBridge, DelBridge, 
 use Rattle.mst_lang.specs.declared.line.BridgeChange.{BridgeChange}
 use Rattle.mst_lang.specs.declared.line.BridgeChange.TheVariants.{Power as PowerOf, Kind as KindOf, SystemPriority, Configuration, MaxHops, MaxAge}
 use Rattle.mst_lang.specs.declared.line.TreeChange.TheVariants.{Priority, PortPriority, PortCost, Table, Vlans}
-use Rattle.mst_net.specs.declared.refusal.Refusal.TheVariants.{E04, E05, E06, E07, E08, E09, E10, E14, E15}
-use Rattle.mst_net.specs.ByTree.{table_in}
-use Rattle.mst_net.specs.Table.{no_table, tree_in, mapped, tree_count}
-use Rattle.mst_net.specs.Tables.{Net, IsNetwork, BridgeRow, PortRow, LanRow, port_eq, empty_net}
-use Rattle.mst_net.specs.After.{effect, refusal_of, first_of, has_bridge, has_port, has_lan, mac_taken, is_plugged, table_of, change, change_bridge, change_port, change_lan, new_bridge, new_port, new_lan, bridge_with, port_with, lan_with, in_lan}
-use Rattle.mst_net.proofs.Somes.{no_some}
-use Rattle.mst_net.proofs.Keyed.{same_keys, get_inserted, after_insert, len_added}
-use Rattle.mst_net.proofs.Keys.{name_eq, names, ports}
-use Rattle.mst_net.proofs.Changed.{get_changed, contains_changed, len_changed, changed_from, value_found}
-use Rattle.mst_net.proofs.AfterLemmas.{effect_is_network}
+use Rattle.mst_net.specs.tables.declared.refusal.Refusal.TheVariants.{E04, E05, E06, E07, E08, E09, E10, E14, E15}
+use Rattle.mst_net.specs.tables.ByTree.{table_in}
+use Rattle.mst_net.specs.tables.Table.{no_table, tree_in, mapped, tree_count}
+use Rattle.mst_net.specs.tables.Tables.{Net, IsNetwork, BridgeRow, PortRow, LanRow, port_eq, empty_net}
+use Rattle.mst_net.specs.tables.After.{effect, refusal_of, first_of, has_bridge, has_port, has_lan, mac_taken, is_plugged, table_of, change, change_bridge, change_port, change_lan, new_bridge, new_port, new_lan, bridge_with, port_with, lan_with, in_lan}
+use Rattle.mst_net.proofs.tables_lemmas.Somes.{no_some}
+use Rattle.mst_net.proofs.tables_lemmas.Keyed.{same_keys, get_inserted, after_insert, len_added}
+use Rattle.mst_net.proofs.tables_lemmas.Keys.{name_eq, names, ports}
+use Rattle.mst_net.proofs.tables_lemmas.Changed.{get_changed, contains_changed, len_changed, changed_from, value_found}
+use Rattle.mst_net.proofs.tables_lemmas.AfterLemmas.{effect_is_network}
 use Rattle.mst_net.proofs.ForeseenLemmas.{foreseen_table}
 use Rattle.mst_save.specs.Making.{made, Accepted}
 use Rattle.mst_save.proofs.Tables.{IsUnder, under-no_table, under-mapped, under_count, few_trees}

@@ -8,8 +8,8 @@ use Rattle.std.specs.FinMap.Entries.{below_all}
 use Rattle.std.specs.Ordering.{is_eq}
 use Rattle.std.specs.declared.cmp.Ordering.{Ordering}
 use Rattle.std.proofs.lemmas.Bool.{or_from, or_left, or_right}
-use Rattle.mst_net.proofs.Keyed.{IsKeyed, same_keys, flipped}
-use Rattle.mst_net.proofs.Changed.{itself, both_hold, is_less}
+use Rattle.mst_net.proofs.tables_lemmas.Keyed.{IsKeyed, same_keys, flipped}
+use Rattle.mst_net.proofs.tables_lemmas.Changed.{itself, both_hold, is_less}
 
 -- ---- what holds of each element
 module _ {A : Type 0} (P : A → Type 0) where

@@ -11,10 +11,10 @@ use Rattle.mst_ids.specs.declared.name.PortName.{PortName}
 use Rattle.mst_lang.specs.declared.line.Edit.{Edit}
 use Rattle.mst_lang.specs.declared.line.Edit.TheVariants.{AddBridge, SetBridge, AddPort, SetPort, AddLan, SetLan, Plug, SetByTree}
 use Rattle.mst_lang.specs.declared.line.TreeChange.TheVariants.{Priority, PortPriority, PortCost, Table, Vlans}
-use Rattle.mst_net.specs.Tables.{Net, IsNetwork, BridgeRow, PortRow, LanRow, port_eq}
-use Rattle.mst_net.specs.After.{has_bridge, has_port, has_lan}
-use Rattle.mst_net.proofs.Keyed.{same_keys}
-use Rattle.mst_net.proofs.Keys.{name_eq, names, ports}
+use Rattle.mst_net.specs.tables.Tables.{Net, IsNetwork, BridgeRow, PortRow, LanRow, port_eq}
+use Rattle.mst_net.specs.tables.After.{has_bridge, has_port, has_lan}
+use Rattle.mst_net.proofs.tables_lemmas.Keyed.{same_keys}
+use Rattle.mst_net.proofs.tables_lemmas.Keys.{name_eq, names, ports}
 use Rattle.mst_save.specs.Saved.{joined, bridge_set, port_set, lan_set, bridge_settings, port_settings, lan_settings, plug_settings, bridge_edits, port_edits, lan_edits, plug_edits, ports_of, bridge_part, saved_edits}
 use Rattle.mst_save.proofs.Held.{Held, holds_name, holds_port, nothing_held, NeedsPort, Needs, with_edit, NeedsMet, with_edits}
 use Rattle.mst_save.proofs.Whose.{OfBridge, OfPort, OfLan, bridge_all, port_all, lan_all}

@@ -15,14 +15,14 @@ use Rattle.mst_lang.specs.declared.line.PortChange.TheVariants.{Key, PathCost, R
 use Rattle.mst_lang.specs.declared.line.LanChange.TheVariants.{State, Speed}
 use Rattle.mst_lang.specs.declared.line.TreeChange.TheVariants.{PortPriority, PortCost, Vlans}
 use Rattle.mst_lang.specs.declared.line.LanState.TheVariants.{Down}
-use Rattle.mst_net.specs.Tables.{Net, IsNetwork, PortRow, LanRow, port_eq}
-use Rattle.mst_net.specs.After.{effect, vlans_of, all_vids, new_settings, new_port, new_lan, in_lan, port_with, lan_with}
-use Rattle.mst_net.specs.Contents.{port_priority_of, port_cost_of}
+use Rattle.mst_net.specs.tables.Tables.{Net, IsNetwork, PortRow, LanRow, port_eq}
+use Rattle.mst_net.specs.tables.After.{effect, vlans_of, all_vids, new_settings, new_port, new_lan, in_lan, port_with, lan_with}
+use Rattle.mst_net.specs.tables.Contents.{port_priority_of, port_cost_of}
 use Rattle.mst_net.specs.Foreseen.{port_row_after, port_priority_after, port_cost_after, vlans_after, lan_row_after}
-use Rattle.mst_net.specs.TreesSet.{trees_where, port_priority_trees, port_cost_trees}
+use Rattle.mst_net.specs.tables.TreesSet.{trees_where, port_priority_trees, port_cost_trees}
 use Rattle.mst_net.proofs.ForeseenLemmas.{foreseen_port, foreseen_port_priority, foreseen_port_cost, foreseen_vlans, foreseen_lan}
-use Rattle.mst_net.proofs.Keys.{name_eq, names, ports}
-use Rattle.mst_net.proofs.Changed.{itself}
+use Rattle.mst_net.proofs.tables_lemmas.Keys.{name_eq, names, ports}
+use Rattle.mst_net.proofs.tables_lemmas.Changed.{itself}
 use Rattle.mst_save.specs.Making.{made}
 use Rattle.mst_save.specs.Saved.{when, joined, port_set, port_settings, port_edits, lan_set, lan_settings, lan_edits, plug_settings, plug_edits}
 use Rattle.mst_save.proofs.Whose.{OfPort, OfLan, port_all, lan_all}

@@ -6,9 +6,9 @@ use Rattle.std.proofs.lemmas.Bool.{and_parts, ne_eqb}
 use Rattle.std.proofs.lemmas.List.{append-nil}
 use Rattle.mst_lang.specs.Words.{is_plain}
 use Rattle.mst_lang.specs.declared.line.Edit.{Edit}
-use Rattle.mst_net.specs.Tables.{Net, IsNetwork, empty_net}
-use Rattle.mst_net.specs.After.{effect}
-use Rattle.mst_net.proofs.AfterLemmas.{after_accepted, no_network}
+use Rattle.mst_net.specs.tables.Tables.{Net, IsNetwork, empty_net}
+use Rattle.mst_net.specs.tables.After.{effect}
+use Rattle.mst_net.proofs.tables_lemmas.AfterLemmas.{after_accepted, no_network}
 use Rattle.mst_save.specs.EditLine.{line_of, words_of}
 use Rattle.mst_lang.specs.Lines.{drop_cr, last_line, lines_from, lines_of}
 use Rattle.mst_save.specs.Making.{made, Accepted}

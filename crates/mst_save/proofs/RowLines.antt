@@ -22,11 +22,11 @@ use Rattle.mst_lang.specs.declared.line.Kind.TheVariants.{Mstp, Rstp}
 use Rattle.mst_lang.specs.declared.line.Power.TheVariants.{On, Off}
 use Rattle.mst_lang.specs.declared.line.LanState.TheVariants.{Up, Down}
 use Rattle.mst_kinds.specs.declared.port_command.PortCommand.TheVariants as port_command
-use Rattle.mst_net.specs.Tables.{Net, BridgeRow, PortRow, LanRow}
-use Rattle.mst_net.specs.Table.{mstis_in}
-use Rattle.mst_net.specs.After.{table_of, vlans_of, all_vids}
-use Rattle.mst_net.specs.Contents.{priority_of, port_priority_of, port_cost_of}
-use Rattle.mst_net.specs.TreesSet.{priority_trees, port_priority_trees, port_cost_trees}
+use Rattle.mst_net.specs.tables.Tables.{Net, BridgeRow, PortRow, LanRow}
+use Rattle.mst_net.specs.tables.Table.{mstis_in}
+use Rattle.mst_net.specs.tables.After.{table_of, vlans_of, all_vids}
+use Rattle.mst_net.specs.tables.Contents.{priority_of, port_priority_of, port_cost_of}
+use Rattle.mst_net.specs.tables.TreesSet.{priority_trees, port_priority_trees, port_cost_trees}
 use Rattle.mst_rows.specs.Cells.{vids}
 use Rattle.mst_rows.specs.Lines.{row_line}
 use Rattle.mst_rows.specs.Rows.{Row}

@@ -9,8 +9,8 @@ use Rattle.mst_ids.specs.declared.name.PortName.{PortName}
 use Rattle.mst_lang.specs.declared.line.Edit.{Edit}
 use Rattle.mst_lang.specs.declared.line.Edit.TheVariants.{SetByTree}
 use Rattle.mst_lang.specs.declared.line.TreeChange.TheVariants.{Vlans}
-use Rattle.mst_net.specs.After.{all_vids}
-use Rattle.mst_net.specs.Tables.{Net}
+use Rattle.mst_net.specs.tables.After.{all_vids}
+use Rattle.mst_net.specs.tables.Tables.{Net}
 use Rattle.mst_rows.specs.Rows.{Row}
 use Rattle.mst_save.specs.Saved.{when, joined, bridge_part, lan_edits, plug_edits, saved_edits}
 use Rattle.mst_save.specs.SaveRows.{edit_rows, edits_rows, first_row, save_rows}

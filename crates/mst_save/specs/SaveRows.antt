@@ -25,7 +25,7 @@ use Rattle.mst_lang.specs.declared.line.TreeChange.TheVariants.{Priority, PortPr
 use Rattle.mst_lang.specs.declared.line.Kind.TheVariants.{Mstp, Rstp}
 use Rattle.mst_lang.specs.declared.line.Power.TheVariants.{On, Off}
 use Rattle.mst_lang.specs.declared.line.LanState.TheVariants.{Up, Down}
-use Rattle.mst_net.specs.Tables.{Net}
+use Rattle.mst_net.specs.tables.Tables.{Net}
 use Rattle.mst_rows.specs.Cells.{Cell, word, number, vids as vids_cell}
 use Rattle.mst_rows.specs.Rows.{Row, row_of}
 use Rattle.mst_save.specs.EditLine.{no_vids}

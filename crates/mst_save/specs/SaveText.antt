@@ -9,8 +9,8 @@ use Rattle.mst_lang.specs.declared.line.Line.TheVariants.{Edit as edit}
 use Rattle.mst_lang.specs.declared.line.Edit.{Edit}
 use Rattle.mst_lang.specs.declared.line.Edit.TheVariants.{SetByTree}
 use Rattle.mst_lang.specs.declared.line.TreeChange.TheVariants.{Vlans}
-use Rattle.mst_net.specs.Tables.{Net, empty_net}
-use Rattle.mst_net.specs.After.{after}
+use Rattle.mst_net.specs.tables.Tables.{Net, empty_net}
+use Rattle.mst_net.specs.tables.After.{after}
 use Rattle.mst_save.specs.EditLine.{line_of}
 use Rattle.mst_rows.specs.Lines.{row_line}
 use Rattle.mst_save.specs.SaveRows.{save_rows}

@@ -17,12 +17,12 @@ use Rattle.mst_lang.specs.declared.line.TreeChange.TheVariants.{Priority, PortPr
 use Rattle.mst_lang.specs.declared.line.Kind.TheVariants.{Rstp}
 use Rattle.mst_lang.specs.declared.line.Power.TheVariants.{Off}
 use Rattle.mst_lang.specs.declared.line.LanState.TheVariants.{Down}
-use Rattle.mst_net.specs.Table.{tree_in, mstis_in}
-use Rattle.mst_net.specs.Tables.{Net, BridgeRow, PortRow, LanRow}
-use Rattle.mst_net.specs.declared.settings.PortSettings.{PortSettings}
-use Rattle.mst_net.specs.After.{all_vids, table_of, vlans_of}
-use Rattle.mst_net.specs.Contents.{priority_of, port_priority_of, port_cost_of}
-use Rattle.mst_net.specs.TreesSet.{priority_trees, port_priority_trees, port_cost_trees}
+use Rattle.mst_net.specs.tables.Table.{tree_in, mstis_in}
+use Rattle.mst_net.specs.tables.Tables.{Net, BridgeRow, PortRow, LanRow}
+use Rattle.mst_net.specs.tables.declared.settings.PortSettings.{PortSettings}
+use Rattle.mst_net.specs.tables.After.{all_vids, table_of, vlans_of}
+use Rattle.mst_net.specs.tables.Contents.{priority_of, port_priority_of, port_cost_of}
+use Rattle.mst_net.specs.tables.TreesSet.{priority_trees, port_priority_trees, port_cost_trees}
 use Rattle.mst_save.specs.EditLine.{line_of}
 use Rattle.mst_save.specs.Runs.{vids_of}
 

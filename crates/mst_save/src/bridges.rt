@@ -8,9 +8,9 @@ ghost use Rattle.mst_lang.specs.declared.line.BridgeChange.TheVariants.{Power as
 ghost use Rattle.mst_lang.specs.declared.line.TreeChange.TheVariants.{Priority};
 ghost use Rattle.mst_lang.specs.declared.line.Kind.TheVariants.{Rstp};
 ghost use Rattle.mst_lang.specs.declared.line.Power.TheVariants.{Off};
-ghost use Rattle.mst_net.specs.Contents.{priority_of};
-ghost use Rattle.mst_net.specs.Seen.{bridge_row};
-ghost use Rattle.mst_net.specs.TreesSet.{priority_trees};
+ghost use Rattle.mst_net.specs.tables.Contents.{priority_of};
+ghost use Rattle.mst_net.specs.tables.Seen.{bridge_row};
+ghost use Rattle.mst_net.specs.tables.TreesSet.{priority_trees};
 ghost use Rattle.mst_rows.specs.Rows.{Row};
 ghost use Rattle.mst_save.specs.Homes.{kept_for};
 ghost use Rattle.mst_save.specs.Saved.{when, own_configuration, bridge_settings, bridge_edits, bridge_part};

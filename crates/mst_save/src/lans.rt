@@ -5,7 +5,7 @@ ghost use Rattle.std.specs.FinMap as fin;
 ghost use Rattle.mst_lang.specs.declared.line.Edit.TheVariants.{AddLan, SetLan};
 ghost use Rattle.mst_lang.specs.declared.line.LanChange.TheVariants.{State, Speed};
 ghost use Rattle.mst_lang.specs.declared.line.LanState.TheVariants.{Down};
-ghost use Rattle.mst_net.specs.Seen.{lan_row};
+ghost use Rattle.mst_net.specs.tables.Seen.{lan_row};
 ghost use Rattle.mst_rows.specs.Rows.{Row};
 ghost use Rattle.mst_save.specs.Saved.{when, lan_settings, lan_edits};
 ghost use Rattle.mst_save.specs.SaveRows.{edit_rows, edits_rows};

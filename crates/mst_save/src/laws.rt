@@ -7,7 +7,7 @@ ghost use Rattle.mst_lang.specs.declared.line.Version.TheVariants.{V2};
 ghost use Rattle.mst_lang.specs.Ranges.{InRange};
 ghost use Rattle.mst_lang.specs.Lines.{lines_of};
 ghost use Rattle.mst_lang.specs.Reading.{reading_as};
-ghost use Rattle.mst_net.specs.Tables.{Net, IsNetwork, empty_net};
+ghost use Rattle.mst_net.specs.tables.Tables.{Net, IsNetwork, empty_net};
 ghost use Rattle.mst_save.specs.EditLine.{line_of, IsSayable};
 ghost use Rattle.mst_save.specs.Making.{made, Accepted};
 ghost use Rattle.mst_save.specs.Saved.{saved_edits};

@@ -2,7 +2,7 @@ ghost use Rattle.std.specs.Prelude.{◌≡◌, ℕ, ◌+◌, ◌<◌, ◌≤◌,
 ghost use Rattle.mst_ids.specs.Vids.{run_text, runs_from};
 ghost use Rattle.std.specs.List.{flat_map};
 ghost use Rattle.mst_kinds.specs.declared.bridge_command.BridgeCommand.TheVariants.{Msti};
-ghost use Rattle.mst_net.specs.After.{table_of};
+ghost use Rattle.mst_net.specs.tables.After.{table_of};
 ghost use Rattle.mst_rows.specs.Cells.{number, vids as vids_cell};
 ghost use Rattle.mst_rows.specs.Rows.{Row};
 ghost use Rattle.mst_save.specs.Runs.{vids_of};

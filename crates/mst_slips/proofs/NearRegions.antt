@@ -7,10 +7,10 @@ use Rattle.std.specs.FinMap as fin
 use Rattle.std.specs.Cmp.Lexicographic.{bytes_decides, nat_list_cmp_total}
 use Rattle.std.proofs.lemmas.Bool.{eqb-true}
 use Rattle.mst_ids.specs.Identifiers.{bridge_id}
-use Rattle.mst_net.specs.After.{table_of}
-use Rattle.mst_net.specs.ByTree.{ByTree, table_in}
-use Rattle.mst_net.specs.Seen.{bridge_row}
-use Rattle.mst_net.specs.Tables.{Net, Numbers, BridgeRow, IsNetwork}
+use Rattle.mst_tables.specs.After.{table_of}
+use Rattle.mst_tables.specs.ByTree.{ByTree, table_in}
+use Rattle.mst_tables.specs.Seen.{bridge_row}
+use Rattle.mst_tables.specs.Tables.{Net, Numbers, BridgeRow, IsNetwork}
 use Rattle.mst_lag.specs.Aggregation.{same_name}
 use Rattle.mst_lag.specs.Viewed.{Viewed, IsView, named_bridge}
 use Rattle.mst_lag.specs.declared.in_view.BridgeInView.{BridgeInView}

@@ -3,8 +3,8 @@ use Rattle.std.proofs.Common.{◌≡◌, ℕ, Bool, List, [], ◌++◌, map, Opt
 use Rattle.std.specs.Prelude.{if◌then◌else◌}
 use Rattle.std.specs.List.{filter, flat_map}
 use Rattle.std.proofs.lemmas.List.Folds.{flat_map-map}
-use Rattle.mst_net.specs.ByTree.{vlans_in}
-use Rattle.mst_net.specs.Tables.{Net, Numbers}
+use Rattle.mst_tables.specs.ByTree.{vlans_in}
+use Rattle.mst_tables.specs.Tables.{Net, Numbers}
 use Rattle.mst_lag.specs.Aggregation.{same_name}
 use Rattle.mst_lag.specs.View.{LogicalPort, view_ports}
 use Rattle.mst_lag.specs.Viewed.{Viewed, IsView, named_lan, named_port}

@@ -4,7 +4,7 @@ use Rattle.std.specs.Option.{option_map_or}
 use Rattle.std.specs.HashMap.{HashMap, get}
 use Rattle.std.specs.declared.alloc.Global.{Global}
 use Rattle.mst_rows.specs.Rows.{Row}
-use Rattle.mst_net.specs.ByTree.{ByTree, vlans_in}
+use Rattle.mst_tables.specs.ByTree.{ByTree, vlans_in}
 use Rattle.mst_lag.specs.Aggregation.{same_name}
 use Rattle.mst_lag.specs.Viewed.{named_port}
 use Rattle.mst_lag.specs.declared.in_view.LanInView.{LanInView}

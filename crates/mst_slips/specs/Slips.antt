@@ -1,7 +1,7 @@
 -- What of a network is most often a slip.
 use Rattle.std.specs.Prelude.{◌++◌, List}
 use Rattle.mst_rows.specs.Rows.{Row}
-use Rattle.mst_net.specs.Tables.{Net}
+use Rattle.mst_tables.specs.Tables.{Net}
 use Rattle.mst_slips.specs.Regions.{region_rows}
 use Rattle.mst_slips.specs.Tables.{table_rows}
 use Rattle.mst_slips.specs.Lans.{lan_rows}

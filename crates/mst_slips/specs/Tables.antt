@@ -7,9 +7,9 @@ use Rattle.mst_kinds.specs.declared.kind.Kind.TheVariants as kind
 use Rattle.mst_kinds.specs.declared.summary_line.SummaryLine.TheVariants as summary_line
 use Rattle.mst_rows.specs.Cells.{number, vids, word}
 use Rattle.mst_rows.specs.Rows.{Row, row_of}
-use Rattle.mst_net.specs.Table.{tree_in}
-use Rattle.mst_net.specs.Tables.{Net, BridgeRow}
-use Rattle.mst_net.specs.After.{table_of}
+use Rattle.mst_tables.specs.Table.{tree_in}
+use Rattle.mst_tables.specs.Tables.{Net, BridgeRow}
+use Rattle.mst_tables.specs.After.{table_of}
 use Rattle.mst_lag.specs.Aggregation.{same_name}
 use Rattle.mst_slips.specs.Regions.{is_named_first, bridges_with}
 use Rattle.mst_slips.specs.Vids.{vids_that}

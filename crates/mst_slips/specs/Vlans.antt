@@ -9,8 +9,8 @@ use Rattle.mst_kinds.specs.declared.kind.Kind.TheVariants as kind
 use Rattle.mst_kinds.specs.declared.summary_line.SummaryLine.TheVariants as summary_line
 use Rattle.mst_rows.specs.Cells.{port, vids}
 use Rattle.mst_rows.specs.Rows.{Row, row_of}
-use Rattle.mst_net.specs.Tables.{Net}
-use Rattle.mst_net.specs.After.{vlans_of}
+use Rattle.mst_tables.specs.Tables.{Net}
+use Rattle.mst_tables.specs.After.{vlans_of}
 use Rattle.mst_lag.specs.Aggregation.{same_name}
 use Rattle.mst_lag.specs.View.{LogicalLan, view_lans, view_ports}
 use Rattle.mst_slips.specs.Vids.{vids_without}

@@ -1,7 +1,7 @@
 ghost use Rattle.std.specs.Prelude.{◌≡◌, ◌++◌, ◌∷◌, [], ◌||◌, ℕ, List, OnOk, IfOk, not, map, find, fold};
 ghost use Rattle.std.specs.List.{flat_map, list_all};
 ghost use Rattle.mst_rows.specs.Rows.{Row};
-ghost use Rattle.mst_net.specs.Tables.{Net, Numbers};
+ghost use Rattle.mst_tables.specs.Tables.{Net, Numbers};
 ghost use Rattle.mst_lag.specs.Aggregation.{same_name};
 ghost use Rattle.mst_lag.specs.Viewed.{IsView, named_port};
 ghost use Rattle.mst_slips.specs.Kept.{AreKept, kept_speeds, kept_between, kept_rows};

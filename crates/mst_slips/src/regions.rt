@@ -1,8 +1,8 @@
 ghost use Rattle.std.specs.Prelude.{◌≡◌, ◌++◌, ◌∷◌, [], List, IfOk, OnOk, filter};
 ghost use Rattle.std.specs.List.{flat_map};
 ghost use Rattle.mst_rows.specs.Rows.{Row};
-ghost use Rattle.mst_net.specs.Seen.{bridge_row};
-ghost use Rattle.mst_net.specs.Tables.{Net, Numbers, IsNetwork};
+ghost use Rattle.mst_tables.specs.Seen.{bridge_row};
+ghost use Rattle.mst_tables.specs.Tables.{Net, Numbers, IsNetwork};
 ghost use Rattle.mst_lag.specs.Viewed.{IsView};
 ghost use Rattle.mst_config.specs.Shared.{AreRegions};
 ghost use Rattle.mst_slips.specs.Regions.{is_named as has_name, region_row, region_rows};
@@ -14,8 +14,8 @@ use mst_ids::{BridgeId, ConfName, Name};
 use mst_kinds::{Kind, SummaryLine};
 use mst_lag::{BridgeInView, View};
 use mst_lang::Kind as BridgeKind;
-use mst_net::Bridge;
 use mst_rows::{Rows, Value, put};
+use mst_tables::Bridge;
 use std::alloc::{AllocError, Global};
 
 /// Whether a bridge is the first of its region: the region's identifier has its MAC then.

@@ -1,8 +1,8 @@
 ghost use Rattle.std.specs.Prelude.{◌≡◌, ◌++◌, ◌∷◌, ◌==◌, not, [], List, IfOk, OnOk, filter};
 ghost use Rattle.std.specs.List.{flat_map};
 ghost use Rattle.mst_rows.specs.Rows.{Row};
-ghost use Rattle.mst_net.specs.Table.{tree_in};
-ghost use Rattle.mst_net.specs.Tables.{Net, Numbers, IsNetwork};
+ghost use Rattle.mst_tables.specs.Table.{tree_in};
+ghost use Rattle.mst_tables.specs.Tables.{Net, Numbers, IsNetwork};
 ghost use Rattle.mst_lag.specs.Viewed.{IsView, named_bridge};
 ghost use Rattle.mst_config.specs.Shared.{AreRegions};
 ghost use Rattle.mst_slips.specs.Seen.{seen_alone, seen_odd, seen_odd_row, seen_odd_rows, seen_beside, seen_among};
@@ -13,8 +13,8 @@ use mst_config::Regions;
 use mst_ids::{ConfName, Name, Vid, VidSet};
 use mst_kinds::{Kind, SummaryLine};
 use mst_lag::{BridgeInView, View};
-use mst_net::Table;
 use mst_rows::{Rows, Value, put};
+use mst_tables::Table;
 use std::alloc::{AllocError, Global};
 
 /// Whether two regions have one name and one revision, by their first bridges.

@@ -2,8 +2,8 @@ ghost use Rattle.std.specs.Prelude.{◌≡◌, ◌++◌, ◌∷◌, ◌&&◌, no
 ghost use Rattle.std.specs.List.{flat_map};
 ghost use Rattle.mst_ids.specs.Vids.{has};
 ghost use Rattle.mst_rows.specs.Rows.{Row};
-ghost use Rattle.mst_net.specs.ByTree.{vlans_in};
-ghost use Rattle.mst_net.specs.Tables.{Net, Numbers};
+ghost use Rattle.mst_tables.specs.ByTree.{vlans_in};
+ghost use Rattle.mst_tables.specs.Tables.{Net, Numbers};
 ghost use Rattle.mst_lag.specs.Viewed.{IsView};
 ghost use Rattle.mst_slips.specs.Kept.{AreKept, kept_link};
 ghost use Rattle.mst_slips.specs.Vids.{vids_without as without};

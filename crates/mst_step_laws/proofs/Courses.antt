@@ -6,9 +6,9 @@ use Rattle.mst_change.specs.Steps.{all_lines}
 use Rattle.mst_lang.specs.Ranges.{InRange}
 use Rattle.mst_lang.specs.declared.line.Edit.{Edit}
 use Rattle.mst_lang.specs.declared.line.Fault.{Fault}
-use Rattle.mst_net.specs.After.{after}
-use Rattle.mst_net.specs.Tables.{IsNetwork, Net}
-use Rattle.mst_net.specs.declared.refusal.Refusal.{Refusal}
+use Rattle.mst_net.specs.tables.After.{after}
+use Rattle.mst_net.specs.tables.Tables.{IsNetwork, Net}
+use Rattle.mst_net.specs.tables.declared.refusal.Refusal.{Refusal}
 use Rattle.mst_trees.specs.Outcome.{IsOutcome, Outcome}
 use Rattle.mst_policy.specs.declared.policy.PolicyLine.{PolicyLine}
 use Rattle.mst_rows.specs.Rows.{Row}

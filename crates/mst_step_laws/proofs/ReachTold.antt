@@ -8,7 +8,7 @@ use Rattle.std.proofs.lemmas.List.Elements.{Contains-append_left, Contains-appen
 use Rattle.mst_graph.specs.Islands.{Island, members}
 use Rattle.mst_graph.specs.Walks.{bridge_at, lan_at}
 use Rattle.mst_graph.proofs.Members.{cases, from_filter, from_map, here, in_filter, in_map, in_none, passing}
-use Rattle.mst_net.specs.Tables.{Net, IsNetwork}
+use Rattle.mst_net.specs.tables.Tables.{Net, IsNetwork}
 use Rattle.mst_lag.specs.Aggregation.{same_name}
 use Rattle.mst_rows.specs.Rows.{Row}
 use Rattle.mst_vlan.specs.Reach.{AreIslandsOf, bridges_on, lans_up}

@@ -5,7 +5,7 @@ use Rattle.std.specs.List.{filter}
 use Rattle.mst_ids.specs.Vids.{is_vid}
 use Rattle.mst_graph.specs.Groups.{AreGroups}
 use Rattle.mst_graph.specs.Islands.{Island}
-use Rattle.mst_net.specs.Tables.{Net}
+use Rattle.mst_net.specs.tables.Tables.{Net}
 use Rattle.mst_rows.specs.Rows.{Row}
 use Rattle.mst_vlan.specs.Reach.{AreIslandsOf}
 use Rattle.mst_trees.specs.Outcome.{Outcome}

@@ -10,8 +10,8 @@ use Rattle.mst_graph.specs.Lists.{has_any}
 use Rattle.mst_graph.proofs.Members.{cases, from_filter, in_none}
 use Rattle.mst_lang.specs.Ranges.{InRange}
 use Rattle.mst_lang.specs.declared.line.Edit.{Edit}
-use Rattle.mst_net.specs.After.{after}
-use Rattle.mst_net.specs.Tables.{IsNetwork, Net}
+use Rattle.mst_net.specs.tables.After.{after}
+use Rattle.mst_net.specs.tables.Tables.{IsNetwork, Net}
 use Rattle.mst_policy.specs.declared.policy.PolicyLine.{PolicyLine}
 use Rattle.mst_rows.specs.Rows.{Row}
 use Rattle.mst_verdict.specs.Steps.{Change, changes, is_broken, mends, unkept_count}

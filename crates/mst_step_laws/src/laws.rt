@@ -5,7 +5,7 @@ ghost use Rattle.mst_change.specs.Reading.{IsInRange, LineRead};
 ghost use Rattle.mst_change.specs.Steps.{all_lines, change_of, lines_from};
 ghost use Rattle.mst_graph.specs.Lists.{has_any};
 ghost use Rattle.mst_lang.specs.declared.line.Version.TheVariants.{V1};
-ghost use Rattle.mst_net.specs.Tables.{Net, IsNetwork};
+ghost use Rattle.mst_net.specs.tables.Tables.{Net, IsNetwork};
 ghost use Rattle.mst_policy.specs.declared.policy.PolicyLine.{PolicyLine as LineOf};
 ghost use Rattle.mst_verdict.specs.Setting.{after_lines, after_steps};
 ghost use Rattle.mst_verdict.specs.Stepping.{AreWatched, Steps};

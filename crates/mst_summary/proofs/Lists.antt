@@ -4,7 +4,7 @@ use Rattle.std.specs.List.{AllByRecursion, filter, list_all, list_any, count_by,
 use Rattle.std.proofs.lemmas.List.{length-map, take_more}
 use Rattle.std.proofs.lemmas.List.Elements.{filter-append}
 use Rattle.std.proofs.lemmas.List.Sums.{length-filter, fold-append}
-use Rattle.mst_net.proofs.Rising.{range_more}
+use Rattle.mst_tables.proofs.Rising.{range_more}
 use Rattle.mst_trees.proofs.Lists.{filter_mapped}
 use Rattle.mst_trees.proofs.Looking.{filter_alike}
 use Rattle.mst_trees.specs.AllTrees.{all_trees}

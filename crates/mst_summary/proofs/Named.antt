@@ -9,9 +9,9 @@ use Rattle.std.proofs.lemmas.List.{length-map}
 use Rattle.std.proofs.lemmas.List.Folds.{flat_map-map}
 use Rattle.mst_ids.specs.Identifiers.{bridge_id}
 use Rattle.mst_ids.specs.Vids.{has}
-use Rattle.mst_net.specs.ByTree.{by_tree, vlans_in}
-use Rattle.mst_net.specs.Seen.{bridge_row}
-use Rattle.mst_net.specs.Tables.{Net, BridgeRow, IsNetwork}
+use Rattle.mst_tables.specs.ByTree.{by_tree, vlans_in}
+use Rattle.mst_tables.specs.Seen.{bridge_row}
+use Rattle.mst_tables.specs.Tables.{Net, BridgeRow, IsNetwork}
 use Rattle.mst_lag.specs.Aggregation.{same_name}
 use Rattle.mst_lag.specs.View.{LogicalLan, LogicalPort, bridge_names}
 use Rattle.mst_lag.specs.Viewed.{named_bridge, named_lan, named_port}

@@ -13,10 +13,10 @@ use Rattle.mst_graph.specs.Islands.{AreIslands, Island}
 use Rattle.mst_graph.specs.Numbers.{HaveBodies}
 use Rattle.mst_graph.specs.declared.keys.Numbering.{Numbering}
 use Rattle.mst_graph.proofs.Alike.{alike_groups}
-use Rattle.mst_net.specs.ByTree.{table_in, vlans_in}
-use Rattle.mst_net.specs.Seen.{bridge_row}
-use Rattle.mst_net.specs.Table.{tree_in}
-use Rattle.mst_net.specs.Tables.{Numbers}
+use Rattle.mst_tables.specs.ByTree.{table_in, vlans_in}
+use Rattle.mst_tables.specs.Seen.{bridge_row}
+use Rattle.mst_tables.specs.Table.{tree_in}
+use Rattle.mst_tables.specs.Tables.{Numbers}
 use Rattle.mst_lag.specs.Aggregation.{same_name}
 use Rattle.mst_lag.specs.Viewed.{Viewed, named_port}
 use Rattle.mst_lag.specs.declared.in_view.BridgeInView.{BridgeInView}

@@ -5,7 +5,7 @@ use Rattle.mst_kinds.specs.declared.kind.Kind.TheVariants as kind
 use Rattle.mst_kinds.specs.declared.summary_line.SummaryLine.TheVariants as summary_line
 use Rattle.mst_rows.specs.Cells.{number, ports}
 use Rattle.mst_rows.specs.Rows.{Row, row_of}
-use Rattle.mst_net.specs.Tables.{Net}
+use Rattle.mst_tables.specs.Tables.{Net}
 use Rattle.mst_lag.specs.View.{LogicalPort, view_ports}
 use Rattle.mst_trees.specs.Outcome.{Outcome}
 use Rattle.mst_vlan.specs.trees.Roles.{role_of, forwards}

@@ -7,8 +7,8 @@ use Rattle.mst_kinds.specs.declared.kind.Kind.TheVariants as kind
 use Rattle.mst_kinds.specs.declared.summary_line.SummaryLine.TheVariants as summary_line
 use Rattle.mst_rows.specs.Cells.{absent, word, number}
 use Rattle.mst_rows.specs.Rows.{Row, row_of}
-use Rattle.mst_net.specs.Tables.{Net, BridgeRow}
-use Rattle.mst_net.specs.ByTree.{ByTree, by_tree, priority_in}
+use Rattle.mst_tables.specs.Tables.{Net, BridgeRow}
+use Rattle.mst_tables.specs.ByTree.{ByTree, by_tree, priority_in}
 use Rattle.mst_trees.specs.InUse.{id_in}
 use Rattle.mst_trees.specs.Outcome.{Outcome}
 use Rattle.mst_facts.specs.Roots.{root_of}

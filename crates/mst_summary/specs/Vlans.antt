@@ -8,7 +8,7 @@ use Rattle.mst_rows.specs.Cells.{number, vids}
 use Rattle.mst_rows.specs.Rows.{Row, row_of}
 use Rattle.mst_graph.specs.Groups.{AreGroups}
 use Rattle.mst_graph.specs.Islands.{Island}
-use Rattle.mst_net.specs.Tables.{Net}
+use Rattle.mst_tables.specs.Tables.{Net}
 use Rattle.mst_lag.specs.Trees.{is_among}
 use Rattle.mst_trees.specs.Outcome.{Outcome}
 use Rattle.mst_vlan.specs.Reach.{AreIslandsOf}

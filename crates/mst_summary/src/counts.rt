@@ -1,7 +1,7 @@
 ghost use Rattle.std.specs.Prelude.{◌≡◌, ◌++◌, ◌∷◌, [], List, OnOk};
 ghost use Rattle.std.specs.List.{count_by};
 ghost use Rattle.mst_rows.specs.Rows.{Row};
-ghost use Rattle.mst_net.specs.Seen.{bridge_row};
+ghost use Rattle.mst_tables.specs.Seen.{bridge_row};
 ghost use Rattle.mst_slips.specs.Seen.{seen_first};
 ghost use Rattle.mst_summary.specs.Counts.{counts_row};
 ghost use Rattle.mst_summary.specs.Seen.{seen_counts};

@@ -1,7 +1,7 @@
 //! Laws of the summary. Their functions do nothing: a caller has their clauses.
 ghost use Rattle.std.specs.Prelude.{◌≡◌, ◌==◌, ℕ, true, List, None, Some};
 ghost use Rattle.std.specs.List.{Contains};
-ghost use Rattle.mst_net.specs.Tables.{Net, IsNetwork};
+ghost use Rattle.mst_tables.specs.Tables.{Net, IsNetwork};
 ghost use Rattle.mst_trees.specs.Outcome.{Outcome, IsOutcome};
 ghost use Rattle.mst_rows.specs.Rows.{Row};
 ghost use Rattle.mst_summary.specs.declared.roots.Follower.{Follower};

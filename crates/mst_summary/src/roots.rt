@@ -2,7 +2,7 @@ ghost use Rattle.std.specs.Prelude.{◌≡◌, ◌==◌, ◌++◌, ◌∷◌, []
 ghost use Rattle.std.specs.List.{Contains, flat_map};
 ghost use Rattle.mst_lag.specs.Viewed.{named_bridge};
 ghost use Rattle.mst_rows.specs.Rows.{Row};
-ghost use Rattle.mst_net.specs.ByTree.{by_tree};
+ghost use Rattle.mst_tables.specs.ByTree.{by_tree};
 ghost use Rattle.mst_graph.specs.Lists.{has_any};
 ghost use Rattle.mst_trees.specs.Settled.{outcome_of};
 ghost use Rattle.mst_summary.specs.declared.roots.Follower.{Follower as FollowerIn};

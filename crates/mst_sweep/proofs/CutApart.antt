@@ -9,8 +9,8 @@ use Rattle.std.proofs.lemmas.Bool.{eqb-true, eq-eqb}
 use Rattle.mst_graph.specs.Islands.{Island, Link, AreJoined, link_ends}
 use Rattle.mst_graph.specs.Walks.{Walk, Node, bridge_at, lan_at}
 use Rattle.mst_graph.proofs.Members.{in_map, from_map, in_filter, from_filter, passing}
-use Rattle.mst_net.specs.After.{after, effect}
-use Rattle.mst_net.specs.Tables.{Net, IsNetwork, BridgeRow, port_eq}
+use Rattle.mst_net.specs.tables.After.{after, effect}
+use Rattle.mst_net.specs.tables.Tables.{Net, IsNetwork, BridgeRow, port_eq}
 use Rattle.mst_lag.specs.Aggregation.{plugs, same_name}
 use Rattle.mst_lag.specs.View.{LogicalPort, IsUnrestricted, logical_port, as_port, view_ports, bridge_names}
 use Rattle.mst_trees.specs.Outcome.{Outcome, IsOutcome}

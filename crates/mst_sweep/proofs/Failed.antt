@@ -8,12 +8,12 @@ use Rattle.mst_lang.specs.declared.line.BridgeChange.TheVariants.{Power}
 use Rattle.mst_lang.specs.declared.line.LanChange.TheVariants.{State}
 use Rattle.mst_lang.specs.declared.line.LanState.TheVariants.{Down}
 use Rattle.mst_lang.specs.declared.line.Power.TheVariants.{Off}
-use Rattle.mst_net.specs.declared.refusal.Refusal.{Refusal}
-use Rattle.mst_net.specs.After.{after, effect, refusal_of, bridge_with, lan_with}
-use Rattle.mst_net.specs.Tables.{Net, BridgeRow, port_eq}
-use Rattle.mst_net.proofs.Changed.{get_changed}
-use Rattle.mst_net.proofs.Keys.{names}
-use Rattle.mst_net.proofs.NamesInOrder.{names_stay}
+use Rattle.mst_net.specs.tables.declared.refusal.Refusal.{Refusal}
+use Rattle.mst_net.specs.tables.After.{after, effect, refusal_of, bridge_with, lan_with}
+use Rattle.mst_net.specs.tables.Tables.{Net, BridgeRow, port_eq}
+use Rattle.mst_net.proofs.tables_lemmas.Changed.{get_changed}
+use Rattle.mst_net.proofs.tables_lemmas.Keys.{names}
+use Rattle.mst_net.proofs.tables_lemmas.NamesInOrder.{names_stay}
 use Rattle.mst_lag.specs.Aggregation.{Plug, plugs, lans_as_one, same_name}
 use Rattle.mst_lag.specs.View.{LogicalPort, logical_lan, logical_port, as_port, port_names}
 use Rattle.mst_trees.proofs.Lists.{mapped_twice}

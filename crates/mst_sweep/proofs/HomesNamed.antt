@@ -8,8 +8,8 @@ use Rattle.std.proofs.lemmas.Bool.{eqb-true}
 use Rattle.std.proofs.lemmas.List.{take_more}
 use Rattle.std.proofs.lemmas.List.Folds.{list_any-append}
 use Rattle.mst_graph.specs.Islands.{Island}
-use Rattle.mst_net.specs.Tables.{Net, Numbers}
-use Rattle.mst_net.specs.Contents.{IsNumbered}
+use Rattle.mst_net.specs.tables.Tables.{Net, Numbers}
+use Rattle.mst_net.specs.tables.Contents.{IsNumbered}
 use Rattle.mst_lag.specs.Aggregation.{same_name}
 use Rattle.mst_trees.proofs.Lists.{some_is}
 use Rattle.mst_vlan.specs.declared.island.Island.{Island as IslandNos}

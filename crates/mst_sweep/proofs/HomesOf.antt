@@ -1,6 +1,6 @@
 -- What is so of the places of islands by what carries each VID is so by the plan that it is of.
 use Rattle.std.proofs.Common.{ℕ, List, subst}
-use Rattle.mst_net.specs.Tables.{Net, Numbers}
+use Rattle.mst_net.specs.tables.Tables.{Net, Numbers}
 use Rattle.mst_vlan.specs.Carried.{ViewWithTrees}
 use Rattle.mst_facts.specs.declared.planned.Planned.{Planned}
 use Rattle.mst_trees.specs.Agrees.{AreOf}

@@ -11,10 +11,10 @@ use Rattle.mst_graph.specs.Islands.{Link}
 use Rattle.mst_graph.proofs.Members.{in_map, from_map, in_filter, from_filter, passing}
 use Rattle.mst_ids.specs.Vids.{has}
 use Rattle.mst_ids.specs.declared.name.PortName.{PortName}
-use Rattle.mst_net.specs.ByTree.{table_in, vlans_in}
-use Rattle.mst_net.specs.Table.{tree_in, has_tree, mstis_in}
-use Rattle.mst_net.specs.After.{table_of}
-use Rattle.mst_net.specs.Tables.{Net, Numbers, BridgeRow}
+use Rattle.mst_net.specs.tables.ByTree.{table_in, vlans_in}
+use Rattle.mst_net.specs.tables.Table.{tree_in, has_tree, mstis_in}
+use Rattle.mst_net.specs.tables.After.{table_of}
+use Rattle.mst_net.specs.tables.Tables.{Net, Numbers, BridgeRow}
 use Rattle.mst_lag.specs.Trees.{is_among, mstis_of}
 use Rattle.mst_lag.specs.View.{LogicalPort, view_ports}
 use Rattle.mst_lag.specs.Viewed.{Viewed, named_port}

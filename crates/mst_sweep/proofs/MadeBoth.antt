@@ -5,10 +5,10 @@ use Rattle.std.specs.List.{Contains, filter}
 use Rattle.std.specs.Option.{option_map, option_map_or}
 use Rattle.std.proofs.lemmas.List.Elements.{Contains-append_cases}
 use Rattle.mst_graph.proofs.Members.{here, there, from_map, from_filter, in_none}
-use Rattle.mst_net.specs.After.{after, first_of, has_bridge, has_lan}
-use Rattle.mst_net.specs.Tables.{Net, BridgeRow, LanRow}
-use Rattle.mst_net.specs.declared.refusal.Refusal.TheVariants.{E04, E06}
-use Rattle.mst_net.proofs.Keys.{names}
+use Rattle.mst_net.specs.tables.After.{after, first_of, has_bridge, has_lan}
+use Rattle.mst_net.specs.tables.Tables.{Net, BridgeRow, LanRow}
+use Rattle.mst_net.specs.tables.declared.refusal.Refusal.TheVariants.{E04, E06}
+use Rattle.mst_net.proofs.tables_lemmas.Keys.{names}
 use Rattle.mst_trees.proofs.Entries.{entries_found}
 use Rattle.mst_trees.proofs.Lists.{all_contained}
 use Rattle.mst_vlan.specs.Reach.{bridges_on}

@@ -7,12 +7,12 @@ use Rattle.std.specs.FinMap as fin
 use Rattle.std.specs.FinMap.{len-entries}
 use Rattle.std.specs.Cmp.Lexicographic.{bytes_decides}
 use Rattle.std.proofs.lemmas.List.{length-map, get_or-map, get_or_default}
-use Rattle.mst_net.proofs.Rising.{range_more}
+use Rattle.mst_net.proofs.tables_lemmas.Rising.{range_more}
 use Rattle.std.proofs.lemmas.List.Elements.{filter-append}
 use Rattle.std.proofs.lemmas.List.Sums.{count_by_more_yes, count_by_more_no, count_by-le-length, length-filter, sum_by-append, sum_by-cons}
 use Rattle.mst_ids.specs.declared.name.PortName.{PortName}
-use Rattle.mst_net.specs.Tables.{Net, Numbers, port_eq}
-use Rattle.mst_net.specs.Seen.{bridge_row}
+use Rattle.mst_net.specs.tables.Tables.{Net, Numbers, port_eq}
+use Rattle.mst_net.specs.tables.Seen.{bridge_row}
 use Rattle.mst_lag.specs.Aggregation.{Plug, plug_of, plugs, same_name}
 use Rattle.mst_lag.specs.View.{LogicalPort, logical_port, as_port, view_ports, bridge_names, port_names}
 use Rattle.mst_lag.specs.Viewed.{Viewed, named_port}

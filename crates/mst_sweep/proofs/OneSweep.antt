@@ -9,9 +9,9 @@ use Rattle.mst_graph.specs.Islands.{Island}
 use Rattle.mst_graph.proofs.Members.{here, from_map, from_filter, there}
 use Rattle.mst_lang.specs.Ranges.{InRange}
 use Rattle.mst_lang.specs.declared.line.Edit.{Edit}
-use Rattle.mst_net.specs.After.{after}
-use Rattle.mst_net.specs.Tables.{Net, BridgeRow, LanRow, IsNetwork}
-use Rattle.mst_net.proofs.Keys.{names}
+use Rattle.mst_net.specs.tables.After.{after}
+use Rattle.mst_net.specs.tables.Tables.{Net, BridgeRow, LanRow, IsNetwork}
+use Rattle.mst_net.proofs.tables_lemmas.Keys.{names}
 use Rattle.mst_trees.specs.Outcome.{Outcome, IsOutcome}
 use Rattle.mst_trees.proofs.Entries.{entries_found}
 use Rattle.mst_trees.proofs.Lists.{all_contained}

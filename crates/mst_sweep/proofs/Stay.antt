@@ -7,9 +7,9 @@ use Rattle.std.specs.FinMap as fin
 use Rattle.std.specs.Cmp.Lexicographic.{bytes_decides}
 use Rattle.mst_graph.specs.Islands.{Island, AreIslands}
 use Rattle.mst_graph.proofs.Members.{from_map, from_filter}
-use Rattle.mst_net.specs.ByTree.{ByTree, table_in, vlans_in}
-use Rattle.mst_net.specs.Seen.{bridge_row}
-use Rattle.mst_net.specs.Tables.{Net, Numbers, BridgeRow}
+use Rattle.mst_net.specs.tables.ByTree.{ByTree, table_in, vlans_in}
+use Rattle.mst_net.specs.tables.Seen.{bridge_row}
+use Rattle.mst_net.specs.tables.Tables.{Net, Numbers, BridgeRow}
 use Rattle.mst_ids.specs.declared.name.PortName.{PortName}
 use Rattle.mst_lag.specs.Aggregation.{same_name}
 use Rattle.mst_lag.specs.View.{LogicalPort, bridge_names}
@@ -32,7 +32,7 @@ use Rattle.mst_facts.specs.Both.{seen_in_both, seen_both}
 use Rattle.mst_facts.proofs.Lists.{filter_map-filter_map, find-found}
 use Rattle.mst_facts.proofs.Named.{found_named, names_are}
 use Rattle.mst_classes.specs.Classes.{HasOnly}
-use Rattle.mst_net.proofs.Keys.{names}
+use Rattle.mst_net.proofs.tables_lemmas.Keys.{names}
 use Rattle.mst_sweep.specs.declared.parts.Stays.{Stays}
 use Rattle.mst_sweep.specs.Parts.{home, staying, AreParts}
 use Rattle.mst_sweep.specs.Baseline.{AreHomes}

@@ -8,13 +8,13 @@ use Rattle.mst_lang.specs.declared.line.BridgeChange.TheVariants.{Power}
 use Rattle.mst_lang.specs.declared.line.LanChange.TheVariants.{State}
 use Rattle.mst_lang.specs.declared.line.LanState.TheVariants.{Down}
 use Rattle.mst_lang.specs.declared.line.Power.TheVariants.{Off}
-use Rattle.mst_net.specs.After.{effect, bridge_with, lan_with, change_bridge, change_lan, change}
-use Rattle.mst_net.specs.Contents.{IsNumbered}
-use Rattle.mst_net.specs.Tables.{Net, Numbers, BridgeRow, LanRow, IsNetwork}
-use Rattle.mst_net.proofs.AfterLemmas.{bridge_changed, lan_changed}
-use Rattle.mst_net.proofs.Changed.{get_changed, contains_changed}
-use Rattle.mst_net.proofs.Keys.{names}
-use Rattle.mst_net.proofs.NamesInOrder.{names_stay}
+use Rattle.mst_net.specs.tables.After.{effect, bridge_with, lan_with, change_bridge, change_lan, change}
+use Rattle.mst_net.specs.tables.Contents.{IsNumbered}
+use Rattle.mst_net.specs.tables.Tables.{Net, Numbers, BridgeRow, LanRow, IsNetwork}
+use Rattle.mst_net.proofs.tables_lemmas.AfterLemmas.{bridge_changed, lan_changed}
+use Rattle.mst_net.proofs.tables_lemmas.Changed.{get_changed, contains_changed}
+use Rattle.mst_net.proofs.tables_lemmas.Keys.{names}
+use Rattle.mst_net.proofs.tables_lemmas.NamesInOrder.{names_stay}
 use Rattle.mst_lag.specs.Aggregation.{same_name}
 use Rattle.mst_sweep.specs.declared.failure.Failure.{Failure}
 use Rattle.mst_sweep.specs.declared.failure.Failure.TheVariants.{Lan, Bridge}

@@ -1,7 +1,7 @@
 -- What is so of any two networks, by the plans of both.
 use Rattle.std.specs.Prelude.{[], ◌∷◌}
 use Rattle.mst_graph.specs.declared.keys.Numbering.{Numbering}
-use Rattle.mst_net.specs.Tables.{Net, Numbers}
+use Rattle.mst_net.specs.tables.Tables.{Net, Numbers}
 use Rattle.mst_facts.specs.declared.planned.Planned.{Planned}
 use Rattle.mst_trees.specs.Agrees.{AreOf}
 use Rattle.mst_trees.specs.Forest.{IsForest}

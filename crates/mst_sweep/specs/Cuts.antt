@@ -11,7 +11,7 @@ use Rattle.mst_rows.specs.Cells.{Cell}
 use Rattle.mst_rows.specs.Cells as cell
 use Rattle.mst_rows.specs.Rows.{Row, row_of}
 use Rattle.mst_graph.specs.Groups.{AreGroups}
-use Rattle.mst_net.specs.Tables.{Net}
+use Rattle.mst_net.specs.tables.Tables.{Net}
 use Rattle.mst_lag.specs.Trees.{is_among}
 use Rattle.mst_trees.specs.Outcome.{Outcome}
 use Rattle.mst_classes.specs.AllVids.{all_vids}

@@ -5,8 +5,8 @@ use Rattle.mst_lang.specs.declared.line.BridgeChange.TheVariants.{Power}
 use Rattle.mst_lang.specs.declared.line.LanChange.TheVariants.{State}
 use Rattle.mst_lang.specs.declared.line.LanState.TheVariants.{Down}
 use Rattle.mst_lang.specs.declared.line.Power.TheVariants.{Off}
-use Rattle.mst_net.specs.After.{bridge_with, lan_with}
-use Rattle.mst_net.specs.Tables.{BridgeRow, LanRow}
+use Rattle.mst_net.specs.tables.After.{bridge_with, lan_with}
+use Rattle.mst_net.specs.tables.Tables.{BridgeRow, LanRow}
 use Rattle.mst_sweep.specs.declared.failure.Failure.{Failure}
 use Rattle.mst_sweep.specs.declared.failure.Failure.TheVariants.{Lan, Bridge}
 

@@ -1,6 +1,6 @@
 ghost use Rattle.std.specs.Prelude.{◌≡◌};
 ghost use Rattle.std.specs.List.{list_any};
-ghost use Rattle.mst_net.specs.Seen.{bridge_row, lan_row};
+ghost use Rattle.mst_net.specs.tables.Seen.{bridge_row, lan_row};
 ghost use Rattle.mst_sweep.specs.Failing.{fails_lan as fails_lan_of, fails_bridge as fails_bridge_of, down_if as row_down_if, off_if as row_off_if};
 
 use crate::failure::Failure;
@@ -79,7 +79,7 @@ fn down_if(lan: Lan, fails: bool) -> Lan
 }
 
 impl Contents for Failing<'_> {
-    ghost use Rattle.mst_net.specs.Contents.{Tables};
+    ghost use Rattle.mst_net.specs.tables.Contents.{Tables};
     ghost use Rattle.mst_sweep.specs.Pairs.{failed};
 
     ghost tables = { λ f. record { net = failed f.failures.now f.network.now.net; numbers = f.network.now.numbers } };

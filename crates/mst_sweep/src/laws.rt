@@ -1,8 +1,8 @@
 //! Laws of the rows of what each single failure does. Their functions do nothing: a caller has their clauses.
 ghost use Rattle.std.specs.Prelude.{◌≡◌, ◌↔◌, ◌+◌, ◌-◌, ◌*◌, ◌/◌, ◌≤◌, ℕ, Bool, true, List, length, Ok};
 ghost use Rattle.std.specs.List.{Contains, flat_map, sum_by};
-ghost use Rattle.mst_net.specs.After.{after};
-ghost use Rattle.mst_net.specs.Tables.{Net, IsNetwork};
+ghost use Rattle.mst_net.specs.tables.After.{after};
+ghost use Rattle.mst_net.specs.tables.Tables.{Net, IsNetwork};
 ghost use Rattle.mst_lag.specs.View.{IsUnrestricted};
 ghost use Rattle.mst_trees.specs.Outcome.{Outcome, IsOutcome};
 ghost use Rattle.mst_graph.specs.Lists.{has_any};

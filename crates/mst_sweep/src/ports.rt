@@ -1,7 +1,7 @@
 ghost use Rattle.std.specs.Prelude.{◌≡◌, ◌≤◌, ◌<◌, ◌∷◌, Ok, length, slice_index_or};
 ghost use Rattle.std.specs.List.{Contains, count_by};
 ghost use Rattle.mst_ids.specs.declared.name.PortName.{PortName};
-ghost use Rattle.mst_net.specs.After.{after};
+ghost use Rattle.mst_net.specs.tables.After.{after};
 ghost use Rattle.mst_trees.specs.Agrees.{Known};
 ghost use Rattle.mst_trees.specs.InUse.{AreInUse, seen_mstis};
 ghost use Rattle.mst_lag.specs.View.{port_names};

@@ -2,7 +2,7 @@ ghost use Rattle.std.specs.Prelude.{◌≡◌, ◌++◌, ◌∷◌, [], List, Ok
 ghost use Rattle.std.specs.List.{count_by};
 ghost use Rattle.mst_ids.specs.Vids.{runs_from};
 ghost use Rattle.mst_rows.specs.Rows.{Row};
-ghost use Rattle.mst_net.specs.After.{after};
+ghost use Rattle.mst_net.specs.tables.After.{after};
 ghost use Rattle.mst_trees.specs.Agrees.{Known};
 ghost use Rattle.mst_sweep.specs.Between.{OfNetworks};
 ghost use Rattle.mst_sweep.specs.Failures.{edit_of};

@@ -5,9 +5,9 @@ use Rattle.std.specs.FinMap as fin
 use Rattle.std.specs.List.{AllByRecursion, Contains, filter, filter_map, find, list_any, cons_option}
 use Rattle.std.specs.Option.{option_map, option_map_or}
 use Rattle.mst_ids.specs.declared.name.PortName.{PortName}
-use Rattle.mst_net.specs.ByTree.{ByTree, table_in}
-use Rattle.mst_net.specs.Seen.{bridge_row}
-use Rattle.mst_net.specs.Tables.{Net, Numbers, BridgeRow, port_eq}
+use Rattle.mst_net.specs.tables.ByTree.{ByTree, table_in}
+use Rattle.mst_net.specs.tables.Seen.{bridge_row}
+use Rattle.mst_net.specs.tables.Tables.{Net, Numbers, BridgeRow, port_eq}
 use Rattle.mst_lag.specs.Aggregation.{same_name}
 use Rattle.mst_lag.specs.View.{LogicalPort, view_ports, bridge_names}
 use Rattle.mst_lag.specs.Viewed.{Viewed, named_port}

@@ -4,8 +4,8 @@ use Rattle.std.specs.List.{filter}
 use Rattle.mst_ids.specs.Vids.{has}
 use Rattle.mst_graph.specs.Islands.{Link as Ends}
 use Rattle.mst_graph.proofs.Splits.{map_of_map}
-use Rattle.mst_net.specs.ByTree.{vlans_in}
-use Rattle.mst_net.specs.Tables.{Net, Numbers}
+use Rattle.mst_net.specs.tables.ByTree.{vlans_in}
+use Rattle.mst_net.specs.tables.Tables.{Net, Numbers}
 use Rattle.mst_lag.specs.View.{LogicalPort}
 use Rattle.mst_lag.specs.Viewed.{Viewed, named_port}
 use Rattle.mst_vlan.specs.Active.{active_ports}

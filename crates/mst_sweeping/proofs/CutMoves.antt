@@ -3,7 +3,7 @@ use Rattle.std.proofs.Common.{◌≡◌, ◌||◌, ℕ, Bool, true, false, List,
 use Rattle.std.specs.List.{Contains}
 use Rattle.mst_ids.specs.Vids.{is_vid}
 use Rattle.mst_graph.proofs.Members.{from_filter, here, in_filter, in_none}
-use Rattle.mst_net.specs.Tables.{Net}
+use Rattle.mst_net.specs.tables.Tables.{Net}
 use Rattle.mst_rows.specs.Rows.{Row}
 use Rattle.mst_trees.specs.Outcome.{Outcome}
 use Rattle.mst_classes.specs.AllVids.{all_vids}

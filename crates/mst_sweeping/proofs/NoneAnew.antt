@@ -9,10 +9,10 @@ use Rattle.mst_ids.specs.Names.{port_cmp}
 use Rattle.mst_ids.specs.declared.name.PortName.{PortName}
 use Rattle.mst_lang.specs.declared.line.BridgeChange.TheVariants.{Power}
 use Rattle.mst_lang.specs.declared.line.Power.TheVariants.{Off}
-use Rattle.mst_net.specs.After.{after, effect, bridge_with, table_of}
-use Rattle.mst_net.specs.Tables.{Net, BridgeRow, port_eq}
-use Rattle.mst_net.proofs.Changed.{get_changed}
-use Rattle.mst_net.proofs.Keys.{names}
+use Rattle.mst_net.specs.tables.After.{after, effect, bridge_with, table_of}
+use Rattle.mst_net.specs.tables.Tables.{Net, BridgeRow, port_eq}
+use Rattle.mst_net.proofs.tables_lemmas.Changed.{get_changed}
+use Rattle.mst_net.proofs.tables_lemmas.Keys.{names}
 use Rattle.mst_lag.specs.Aggregation.{same_name}
 use Rattle.mst_lag.specs.View.{LogicalPort, view_ports, bridge_names, port_names}
 use Rattle.mst_trees.proofs.Entries.{all_weaker}

@@ -6,7 +6,7 @@ use Rattle.std.specs.Option.{option_or}
 use Rattle.std.proofs.lemmas.List.{take_more}
 use Rattle.std.proofs.lemmas.List.Folds.{find-append}
 use Rattle.mst_ids.specs.declared.name.PortName.{PortName}
-use Rattle.mst_net.specs.Tables.{port_eq}
+use Rattle.mst_net.specs.tables.Tables.{port_eq}
 use Rattle.mst_lag.specs.declared.in_view.PortInView.{PortInView}
 use Rattle.mst_vlan.proofs.trees_lemmas.Named.{port_is}
 use Rattle.mst_sweeping.specs.Seen.{ArePortsByName}

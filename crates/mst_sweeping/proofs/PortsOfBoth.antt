@@ -4,7 +4,7 @@ use Rattle.std.specs.List.{AllByRecursion, Contains, filter_map, find, count_by,
 use Rattle.std.specs.Option.{option_map, option_map_or, option_and_then}
 use Rattle.std.proofs.lemmas.List.Sums.{sum_by-cons}
 use Rattle.mst_ids.specs.declared.name.PortName.{PortName}
-use Rattle.mst_net.specs.Tables.{Net, Numbers, port_eq}
+use Rattle.mst_net.specs.tables.Tables.{Net, Numbers, port_eq}
 use Rattle.mst_lag.specs.View.{LogicalPort, port_names}
 use Rattle.mst_lag.specs.Viewed.{Viewed, named_port}
 use Rattle.mst_lag.specs.declared.in_view.PortInView.{PortInView}

@@ -3,10 +3,10 @@ use Rattle.std.proofs.Common.{◌≡◌, ℕ, Bool, List, [], ◌∷◌, ◌++�
 use Rattle.std.specs.List.{AllByRecursion, AllZip, filter, flat_map, count_by}
 use Rattle.std.specs.Option.{option_map_or}
 use Rattle.std.specs.FinMap as fin
-use Rattle.mst_net.specs.After.{first_of}
-use Rattle.mst_net.specs.Tables.{Net, BridgeRow, LanRow, IsNetwork}
-use Rattle.mst_net.specs.declared.refusal.Refusal.TheVariants.{E04, E06}
-use Rattle.mst_net.proofs.Keys.{names}
+use Rattle.mst_net.specs.tables.After.{first_of}
+use Rattle.mst_net.specs.tables.Tables.{Net, BridgeRow, LanRow, IsNetwork}
+use Rattle.mst_net.specs.tables.declared.refusal.Refusal.TheVariants.{E04, E06}
+use Rattle.mst_net.proofs.tables_lemmas.Keys.{names}
 use Rattle.mst_rows.specs.Rows.{Row}
 use Rattle.mst_trees.specs.Outcome.{Outcome, IsOutcome}
 use Rattle.mst_trees.proofs.Entries.{entries_found}

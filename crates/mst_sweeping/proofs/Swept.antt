@@ -3,7 +3,7 @@ use Rattle.std.proofs.Common.{◌≡◌, ℕ, ◌+◌, ◌≤◌, Bool, true, fa
 use Rattle.std.specs.List.{AllZip}
 use Rattle.std.proofs.lemmas.Grind.{flat_map-append}
 use Rattle.std.proofs.lemmas.List.Sums.{sum_by-append}
-use Rattle.mst_net.specs.Contents.{Contents, SameContents}
+use Rattle.mst_net.specs.tables.Contents.{Contents, SameContents}
 use Rattle.mst_rows.specs.Rows.{Row}
 use Rattle.mst_sweep.specs.SweepText.{Told, AreRowsOf}
 use Rattle.mst_sweep.proofs.SweptParts.{zip_joined}

@@ -5,9 +5,9 @@ use Rattle.mst_lang.specs.declared.line.BridgeChange.TheVariants.{Power}
 use Rattle.mst_lang.specs.declared.line.LanChange.TheVariants.{State}
 use Rattle.mst_lang.specs.declared.line.Power.TheVariants.{Off}
 use Rattle.mst_lang.specs.declared.line.LanState.TheVariants.{Down}
-use Rattle.mst_net.specs.After.{effect}
-use Rattle.mst_net.specs.Contents.{PerKind, numbers_after}
-use Rattle.mst_net.specs.Tables.{Net, Numbers}
+use Rattle.mst_net.specs.tables.After.{effect}
+use Rattle.mst_net.specs.tables.Contents.{PerKind, numbers_after}
+use Rattle.mst_net.specs.tables.Tables.{Net, Numbers}
 use Rattle.mst_config.specs.Shared.{AreRegions}
 use Rattle.mst_config.specs.Touching.{touches_regions}
 use Rattle.mst_lag.specs.Viewed.{Viewed, IsView}

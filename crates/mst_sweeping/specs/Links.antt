@@ -2,7 +2,7 @@
 use Rattle.std.specs.Prelude.{ℕ, ◌&&◌, not, Bool, List, map, filter}
 use Rattle.std.specs.Cmp.Lexicographic.{pointwise}
 use Rattle.std.specs.List.{list_any}
-use Rattle.mst_net.specs.Tables.{Net, port_eq}
+use Rattle.mst_net.specs.tables.Tables.{Net, port_eq}
 use Rattle.mst_lag.specs.Aggregation.{same_name}
 use Rattle.mst_lag.specs.View.{LogicalPort}
 use Rattle.mst_trees.specs.Outcome.{Outcome}

@@ -1,7 +1,7 @@
 -- The VIDs that a change cuts, joins and moves.
 use Rattle.std.specs.Prelude.{◌≡◌, ℕ, ◌||◌, not, Bool, true, List, filter}
 use Rattle.mst_ids.specs.Vids.{is_vid}
-use Rattle.mst_net.specs.Tables.{Net}
+use Rattle.mst_net.specs.tables.Tables.{Net}
 use Rattle.mst_trees.specs.Outcome.{Outcome}
 use Rattle.mst_classes.specs.AllVids.{all_vids}
 use Rattle.mst_graph.specs.Lists.{has_any}

@@ -5,9 +5,9 @@ use Rattle.std.specs.List.{Contains, find, list_any}
 use Rattle.std.specs.Map.{lookup}
 use Rattle.std.specs.Option.{option_map, option_map_or}
 use Rattle.mst_ids.specs.declared.name.PortName.{PortName}
-use Rattle.mst_net.specs.ByTree.{table_in}
-use Rattle.mst_net.specs.Seen.{bridge_row}
-use Rattle.mst_net.specs.Tables.{port_eq}
+use Rattle.mst_net.specs.tables.ByTree.{table_in}
+use Rattle.mst_net.specs.tables.Seen.{bridge_row}
+use Rattle.mst_net.specs.tables.Tables.{port_eq}
 use Rattle.mst_lag.specs.Aggregation.{same_name}
 use Rattle.mst_lag.specs.Viewed.{Viewed}
 use Rattle.mst_lag.specs.declared.in_view.PortInView.{PortInView}

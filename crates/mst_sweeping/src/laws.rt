@@ -1,12 +1,12 @@
 //! Laws of what failures do. Their functions do nothing: a caller has their clauses.
 ghost use Rattle.std.specs.Prelude.{◌≡◌, ◌↔◌, ◌≤◌, ℕ, List, Bool, true, Ok};
 ghost use Rattle.std.specs.List.{flat_map, sum_by, Contains};
-ghost use Rattle.mst_net.specs.Tables.{Net, IsNetwork};
+ghost use Rattle.mst_net.specs.tables.Tables.{Net, IsNetwork};
 ghost use Rattle.mst_rows.specs.Rows.{Row};
 ghost use Rattle.mst_sweeping.specs.Pairing.{SweepsPairs, SweepPairsParts};
 ghost use Rattle.mst_sweeping.specs.Sweeping.{Sweeps, SweepsPart, SweepParts};
 ghost use Rattle.mst_sweep.specs.SweepParts.{PartOf, ToldOfPart, whole_part, but_last_row};
-ghost use Rattle.mst_net.specs.After.{after};
+ghost use Rattle.mst_net.specs.tables.After.{after};
 ghost use Rattle.mst_trees.specs.Outcome.{Outcome, IsOutcome};
 ghost use Rattle.mst_sweep.specs.Failures.{edit_of};
 ghost use Rattle.mst_sweep.specs.declared.failure.Failure.{Failure as FailureOf};

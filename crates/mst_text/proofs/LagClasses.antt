@@ -4,7 +4,7 @@ use Rattle.std.specs.List.{flat_map}
 use Rattle.std.specs.Option.{option_map_or}
 use Rattle.std.proofs.lemmas.List.Folds.{flat_map-map}
 use Rattle.std.specs.FinMap as fin
-use Rattle.mst_net.specs.Tables.{Net, Numbers}
+use Rattle.mst_tables.specs.Tables.{Net, Numbers}
 use Rattle.mst_lag.specs.Aggregation.{plugs, same_name}
 use Rattle.mst_lag.specs.Lag.{lag_id_text}
 use Rattle.mst_lag.specs.View.{LogicalLan, members, up_members, member_plugs}

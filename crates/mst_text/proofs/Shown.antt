@@ -4,8 +4,8 @@ use Rattle.std.specs.Option.{option_map, unwrap_or}
 use Rattle.std.specs.FinMap as fin
 use Rattle.hex.specs.Hex.{encode_lower}
 use Rattle.mst_config.specs.Digest.{digest_of}
-use Rattle.mst_net.specs.After.{table_of}
-use Rattle.mst_net.specs.Tables.{Net, BridgeRow}
+use Rattle.mst_tables.specs.After.{table_of}
+use Rattle.mst_tables.specs.Tables.{Net, BridgeRow}
 use Rattle.mst_rows.specs.Rows.{Row}
 use Rattle.mst_text.specs.ConfigurationText.{configuration_row, configuration_rows, mstis_rows, rows_of_bridge}
 

@@ -7,7 +7,7 @@ use Rattle.std.proofs.lemmas.List.Folds.{flat_map-map}
 use Rattle.std.specs.FinMap as fin
 use Rattle.mst_ids.specs.Names.{name_cmp, port_cmp}
 use Rattle.mst_ids.specs.declared.name.PortName.{PortName}
-use Rattle.mst_net.specs.Tables.{Net, BridgeRow}
+use Rattle.mst_tables.specs.Tables.{Net, BridgeRow}
 use Rattle.mst_lag.specs.Aggregation.{same_name}
 use Rattle.mst_lag.specs.View.{LogicalPort}
 use Rattle.mst_lag.specs.Viewed.{Viewed, named_bridge, named_port}

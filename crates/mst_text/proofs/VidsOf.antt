@@ -6,7 +6,7 @@ use Rattle.std.proofs.lemmas.Bool.{cases_eq}
 use Rattle.mst_ids.specs.Vids.{set_where, has, is_within, is_vid}
 use Rattle.mst_ids.specs.VidBits.{has-set_where}
 use Rattle.mst_ids.proofs.VidSetLemmas.{set_where-same}
-use Rattle.mst_net.specs.Table.{tree_in}
+use Rattle.mst_tables.specs.Table.{tree_in}
 use Rattle.mst_text.specs.ConfigurationText.{vids_in}
 
 module _ (table : List ℕ) (tree : ℕ) where

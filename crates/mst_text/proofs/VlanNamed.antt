@@ -4,8 +4,8 @@ use Rattle.std.specs.List.{AllByRecursion, Contains}
 use Rattle.std.specs.FinMap as fin
 use Rattle.mst_ids.specs.Vids.{has}
 use Rattle.mst_graph.specs.Islands.{Island}
-use Rattle.mst_net.specs.Tables.{Net, Numbers}
-use Rattle.mst_net.specs.ByTree.{vlans_in}
+use Rattle.mst_tables.specs.Tables.{Net, Numbers}
+use Rattle.mst_tables.specs.ByTree.{vlans_in}
 use Rattle.mst_lag.proofs.Lists.{map_itself}
 use Rattle.mst_lag.specs.Viewed.{Viewed, named_port}
 use Rattle.mst_lag.specs.declared.in_view.PortInView.{PortInView}

@@ -8,9 +8,9 @@ use Rattle.mst_kinds.specs.declared.kind.Kind.TheVariants as kind
 use Rattle.mst_kinds.specs.declared.region_line.RegionLine.TheVariants as region_line
 use Rattle.mst_rows.specs.Cells.{number, vids, word}
 use Rattle.mst_rows.specs.Rows.{Row, row_of}
-use Rattle.mst_net.specs.Table.{tree_in, mstis_in}
-use Rattle.mst_net.specs.Tables.{Net, BridgeRow}
-use Rattle.mst_net.specs.After.{table_of}
+use Rattle.mst_tables.specs.Table.{tree_in, mstis_in}
+use Rattle.mst_tables.specs.Tables.{Net, BridgeRow}
+use Rattle.mst_tables.specs.After.{table_of}
 use Rattle.mst_config.specs.Digest.{digest_of}
 
 -- the VIDs that a table maps to a tree

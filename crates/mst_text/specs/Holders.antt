@@ -4,7 +4,7 @@ use Rattle.std.specs.List.{find}
 use Rattle.std.specs.Option.{option_map}
 use Rattle.std.specs.FinMap as fin
 use Rattle.mst_ids.specs.Identifiers.{mac_of}
-use Rattle.mst_net.specs.Tables.{Net}
+use Rattle.mst_tables.specs.Tables.{Net}
 use Rattle.mst_rows.specs.Cells.{Cell, absent, word}
 
 -- its name, if there is one: no two bridges have one MAC address

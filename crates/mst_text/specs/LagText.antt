@@ -5,7 +5,7 @@ use Rattle.std.specs.Option.{option_map_or}
 use Rattle.mst_ids.specs.declared.name.PortName.{PortName}
 use Rattle.mst_kinds.specs.declared.kind.Kind.TheVariants as kind
 use Rattle.mst_kinds.specs.declared.region_line.RegionLine.TheVariants as region_line
-use Rattle.mst_net.specs.Tables.{Net}
+use Rattle.mst_tables.specs.Tables.{Net}
 use Rattle.mst_lag.specs.Lag.{lag_id_text}
 use Rattle.mst_lag.specs.View.{LogicalLan, members, up_members, member_plugs, view_lans}
 use Rattle.mst_lag.specs.declared.lag.LagId.{LagId}

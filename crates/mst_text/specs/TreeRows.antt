@@ -11,8 +11,8 @@ use Rattle.mst_vector.specs.declared.cist.CistPort.{CistPort}
 use Rattle.mst_vector.specs.declared.cist.CistVector.{CistVector}
 use Rattle.mst_vector.specs.declared.msti.MstiPort.{MstiPort}
 use Rattle.mst_vector.specs.declared.msti.MstiVector.{MstiVector}
-use Rattle.mst_net.specs.Tables.{Net, BridgeRow}
-use Rattle.mst_net.specs.ByTree.{ByTree, by_tree}
+use Rattle.mst_tables.specs.Tables.{Net, BridgeRow}
+use Rattle.mst_tables.specs.ByTree.{ByTree, by_tree}
 use Rattle.mst_lag.specs.View.{LogicalPort}
 use Rattle.mst_vlan.specs.trees.Cist.{cist_port}
 use Rattle.mst_vlan.specs.trees.InUse.{id_in}

@@ -3,8 +3,8 @@ use Rattle.std.specs.Prelude.{ℕ, ◌==◌, ◌||◌, Bool, List, [], ◌∷◌
 use Rattle.std.specs.List.{flat_map}
 use Rattle.std.specs.Option.{option_map_or}
 use Rattle.std.specs.FinMap as fin
-use Rattle.mst_net.specs.Tables.{Net, BridgeRow}
-use Rattle.mst_net.specs.ByTree.{by_tree}
+use Rattle.mst_tables.specs.Tables.{Net, BridgeRow}
+use Rattle.mst_tables.specs.ByTree.{by_tree}
 use Rattle.mst_lag.specs.Aggregation.{same_name}
 use Rattle.mst_lag.specs.View.{LogicalPort, view_ports}
 use Rattle.mst_vlan.specs.trees.Msti.{has_tree}

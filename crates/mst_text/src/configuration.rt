@@ -1,15 +1,15 @@
 ghost use Rattle.std.specs.Prelude.{◌≡◌, ◌++◌, [], ◌∷◌, List, IfOk, OnOk, is_some, unwrap_or};
 ghost use Rattle.hex.specs.Hex.{encode_lower};
 ghost use Rattle.mst_config.specs.Digest.{digest_of};
-ghost use Rattle.mst_net.specs.Seen.{bridge_row};
+ghost use Rattle.mst_tables.specs.Seen.{bridge_row};
 ghost use Rattle.mst_rows.specs.Rows.{Row};
 ghost use Rattle.mst_text.specs.ConfigurationText.{vids_in, msti_row, mstis_rows, configuration_row, configuration_rows};
 
 use crate::digits::digest_digits;
 use mst_ids::{Name, Tree, Vid, VidSet};
 use mst_kinds::{Kind, RegionLine};
-use mst_net::{Bridge, Contents, Table};
 use mst_rows::{Rows, Value, put};
+use mst_tables::{Bridge, Contents, Table};
 use std::alloc::{AllocError, Global};
 
 /// Puts the rows of the MST configuration that a bridge keeps (802.1Q-2022, 13.8), and answers whether there

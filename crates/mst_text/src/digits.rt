@@ -3,7 +3,7 @@ ghost use Rattle.hex.specs.Hex.{encode_lower};
 ghost use Rattle.mst_config.specs.Digest.{digest_of};
 
 use mst_config::digest;
-use mst_net::Table;
+use mst_tables::Table;
 
 /// The Configuration Digest of a table in lower case hexadecimal digits.
 pub(crate) fn digest_digits(table: &Table) -> [u8; 32]

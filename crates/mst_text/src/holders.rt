@@ -1,6 +1,6 @@
 ghost use Rattle.std.specs.Prelude.{◌≡◌, ℕ, IfOk, nat_eq};
 ghost use Rattle.indexmap.specs.IndexMap.{get};
-ghost use Rattle.mst_net.specs.Tables.{Net};
+ghost use Rattle.mst_tables.specs.Tables.{Net};
 ghost use Rattle.mst_rows.specs.Rows.{cell};
 ghost use Rattle.mst_text.specs.Held.{AreHolders, name_with};
 ghost use Rattle.mst_text.specs.Holders.{holder_cell};

@@ -1,5 +1,5 @@
 ghost use Rattle.std.specs.Prelude.{◌≡◌, ◌++◌, ◌∷◌, [], List, OnOk};
-ghost use Rattle.mst_net.specs.Tables.{Net, Numbers};
+ghost use Rattle.mst_tables.specs.Tables.{Net, Numbers};
 ghost use Rattle.mst_lag.specs.Viewed.{IsView};
 ghost use Rattle.mst_rows.specs.Rows.{Row};
 ghost use Rattle.mst_text.specs.LagText.{lag_row, lags_rows};

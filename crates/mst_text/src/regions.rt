@@ -1,7 +1,7 @@
 ghost use Rattle.std.specs.Prelude.{◌≡◌, ◌++◌, ◌∷◌, [], ℕ, List, OnOk};
 ghost use Rattle.std.specs.List.{flat_map};
-ghost use Rattle.mst_net.specs.Seen.{bridge_row};
-ghost use Rattle.mst_net.specs.Tables.{Net, Numbers, IsNetwork};
+ghost use Rattle.mst_tables.specs.Seen.{bridge_row};
+ghost use Rattle.mst_tables.specs.Tables.{Net, Numbers, IsNetwork};
 ghost use Rattle.mst_lag.specs.Viewed.{IsView};
 ghost use Rattle.mst_config.specs.Shared.{AreRegions};
 ghost use Rattle.mst_rows.specs.Rows.{Row};
@@ -15,8 +15,8 @@ use mst_ids::{BridgeId, Name};
 use mst_kinds::{Kind, RegionLine};
 use mst_lag::{BridgeInView, View};
 use mst_lang::Kind as BridgeKind;
-use mst_net::{Bridge, Table};
 use mst_rows::{Rows, Value, put};
+use mst_tables::{Bridge, Table};
 use std::alloc::{AllocError, Global};
 
 /// Puts the rows of a network's regions (802.1Q-2022, 13.8), by its view and its regions: a row for each

@@ -5,7 +5,7 @@ use Rattle.std.specs.Option.{unwrap_or}
 use Rattle.std.proofs.KnownBytes.{Appends-trans}
 use Rattle.mst_between.specs.diff.declared.diff.Differing.{Differing}
 use Rattle.mst_lang.specs.Lines.{lines_of}
-use Rattle.mst_net.specs.Tables.{Net, IsNetwork}
+use Rattle.mst_tables.specs.Tables.{Net, IsNetwork}
 use Rattle.mst_between.specs.Differing.{Differs}
 use Rattle.mst_between.specs.Editing.{EditsTo}
 use Rattle.mst_engine.specs.report.State.{IsState, State, empty_state}

@@ -4,7 +4,7 @@ use Rattle.std.specs.Io.KnownBytes.{Consumes}
 use Rattle.mst_drive.specs.Words.{Telling}
 use Rattle.mst_between.specs.diff.declared.diff.Differing.{Differing}
 use Rattle.mst_lang.specs.Lines.{lines_of, ended_lines}
-use Rattle.mst_net.specs.Tables.{Net}
+use Rattle.mst_tables.specs.Tables.{Net}
 use Rattle.mst_between.specs.Differing.{Differs}
 use Rattle.mst_between.specs.Editing.{EditsTo}
 use Rattle.mst_engine.specs.report.State.{empty_state}

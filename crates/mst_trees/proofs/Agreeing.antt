@@ -8,8 +8,8 @@ use Rattle.mst_topology.specs.Topology.{TreePort, Topology, IsTopology, HasBridg
 use Rattle.mst_topology.specs.Settled.{Settled, IsDesignated}
 use Rattle.mst_settle.specs.Renamed.{Renaming, IsRenamed}
 use Rattle.mst_settle.specs.Assignment.{Assignment, vector_of, designated_of, IsSettledFor}
-use Rattle.mst_net.specs.Tables.{Net, Numbers, IsNetwork}
-use Rattle.mst_net.specs.Contents.{IsNumbered}
+use Rattle.mst_net.specs.tables.Tables.{Net, Numbers, IsNetwork}
+use Rattle.mst_net.specs.tables.Contents.{IsNumbered}
 use Rattle.mst_lag.specs.Viewed.{Viewed, IsView}
 use Rattle.mst_trees.specs.Sight.{Sight, tree_of}
 use Rattle.mst_trees.specs.Outcome.{TreeOutcome, IsTreeOutcome}

@@ -13,8 +13,8 @@ use Rattle.mst_vector.specs.declared.msti.MstiBridge.{MstiBridge}
 use Rattle.mst_topology.specs.Topology.{HasBridge}
 use Rattle.mst_topology.specs.Settled.{IsDesignated}
 use Rattle.mst_settle.specs.Assignment.{Assignment, vector_of, designated_of, IsSettledFor}
-use Rattle.mst_net.specs.Tables.{Net, Numbers, BridgeRow}
-use Rattle.mst_net.specs.ByTree.{by_tree}
+use Rattle.mst_net.specs.tables.Tables.{Net, Numbers, BridgeRow}
+use Rattle.mst_net.specs.tables.ByTree.{by_tree}
 use Rattle.mst_lag.specs.Viewed.{Viewed}
 use Rattle.mst_lag.specs.declared.in_view.BridgeInView.{BridgeInView}
 use Rattle.mst_lag.specs.declared.in_view.PortInView.{PortInView}

@@ -12,8 +12,8 @@ use Rattle.mst_vector.specs.Rules.{Rules}
 use Rattle.mst_vector.specs.Cist.{cist_rules}
 use Rattle.mst_vector.specs.Msti.{msti_rules}
 use Rattle.mst_settle.specs.Assignment.{vector_of, designated_of}
-use Rattle.mst_net.specs.Tables.{Net, Numbers, port_eq}
-use Rattle.mst_net.specs.ByTree.{by_tree}
+use Rattle.mst_net.specs.tables.Tables.{Net, Numbers, port_eq}
+use Rattle.mst_net.specs.tables.ByTree.{by_tree}
 use Rattle.mst_lag.specs.Aggregation.{same_name}
 use Rattle.mst_lag.specs.Trees.{is_among}
 use Rattle.mst_lag.specs.View.{LogicalPort, view_ports}

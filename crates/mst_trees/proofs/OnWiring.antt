@@ -19,8 +19,8 @@ use Rattle.mst_topology.specs.Repair.{WithinBounds}
 use Rattle.mst_settle.specs.Parts.{SameParts}
 use Rattle.mst_topology.specs.Wiring.{settings_in, port_in, topology_of}
 use Rattle.mst_settle.specs.Held.{Tree, IsHeld}
-use Rattle.mst_net.specs.Tables.{Net, Numbers}
-use Rattle.mst_net.specs.Seen.{bridge_row}
+use Rattle.mst_net.specs.tables.Tables.{Net, Numbers}
+use Rattle.mst_net.specs.tables.Seen.{bridge_row}
 use Rattle.mst_lag.specs.Trees.{is_among}
 use Rattle.mst_lag.specs.Viewed.{Viewed, named_port}
 use Rattle.mst_lag.specs.declared.in_view.PortInView.{PortInView}

@@ -9,10 +9,10 @@ use Rattle.mst_ids.specs.Costs.{automatic_cost}
 use Rattle.mst_ids.specs.declared.name.PortName.{PortName}
 use Rattle.mst_vector.specs.declared.msti.MstiPort.{MstiPort}
 use Rattle.mst_topology.specs.Places.{in_map}
-use Rattle.mst_net.specs.ByTree.{ByTree, AreInTrees, port_priority_in, port_cost_in}
-use Rattle.mst_net.specs.TreesSet.{trees_where}
-use Rattle.mst_net.proofs.SettingsLemmas.{network_in_trees}
-use Rattle.mst_net.proofs.TreesListed.{all_listed, priority_told, cost_told}
+use Rattle.mst_net.specs.tables.ByTree.{ByTree, AreInTrees, port_priority_in, port_cost_in}
+use Rattle.mst_net.specs.tables.TreesSet.{trees_where}
+use Rattle.mst_net.proofs.tables_lemmas.SettingsLemmas.{network_in_trees}
+use Rattle.mst_net.proofs.tables_lemmas.TreesListed.{all_listed, priority_told, cost_told}
 use Rattle.mst_lag.specs.Trees.{is_among}
 use Rattle.mst_lag.specs.Viewed.{Viewed, named_port}
 use Rattle.mst_lag.specs.declared.in_view.PortInView.{PortInView}

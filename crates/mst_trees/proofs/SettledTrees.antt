@@ -11,7 +11,7 @@ use Rattle.mst_topology.specs.Topology.{TreePort, Topology, IsTopology}
 use Rattle.mst_topology.specs.Settled.{Settled}
 use Rattle.mst_settle.specs.Renamed.{Renaming, IsRenamed}
 use Rattle.mst_settle.specs.Assignment.{Assignment, vector_of, designated_of, IsSettledFor}
-use Rattle.mst_net.specs.Tables.{Net, Numbers}
+use Rattle.mst_net.specs.tables.Tables.{Net, Numbers}
 use Rattle.mst_lag.specs.Viewed.{Viewed}
 use Rattle.mst_lag.specs.declared.in_view.PortInView.{PortInView}
 use Rattle.mst_trees.specs.Cist.{cist_sight, cist_of}

@@ -5,7 +5,7 @@ use Rattle.std.specs.Map.{lookup}
 use Rattle.mst_vector.specs.declared.msti.MstiVector.{MstiVector}
 use Rattle.mst_settle.specs.Assignment.{Assignment, vector_of, designated_of}
 use Rattle.mst_topology.specs.Repair.{CountsVectors}
-use Rattle.mst_net.specs.Tables.{Net, Numbers}
+use Rattle.mst_net.specs.tables.Tables.{Net, Numbers}
 use Rattle.mst_lag.specs.Viewed.{Viewed}
 use Rattle.mst_config.specs.Shared.{AreRegions}
 use Rattle.mst_trees.specs.Outcome.{Outcome, IsOutcome}

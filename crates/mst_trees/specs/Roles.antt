@@ -4,10 +4,10 @@ use Rattle.std.specs.List.{find}
 use Rattle.std.specs.Option.{option_map, option_map_or, option_and_then}
 use Rattle.std.specs.FinMap as fin
 use Rattle.mst_ids.specs.declared.name.PortName.{PortName}
-use Rattle.mst_net.specs.Table.{tree_in}
-use Rattle.mst_net.specs.After.{table_of}
-use Rattle.mst_net.specs.Tables.{Net, port_eq}
-use Rattle.mst_net.specs.ByTree.{by_tree}
+use Rattle.mst_net.specs.tables.Table.{tree_in}
+use Rattle.mst_net.specs.tables.After.{table_of}
+use Rattle.mst_net.specs.tables.Tables.{Net, port_eq}
+use Rattle.mst_net.specs.tables.ByTree.{by_tree}
 use Rattle.mst_lag.specs.Aggregation.{same_name}
 use Rattle.mst_lag.specs.View.{LogicalPort, view_ports}
 use Rattle.mst_trees.specs.Cist.{cist_port}

@@ -2,7 +2,7 @@ ghost use Rattle.std.specs.Prelude.{◌≡◌, ℕ, IfOk, None};
 ghost use Rattle.mst_vector.specs.Cist.{cist_rules};
 ghost use Rattle.mst_settle.specs.Assignment.{vector_of, designated_of};
 ghost use Rattle.mst_settle.specs.Held.{IsHeld};
-ghost use Rattle.mst_net.specs.Tables.{Net, Numbers};
+ghost use Rattle.mst_net.specs.tables.Tables.{Net, Numbers};
 ghost use Rattle.mst_config.specs.Shared.{same_in};
 ghost use Rattle.mst_trees.specs.Agrees.{AreOf, Known, KnownInternal};
 ghost use Rattle.mst_trees.specs.Forest.{IsForest, IsSettledOnce, KeepsBounds, SettlesNoUnused, msti_vector, msti_settlings, designated_in, settlings_in, trees_seen};

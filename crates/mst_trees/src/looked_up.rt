@@ -1,6 +1,6 @@
 ghost use Rattle.std.specs.Prelude.{◌≡◌, ◌==◌, ◌||◌};
 ghost use Rattle.std.specs.List.{Contains};
-ghost use Rattle.mst_net.specs.ByTree.{by_tree};
+ghost use Rattle.mst_net.specs.tables.ByTree.{by_tree};
 ghost use Rattle.mst_trees.specs.Msti.{has_msti};
 ghost use Rattle.mst_trees.specs.Settled.{outcome_of};
 

@@ -1,5 +1,5 @@
 ghost use Rattle.std.specs.Prelude.{ℕ, ◌==◌, IfOk, OnOk};
-ghost use Rattle.mst_net.specs.ByTree.{AreInTrees};
+ghost use Rattle.mst_net.specs.tables.ByTree.{AreInTrees};
 ghost use Rattle.mst_lag.specs.Trees.{is_among};
 ghost use Rattle.mst_trees.specs.Agrees.{KnownInternal};
 ghost use Rattle.mst_trees.specs.Own.{is_set, IsNoted};

@@ -1,7 +1,7 @@
 ghost use Rattle.std.specs.Prelude.{◌≡◌};
 ghost use Rattle.mst_ids.specs.Identifiers.{port_id as id_of};
-ghost use Rattle.mst_net.specs.ByTree.{port_priority_in};
-ghost use Rattle.mst_net.specs.Seen.{bridge_row};
+ghost use Rattle.mst_net.specs.tables.ByTree.{port_priority_in};
+ghost use Rattle.mst_net.specs.tables.Seen.{bridge_row};
 ghost use Rattle.mst_lag.specs.Viewed.{named_port};
 ghost use Rattle.mst_trees.specs.Cist.{cist_port as port_in_cist};
 ghost use Rattle.mst_trees.specs.InUse.{id_in};

@@ -10,12 +10,12 @@ use Rattle.mst_lang.specs.declared.line.Edit.{Edit}
 use Rattle.mst_lang.specs.declared.line.Fault.{Fault}
 use Rattle.mst_lang.specs.declared.line.LanChange.TheVariants.{State}
 use Rattle.mst_lang.specs.declared.line.LanState.TheVariants.{Down}
-use Rattle.mst_net.specs.After.{after, lan_with}
-use Rattle.mst_net.specs.ByTree.{ByTree, table_in, vlans_in}
-use Rattle.mst_net.specs.Contents.{Contents, Tables, ahead_of}
-use Rattle.mst_net.specs.Tables.{Net, Numbers, BridgeRow}
-use Rattle.mst_net.proofs.Changed.{get_changed}
-use Rattle.mst_net.proofs.Keys.{names}
+use Rattle.mst_net.specs.tables.After.{after, lan_with}
+use Rattle.mst_net.specs.tables.ByTree.{ByTree, table_in, vlans_in}
+use Rattle.mst_net.specs.tables.Contents.{Contents, Tables, ahead_of}
+use Rattle.mst_net.specs.tables.Tables.{Net, Numbers, BridgeRow}
+use Rattle.mst_net.proofs.tables_lemmas.Changed.{get_changed}
+use Rattle.mst_net.proofs.tables_lemmas.Keys.{names}
 use Rattle.mst_graph.specs.declared.keys.Numbering.{Numbering}
 use Rattle.mst_ids.specs.Names.{name_cmp}
 use Rattle.mst_lag.specs.Aggregation.{same_name}

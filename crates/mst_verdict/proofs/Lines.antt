@@ -10,7 +10,7 @@ use Rattle.mst_policy.specs.declared.expectation.Promise.{Promise}
 use Rattle.mst_policy.specs.declared.policy.PolicyLine.{PolicyLine}
 use Rattle.mst_rows.specs.Cells.{PromiseSaid}
 use Rattle.mst_rows.specs.Rows.{Row}
-use Rattle.mst_net.specs.Tables.{Net}
+use Rattle.mst_net.specs.tables.Tables.{Net}
 use Rattle.mst_trees.specs.Outcome.{Outcome}
 use Rattle.mst_sweep.specs.Failures.{failures}
 use Rattle.mst_sweep.specs.declared.failure.Failure.{Failure}

@@ -6,11 +6,11 @@ use Rattle.mst_kinds.specs.declared.refusal_line.RefusalLine.TheVariants as refu
 use Rattle.mst_lang.specs.Faults as fault
 use Rattle.mst_lang.specs.declared.line.Edit.{Edit}
 use Rattle.mst_lang.specs.declared.line.Fault.{Fault}
-use Rattle.mst_net.specs.After.{after}
-use Rattle.mst_net.specs.Contents.{Contents}
-use Rattle.mst_net.specs.Refusals as refusal
-use Rattle.mst_net.specs.Tables.{Net}
-use Rattle.mst_net.specs.declared.refusal.Refusal.{Refusal}
+use Rattle.mst_net.specs.tables.After.{after}
+use Rattle.mst_net.specs.tables.Contents.{Contents}
+use Rattle.mst_net.specs.tables.Refusals as refusal
+use Rattle.mst_net.specs.tables.Tables.{Net}
+use Rattle.mst_net.specs.tables.declared.refusal.Refusal.{Refusal}
 use Rattle.mst_rows.specs.Cells.{number, word}
 use Rattle.mst_rows.specs.Rows.{Row, row_of}
 use Rattle.mst_change.specs.Reading.{LineRead}

@@ -1,7 +1,7 @@
 -- Steps that are taken one after another.
 use Rattle.std.specs.Prelude.{◌≡◌, ◌+◌, ℕ, Bool, List, [], length, if◌then◌else◌}
 use Rattle.std.specs.List.{AllZip, flat_map}
-use Rattle.mst_net.specs.Tables.{Net}
+use Rattle.mst_net.specs.tables.Tables.{Net}
 use Rattle.mst_rows.specs.Rows.{Row}
 use Rattle.mst_change.specs.Reading.{LineRead}
 use Rattle.mst_policy.specs.declared.policy.PolicyLine.{PolicyLine}

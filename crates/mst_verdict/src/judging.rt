@@ -1,8 +1,8 @@
 ghost use Rattle.std.specs.Prelude.{◌≡◌, ◌++◌, ◌∷◌, [], ℕ, None, Some, IfOk, MatchOption, OnOk, filter, length, map, option_map, ⊤};
 ghost use Rattle.std.specs.List.{AllByRecursion, AllZip, list_any};
 ghost use Rattle.mst_lag.specs.Viewed.{IsView};
-ghost use Rattle.mst_net.specs.After.{after};
-ghost use Rattle.mst_net.specs.Tables.{Net};
+ghost use Rattle.mst_net.specs.tables.After.{after};
+ghost use Rattle.mst_net.specs.tables.Tables.{Net};
 ghost use Rattle.mst_graph.specs.Lists.{has_any};
 ghost use Rattle.mst_trees.specs.Outcome.{IsOutcome};
 ghost use Rattle.mst_trees.specs.Settled.{outcome_of};

@@ -1,5 +1,5 @@
 ghost use Rattle.std.specs.Prelude.{◌++◌, ◌∷◌, [], List, IfOk, OnOk};
-ghost use Rattle.mst_net.specs.After.{after};
+ghost use Rattle.mst_net.specs.tables.After.{after};
 ghost use Rattle.mst_verdict.specs.Setting.{IsMade, after_lines, change_row, kept_or, refused_lines, rows_of_edit, rows_of_line, set_by};
 ghost use Rattle.mst_rows.specs.Rows.{Row};
 

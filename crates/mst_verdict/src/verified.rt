@@ -2,7 +2,7 @@ ghost use Rattle.std.specs.Prelude.{◌≡◌, ◌&&◌, ◌||◌, ◌+◌, ◌�
 ghost use Rattle.std.specs.List.{list_any};
 ghost use Rattle.mst_rows.specs.Rows.{Row, said};
 ghost use Rattle.mst_graph.specs.Lists.{has_any};
-ghost use Rattle.mst_net.specs.Tables.{Net};
+ghost use Rattle.mst_net.specs.tables.Tables.{Net};
 ghost use Rattle.mst_trees.specs.Outcome.{Outcome};
 ghost use Rattle.mst_sweep.specs.Failures.{failures as failures_of};
 ghost use Rattle.mst_verdict.specs.Judged.{AreLinesJudged, Puts, counts_of, found_at, line_found, refused_at, refused_by, verdicts_by, tells_some};

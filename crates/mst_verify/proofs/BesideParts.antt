@@ -12,7 +12,7 @@ use Rattle.mst_graph.specs.declared.keys.Numbering.{Numbering}
 use Rattle.mst_lag.specs.Viewed.{Viewed}
 use Rattle.mst_policy.specs.declared.item.NameItem.{NameItem}
 use Rattle.mst_lag.specs.View.{bridge_names}
-use Rattle.mst_net.specs.Tables.{IsNetwork, Net}
+use Rattle.mst_net.specs.tables.Tables.{IsNetwork, Net}
 use Rattle.mst_trees.specs.Outcome.{Outcome}
 use Rattle.mst_trees.specs.Settled.{IsSettledNet, outcome_of, SettledNet}
 use Rattle.mst_trees.proofs.Lists.{no_some, some_is}

@@ -10,12 +10,12 @@ use Rattle.mst_lang.specs.Ranges.{InRange}
 use Rattle.mst_lang.specs.declared.line.BridgeChange.TheVariants.{Power}
 use Rattle.mst_lang.specs.declared.line.Power.TheVariants.{Off}
 use Rattle.mst_ids.specs.Vids.{has}
-use Rattle.mst_net.specs.ByTree.{by_tree, vlans_in}
-use Rattle.mst_net.specs.After.{after, effect, first_of, bridge_with}
-use Rattle.mst_net.specs.declared.refusal.Refusal.TheVariants.{E04, E06}
-use Rattle.mst_net.specs.Tables.{Net, IsNetwork, BridgeRow, LanRow, port_eq}
-use Rattle.mst_net.proofs.Changed.{get_changed}
-use Rattle.mst_net.proofs.Keys.{names}
+use Rattle.mst_net.specs.tables.ByTree.{by_tree, vlans_in}
+use Rattle.mst_net.specs.tables.After.{after, effect, first_of, bridge_with}
+use Rattle.mst_net.specs.tables.declared.refusal.Refusal.TheVariants.{E04, E06}
+use Rattle.mst_net.specs.tables.Tables.{Net, IsNetwork, BridgeRow, LanRow, port_eq}
+use Rattle.mst_net.proofs.tables_lemmas.Changed.{get_changed}
+use Rattle.mst_net.proofs.tables_lemmas.Keys.{names}
 use Rattle.mst_lag.specs.Aggregation.{plugs, same_name}
 use Rattle.mst_lag.specs.View.{LogicalPort, IsUnrestricted, as_port, logical_port, view_ports}
 use Rattle.mst_trees.proofs.Entries.{entries_found}

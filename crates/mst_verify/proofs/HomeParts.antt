@@ -11,8 +11,8 @@ use Rattle.mst_graph.specs.Islands.{Island}
 use Rattle.mst_graph.proofs.Alike.{alike_groups}
 use Rattle.mst_graph.proofs.Members.{from_map}
 use Rattle.mst_lag.specs.declared.in_view.BridgeInView.{BridgeInView}
-use Rattle.mst_net.specs.Contents.{IsNumbered}
-use Rattle.mst_net.specs.Tables.{Net, Numbers}
+use Rattle.mst_net.specs.tables.Contents.{IsNumbered}
+use Rattle.mst_net.specs.tables.Tables.{Net, Numbers}
 use Rattle.mst_trees.specs.Outcome.{Outcome}
 use Rattle.mst_trees.proofs.Lists.{some_is}
 use Rattle.mst_sweep.specs.Baseline.{AreHomes}

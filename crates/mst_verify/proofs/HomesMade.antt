@@ -6,7 +6,7 @@ use Rattle.std.proofs.lemmas.Slice.Zip.{AllZip-long}
 use Rattle.std.proofs.lemmas.List.{get_or_default}
 use Rattle.mst_vlan.specs.Carried.{ViewWithTrees}
 use Rattle.mst_lag.specs.Viewed.{Viewed}
-use Rattle.mst_net.specs.Tables.{Net, Numbers}
+use Rattle.mst_net.specs.tables.Tables.{Net, Numbers}
 use Rattle.mst_trees.specs.Agrees.{AreOf, Known}
 use Rattle.mst_trees.specs.Forest.{Forest, IsForest}
 use Rattle.mst_trees.specs.Settled.{SettledNet, IsSettledNet, outcome_of}

@@ -5,8 +5,8 @@ use Rattle.std.specs.FinMap as fin
 use Rattle.mst_ids.specs.Names.{name_cmp}
 use Rattle.mst_graph.specs.Groups.{StandOnce}
 use Rattle.mst_graph.proofs.Members.{in_map, from_map}
-use Rattle.mst_net.specs.ByTree.{by_tree}
-use Rattle.mst_net.specs.Tables.{Net, BridgeRow, IsNetwork}
+use Rattle.mst_net.specs.tables.ByTree.{by_tree}
+use Rattle.mst_net.specs.tables.Tables.{Net, BridgeRow, IsNetwork}
 use Rattle.mst_vector.specs.Cist.{cist_rules}
 use Rattle.mst_vector.specs.Msti.{msti_rules}
 use Rattle.mst_vector.specs.declared.cist.CistBridge.{CistBridge}

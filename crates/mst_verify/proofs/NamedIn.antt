@@ -12,7 +12,7 @@ use Rattle.mst_lag.proofs.Lists.{any_mapped}
 use Rattle.mst_policy.specs.Items as policy
 use Rattle.mst_policy.specs.declared.item.NameItem.{NameItem}
 use Rattle.mst_policy.specs.declared.item.PortItem.{PortItem}
-use Rattle.mst_net.specs.Tables.{Net, Numbers, BridgeRow, port_eq}
+use Rattle.mst_net.specs.tables.Tables.{Net, Numbers, BridgeRow, port_eq}
 use Rattle.mst_trees.proofs.Lists.{all_there, filter_mapped, mapped_twice}
 use Rattle.mst_trees.proofs.Entries.{all_weaker}
 use Rattle.mst_trees.proofs.Looking.{filter_alike}

@@ -8,7 +8,7 @@ use Rattle.std.specs.Cmp.Lexicographic.{bytes_decides}
 use Rattle.std.specs.FinMap as fin
 use Rattle.mst_ids.specs.Names.{name_cmp}
 use Rattle.mst_graph.proofs.Members.{from_map, in_map}
-use Rattle.mst_net.specs.Tables.{Net, LanRow}
+use Rattle.mst_net.specs.tables.Tables.{Net, LanRow}
 use Rattle.mst_lag.specs.Aggregation.{same_name}
 use Rattle.mst_lag.specs.View.{logical_lan}
 use Rattle.mst_lag.specs.Viewed.{Viewed, member_lan}

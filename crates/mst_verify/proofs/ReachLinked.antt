@@ -4,8 +4,8 @@ use Rattle.std.specs.Cmp.Lexicographic.{bytes_decides}
 use Rattle.std.specs.List.{Contains}
 use Rattle.mst_lang.specs.Ranges.{InRange}
 use Rattle.mst_lang.specs.declared.line.Edit.{Edit}
-use Rattle.mst_net.specs.After.{after}
-use Rattle.mst_net.specs.Tables.{Net, IsNetwork}
+use Rattle.mst_net.specs.tables.After.{after}
+use Rattle.mst_net.specs.tables.Tables.{Net, IsNetwork}
 use Rattle.mst_lag.specs.Aggregation.{same_name}
 use Rattle.mst_lag.specs.View.{IsUnrestricted}
 use Rattle.mst_graph.specs.Walks.{Node, Walk, bridge_at}

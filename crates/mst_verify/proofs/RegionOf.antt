@@ -8,7 +8,7 @@ use Rattle.mst_graph.proofs.Members.{here, there, from_map}
 use Rattle.mst_lag.specs.Aggregation.{same_name}
 use Rattle.mst_lag.specs.Viewed.{Viewed}
 use Rattle.mst_lag.specs.declared.in_view.BridgeInView.{BridgeInView}
-use Rattle.mst_net.specs.Tables.{Net, Numbers, BridgeRow}
+use Rattle.mst_net.specs.tables.Tables.{Net, Numbers, BridgeRow}
 use Rattle.mst_config.specs.Regions.{same_configuration, same_region}
 use Rattle.mst_config.specs.Shared.{same_in}
 use Rattle.mst_trees.specs.Agrees.{AreOf}

@@ -4,7 +4,7 @@ use Rattle.std.specs.Prelude.{if◌then◌else◌}
 use Rattle.std.specs.Option.{option_map}
 use Rattle.std.specs.FinMap as fin
 use Rattle.std.proofs.lemmas.Bool.{eqb-true}
-use Rattle.mst_net.specs.Tables.{Net, IsNetwork}
+use Rattle.mst_net.specs.tables.Tables.{Net, IsNetwork}
 use Rattle.mst_vector.specs.declared.cist.CistVector.{CistVector}
 use Rattle.mst_vector.specs.declared.msti.MstiVector.{MstiVector}
 use Rattle.mst_nested.specs.Trees.{IsSettled}

@@ -11,7 +11,7 @@ use Rattle.mst_note_text.specs.Depths.{ParentIn, ParentBetween, ParentWithin}
 use Rattle.mst_note_text.specs.declared.children.Child.{Child}
 use Rattle.mst_note_text.proofs.Regions.{msti_region, parent_sides}
 use Rattle.mst_note_text.proofs.Tops.{external_depth, internal_depth}
-use Rattle.mst_net.specs.Tables.{Net, IsNetwork}
+use Rattle.mst_net.specs.tables.Tables.{Net, IsNetwork}
 use Rattle.mst_nested.specs.Trees.{HasTree, IsSettled, Trees}
 use Rattle.mst_trees.specs.Outcome.{Outcome, trees_of}
 use Rattle.mst_vector.specs.declared.cist.CistVector.{CistVector}

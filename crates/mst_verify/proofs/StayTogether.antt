@@ -5,7 +5,7 @@ use Rattle.std.specs.Option.{option_and_then, option_map}
 use Rattle.std.proofs.lemmas.Bool.{eqb-true, eq-eqb}
 use Rattle.mst_graph.specs.Islands.{Island}
 use Rattle.mst_graph.specs.Lists.{has_any}
-use Rattle.mst_net.specs.Tables.{Net}
+use Rattle.mst_net.specs.tables.Tables.{Net}
 use Rattle.mst_trees.specs.Outcome.{Outcome}
 use Rattle.mst_trees.proofs.Lists.{kept_in, kept_from, some_is}
 use Rattle.mst_vlan.specs.Reach.{AreIslandsOf, bridges_on}

@@ -12,8 +12,8 @@ use Rattle.mst_ids.specs.Vids.{has}
 use Rattle.mst_ids.specs.declared.name.PortName.{PortName}
 use Rattle.mst_lag.specs.Viewed.{Viewed, named_port}
 use Rattle.mst_lag.specs.declared.in_view.PortInView.{PortInView}
-use Rattle.mst_net.specs.ByTree.{vlans_in}
-use Rattle.mst_net.specs.Tables.{IsNetwork, Net, Numbers}
+use Rattle.mst_net.specs.tables.ByTree.{vlans_in}
+use Rattle.mst_net.specs.tables.Tables.{IsNetwork, Net, Numbers}
 use Rattle.mst_trees.specs.Agrees.{AreOf}
 use Rattle.mst_trees.specs.Forest.{Forest, IsForest}
 use Rattle.mst_trees.specs.Outcome.{Outcome}

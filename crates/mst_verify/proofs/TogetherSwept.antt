@@ -10,8 +10,8 @@ use Rattle.mst_graph.proofs.Members.{from_filter, here, in_filter, there}
 use Rattle.mst_lag.specs.Trees.{is_among}
 use Rattle.mst_lang.specs.Ranges.{InRange}
 use Rattle.mst_lang.specs.declared.line.Edit.{Edit}
-use Rattle.mst_net.specs.After.{after}
-use Rattle.mst_net.specs.Tables.{IsNetwork, Net}
+use Rattle.mst_net.specs.tables.After.{after}
+use Rattle.mst_net.specs.tables.Tables.{IsNetwork, Net}
 use Rattle.mst_policy.specs.declared.item.NameItem.TheVariants.{Any}
 use Rattle.mst_rows.specs.Rows.{Row}
 use Rattle.mst_trees.proofs.Pieces.{flat_map-flat_map}

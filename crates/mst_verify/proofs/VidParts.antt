@@ -7,7 +7,7 @@ use Rattle.mst_graph.specs.Walks.{bridge_at}
 use Rattle.mst_graph.specs.declared.keys.Numbering.{Numbering}
 use Rattle.mst_graph.proofs.Alike.{alike_groups}
 use Rattle.mst_lag.specs.Viewed.{Viewed}
-use Rattle.mst_net.specs.Tables.{Net}
+use Rattle.mst_net.specs.tables.Tables.{Net}
 use Rattle.mst_classes.specs.Alike.{AreAlike}
 use Rattle.mst_classes.specs.AllVids.{NumberEach}
 use Rattle.mst_classes.specs.AllVids.{all_vids}

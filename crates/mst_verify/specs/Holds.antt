@@ -8,7 +8,7 @@ use Rattle.mst_kinds.specs.declared.note_line.NoteLine.TheVariants as note_line
 use Rattle.mst_rows.specs.Rows.{Row}
 use Rattle.mst_graph.specs.Islands.{AreJoined}
 use Rattle.mst_graph.specs.Walks.{bridge_at}
-use Rattle.mst_net.specs.Tables.{Net}
+use Rattle.mst_net.specs.tables.Tables.{Net}
 use Rattle.mst_config.specs.Regions.{same_region}
 use Rattle.mst_lag.specs.View.{LogicalPort}
 use Rattle.mst_note_text.specs.Children.{HasSteps}

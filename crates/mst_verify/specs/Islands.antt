@@ -8,7 +8,7 @@ use Rattle.std.specs.HashMap.{HashMap}
 use Rattle.mst_vlan.specs.Carried.{ViewWithTrees, CarryAlike}
 use Rattle.mst_graph.specs.Groups.{AreGroups}
 use Rattle.mst_lag.specs.declared.in_view.BridgeInView.{BridgeInView}
-use Rattle.mst_net.specs.Tables.{Net, Numbers}
+use Rattle.mst_net.specs.tables.Tables.{Net, Numbers}
 use Rattle.mst_trees.specs.Outcome.{Outcome}
 use Rattle.mst_trees.specs.Settled.{SettledNet, IsSettledNet, outcome_of}
 use Rattle.mst_policy.specs.declared.item.NameItem.{NameItem}

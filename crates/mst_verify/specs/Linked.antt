@@ -7,8 +7,8 @@ use Rattle.mst_policy.specs.declared.expectation.Promise.{Promise}
 use Rattle.mst_policy.specs.declared.expectation.Scope.TheVariants as scope
 use Rattle.mst_policy.specs.declared.item.NameItem.{NameItem}
 use Rattle.mst_graph.specs.Lists.{has_any}
-use Rattle.mst_net.specs.After.{after}
-use Rattle.mst_net.specs.Tables.{Net}
+use Rattle.mst_net.specs.tables.After.{after}
+use Rattle.mst_net.specs.tables.Tables.{Net}
 use Rattle.mst_vlan.specs.Reach.{bridges_on}
 use Rattle.mst_sweep.specs.Apart.{AllAreMembers, AreLinked}
 use Rattle.mst_sweep.specs.Failures.{edit_of, failures}

@@ -1,7 +1,7 @@
 -- Which VIDs go over a LAN.
 use Rattle.std.specs.Prelude.{◌≡◌, ℕ, Bool, true, not, List, filter, if◌then◌else◌, ⊤}
 use Rattle.std.specs.FinMap as fin
-use Rattle.mst_net.specs.Tables.{Net}
+use Rattle.mst_net.specs.tables.Tables.{Net}
 use Rattle.mst_lag.specs.View.{logical_lan}
 use Rattle.mst_trees.specs.Outcome.{Outcome}
 use Rattle.mst_summary.specs.Carries as carries

@@ -1,7 +1,7 @@
 -- Why an expectation doesn't hold in a network, or in that of a failure.
 use Rattle.std.specs.Prelude.{◌≡◌, List, Option, None, Some, Ok}
-use Rattle.mst_net.specs.After.{after}
-use Rattle.mst_net.specs.Tables.{Net}
+use Rattle.mst_net.specs.tables.After.{after}
+use Rattle.mst_net.specs.tables.Tables.{Net}
 use Rattle.mst_trees.specs.Outcome.{Outcome, IsOutcome}
 use Rattle.mst_sweep.specs.Failures.{edit_of}
 use Rattle.mst_sweep.specs.declared.failure.Failure.{Failure}

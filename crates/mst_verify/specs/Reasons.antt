@@ -11,7 +11,7 @@ use Rattle.mst_kinds.specs.declared.note_line.NoteLine.TheVariants as note_line
 use Rattle.mst_rows.specs.Cells.{Cell, word, number}
 use Rattle.mst_rows.specs.Rows.{Row}
 use Rattle.mst_graph.specs.Groups.{AreGroups, IsThinned}
-use Rattle.mst_net.specs.Tables.{Net}
+use Rattle.mst_net.specs.tables.Tables.{Net}
 use Rattle.mst_config.specs.Regions.{same_region}
 use Rattle.mst_lag.specs.Aggregation.{same_name}
 use Rattle.mst_lag.specs.Trees.{is_among}

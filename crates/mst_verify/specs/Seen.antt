@@ -7,9 +7,9 @@ use Rattle.std.specs.HashSet.{contains}
 use Rattle.std.specs.declared.alloc.Global.{Global}
 use Rattle.std.specs.FinMap as fin
 use Rattle.mst_ids.specs.declared.name.PortName.{PortName}
-use Rattle.mst_net.specs.ByTree.{by_tree}
-use Rattle.mst_net.specs.Seen.{bridge_row}
-use Rattle.mst_net.specs.Tables.{Net, BridgeRow, port_eq}
+use Rattle.mst_net.specs.tables.ByTree.{by_tree}
+use Rattle.mst_net.specs.tables.Seen.{bridge_row}
+use Rattle.mst_net.specs.tables.Tables.{Net, BridgeRow, port_eq}
 use Rattle.mst_config.specs.Regions.{same_region}
 use Rattle.mst_lag.specs.Aggregation.{same_name}
 use Rattle.mst_lag.specs.Viewed.{Viewed}

@@ -7,8 +7,8 @@ use Rattle.mst_rows.specs.Rows.{Row}
 use Rattle.mst_policy.specs.declared.expectation.Expectation.{Expectation}
 use Rattle.mst_policy.specs.declared.expectation.Expectation.TheVariants as expect
 use Rattle.mst_policy.specs.declared.item.NameItem.TheVariants.{Any}
-use Rattle.mst_net.specs.After.{after}
-use Rattle.mst_net.specs.Tables.{Net, IsNetwork}
+use Rattle.mst_net.specs.tables.After.{after}
+use Rattle.mst_net.specs.tables.Tables.{Net, IsNetwork}
 use Rattle.mst_classes.specs.AllVids.{all_vids}
 use Rattle.mst_trees.specs.Outcome.{Outcome, IsOutcome}
 use Rattle.mst_sweep.specs.Cuts.{cut_row}

@@ -2,7 +2,7 @@ ghost use Rattle.std.specs.Prelude.{◌≡◌, ◌&&◌, IfOk};
 ghost use Rattle.std.specs.List.{list_any};
 ghost use Rattle.std.specs.HashSet.{contains};
 ghost use Rattle.mst_ids.specs.declared.name.PortName.{PortName as PortNameOf};
-ghost use Rattle.mst_net.specs.Tables.{port_eq};
+ghost use Rattle.mst_net.specs.tables.Tables.{port_eq};
 ghost use Rattle.mst_classes.specs.Classes.{AreClasses};
 ghost use Rattle.mst_verify.specs.Islands.{HasIslandsOf, IsOfPlan};
 ghost use Rattle.mst_verify.specs.Seen.{IsBefore};

@@ -5,7 +5,7 @@ ghost use Rattle.mst_policy.specs.declared.expectation.Expectation.{Expectation 
 ghost use Rattle.mst_policy.specs.declared.expectation.Promise.{Promise as PromiseOf};
 ghost use Rattle.mst_policy.specs.declared.item.NameItem.{NameItem as ItemOf};
 ghost use Rattle.mst_rows.specs.Rows.{Row};
-ghost use Rattle.mst_net.specs.Tables.{Net, IsNetwork};
+ghost use Rattle.mst_net.specs.tables.Tables.{Net, IsNetwork};
 ghost use Rattle.mst_trees.specs.Outcome.{Outcome, IsOutcome};
 ghost use Rattle.mst_sweep.specs.Cuts.{AreCuts};
 ghost use Rattle.mst_sweep.specs.Failures.{failures};

@@ -1,7 +1,7 @@
 ghost use Rattle.std.specs.Prelude.{◌≡◌, ◌++◌, not, ◌||◌, IfOk, OnOk, filter, map};
 ghost use Rattle.mst_ids.specs.declared.name.PortName.{PortName as PortNameOf};
 ghost use Rattle.mst_lag.specs.Viewed.{named_port};
-ghost use Rattle.mst_net.specs.Tables.{Net, port_eq};
+ghost use Rattle.mst_net.specs.tables.Tables.{Net, port_eq};
 ghost use Rattle.mst_trees.specs.Settled.{outcome_of};
 ghost use Rattle.mst_verify.specs.Named.{ports_named as ports_named_in};
 ghost use Rattle.mst_verify.specs.Holds.{is_wanted as is_wanted_of};

@@ -19,8 +19,8 @@ use Rattle.mst_trees.specs.nested.Ports.{port_ends as plug_ends}
 use Rattle.mst_trees.specs.nested.Trees.{Trees, IsSettled, IsFree, IsEnabled as IsEnabledPlug, HasTree, SameRegion}
 use Rattle.mst_trees.specs.nested.Roles.{Forwards}
 use Rattle.mst_trees.specs.nested.Active.{IsTreeOfVid, IsActive}
-use Rattle.mst_net.specs.Tables.{Net, BridgeRow, IsNetwork}
-use Rattle.mst_net.specs.ByTree.{by_tree}
+use Rattle.mst_tables.specs.Tables.{Net, BridgeRow, IsNetwork}
+use Rattle.mst_tables.specs.ByTree.{by_tree}
 use Rattle.mst_lag.specs.View.{LogicalPort, view_ports}
 use Rattle.mst_trees.specs.config.Regions.{same_region, region_of}
 use Rattle.mst_trees.proofs.config_lemmas.SameRegion.{told}

@@ -9,8 +9,8 @@ use Rattle.mst_graph.specs.Walks.{bridge_at, lan_at}
 use Rattle.mst_trees.specs.nested.Exits.{IsCrossing, IsExit}
 use Rattle.mst_trees.specs.nested.Roles.{Forwards}
 use Rattle.mst_trees.specs.nested.Trees.{IsSettled, SamePart, HasTree}
-use Rattle.mst_net.specs.Tables.{Net, IsNetwork}
-use Rattle.mst_net.specs.ByTree.{by_tree}
+use Rattle.mst_tables.specs.Tables.{Net, IsNetwork}
+use Rattle.mst_tables.specs.ByTree.{by_tree}
 use Rattle.mst_lag.specs.View.{LogicalPort, view_ports}
 use Rattle.mst_trees.specs.Msti.{msti_bridge, has_msti, msti_sight}
 use Rattle.mst_trees.specs.Outcome.{Outcome, trees_of}

@@ -9,7 +9,7 @@ use Rattle.std.proofs.lemmas.Bool.{and_parts}
 use Rattle.mst_ids.specs.Names.{name_cmp}
 use Rattle.mst_ids.specs.declared.name.PortName.{PortName}
 use Rattle.mst_graph.proofs.Members.{in_map, from_map, in_filter, from_filter, passing}
-use Rattle.mst_net.specs.Tables.{Net, BridgeRow, PortRow, IsNetwork, port_eq}
+use Rattle.mst_tables.specs.Tables.{Net, BridgeRow, PortRow, IsNetwork, port_eq}
 use Rattle.mst_lag.specs.Aggregation.{Plug, plug_of, plugs}
 use Rattle.mst_lag.specs.View.{LogicalPort, logical_lan, logical_port, as_port, is_on, is_up, view_ports}
 use Rattle.mst_lag.proofs.Names.{name_is, tied}

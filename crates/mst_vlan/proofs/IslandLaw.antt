@@ -11,7 +11,7 @@ use Rattle.mst_graph.specs.Renaming.{KeepApart, link_by}
 use Rattle.mst_graph.proofs.HasList.{has_islands}
 use Rattle.mst_graph.proofs.Members.{in_none, cases}
 use Rattle.mst_graph.proofs.OneList.{one_islands}
-use Rattle.mst_net.specs.Tables.{Net, BridgeRow, LanRow, IsNetwork}
+use Rattle.mst_tables.specs.Tables.{Net, BridgeRow, LanRow, IsNetwork}
 use Rattle.mst_lag.specs.Aggregation.{same_name}
 use Rattle.mst_lag.specs.View.{LogicalLan, as_lan, logical_lan, view_lans}
 use Rattle.mst_lag.proofs.Names.{same_names}

@@ -6,10 +6,10 @@ use Rattle.std.specs.Option.{option_map_or}
 use Rattle.std.specs.FinMap as fin
 use Rattle.mst_ids.specs.Vids.{has}
 use Rattle.mst_graph.proofs.Members.{from_filter}
-use Rattle.mst_net.specs.After.{table_of}
-use Rattle.mst_net.specs.ByTree.{table_in, vlans_in}
-use Rattle.mst_net.specs.Table.{tree_in}
-use Rattle.mst_net.specs.Tables.{Net, Numbers, BridgeRow}
+use Rattle.mst_tables.specs.After.{table_of}
+use Rattle.mst_tables.specs.ByTree.{table_in, vlans_in}
+use Rattle.mst_tables.specs.Table.{tree_in}
+use Rattle.mst_tables.specs.Tables.{Net, Numbers, BridgeRow}
 use Rattle.mst_lag.specs.View.{LogicalPort, view_ports}
 use Rattle.mst_lag.specs.Viewed.{Viewed}
 use Rattle.mst_lag.specs.declared.in_view.BridgeInView.{BridgeInView}

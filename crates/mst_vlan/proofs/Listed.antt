@@ -9,9 +9,9 @@ use Rattle.mst_graph.specs.Islands.{Link, HaveEnds}
 use Rattle.mst_graph.specs.Renaming.{KeepApart, link_by}
 use Rattle.mst_graph.proofs.Members.{in_map, from_map, from_filter}
 use Rattle.mst_graph.proofs.Splits.{kept_each, map_of_map}
-use Rattle.mst_net.specs.Tables.{Net, Numbers, BridgeRow}
-use Rattle.mst_net.specs.ByTree.{vlans_in}
-use Rattle.mst_net.specs.Seen.{bridge_row}
+use Rattle.mst_tables.specs.Tables.{Net, Numbers, BridgeRow}
+use Rattle.mst_tables.specs.ByTree.{vlans_in}
+use Rattle.mst_tables.specs.Seen.{bridge_row}
 use Rattle.mst_lag.specs.Trees.{is_among}
 use Rattle.mst_lag.specs.View.{LogicalPort, LogicalLan}
 use Rattle.mst_lag.specs.Viewed.{Viewed, named_bridge, named_port, named_lan}

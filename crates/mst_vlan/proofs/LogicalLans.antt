@@ -7,7 +7,7 @@ use Rattle.std.specs.Cmp.Lexicographic.{nat_list_eq_equiv}
 use Rattle.std.specs.FinMap as fin
 use Rattle.std.proofs.lemmas.Bool.{and_parts, eqb-true}
 use Rattle.mst_graph.proofs.Members.{in_map, in_filter}
-use Rattle.mst_net.specs.Tables.{Net}
+use Rattle.mst_tables.specs.Tables.{Net}
 use Rattle.mst_lag.specs.Aggregation.{Side, sides, same_name, same_sides, lans_as_one}
 use Rattle.mst_lag.specs.View.{logical_lan, LogicalLan, as_lan, view_lans, is_up}
 use Rattle.mst_lag.specs.Seen.{kept_class, class_eq}

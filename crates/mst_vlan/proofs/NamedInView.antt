@@ -3,7 +3,7 @@ use Rattle.std.proofs.Common.{◌≡◌, ℕ, List, Some, sym, ap, subst, ◌∙
 use Rattle.std.specs.List.{Contains, filter}
 use Rattle.std.specs.FinMap as fin
 use Rattle.mst_graph.proofs.Members.{from_map, from_filter}
-use Rattle.mst_net.specs.Tables.{Net, Numbers, BridgeRow}
+use Rattle.mst_tables.specs.Tables.{Net, Numbers, BridgeRow}
 use Rattle.mst_lag.specs.View.{LogicalLan, view_lans}
 use Rattle.mst_lag.specs.Viewed.{Viewed, named_bridge, named_lan}
 use Rattle.mst_lag.specs.declared.in_view.BridgeInView.{BridgeInView}

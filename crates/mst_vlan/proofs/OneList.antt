@@ -1,7 +1,7 @@
 -- There is one list of the islands of a VID.
 use Rattle.std.proofs.Common.{◌≡◌, ℕ, List}
 use Rattle.mst_graph.specs.Islands.{Island}
-use Rattle.mst_net.specs.Tables.{Net}
+use Rattle.mst_tables.specs.Tables.{Net}
 use Rattle.mst_trees.specs.Outcome.{Outcome}
 use Rattle.mst_vlan.specs.Reach.{AreIslandsOf}
 

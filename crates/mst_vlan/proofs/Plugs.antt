@@ -6,8 +6,8 @@ use Rattle.mst_vector.specs.Cist.{cist_rules}
 use Rattle.mst_vector.specs.declared.cist.CistPort.{CistPort}
 use Rattle.mst_trees.specs.topology.Topology.{TreePort}
 use Rattle.mst_trees.specs.nested.Trees.{TakesPart}
-use Rattle.mst_net.specs.Tables.{Net, IsNetwork}
-use Rattle.mst_net.specs.ByTree.{by_tree}
+use Rattle.mst_tables.specs.Tables.{Net, IsNetwork}
+use Rattle.mst_tables.specs.ByTree.{by_tree}
 use Rattle.mst_lag.specs.View.{LogicalPort}
 use Rattle.mst_trees.specs.Sight.{tree_port}
 use Rattle.mst_trees.specs.Cist.{cist_port, cist_sight, cist_of}

@@ -6,7 +6,7 @@ use Rattle.mst_graph.specs.Islands.{Link, Island, AreIslands, HaveEnds}
 use Rattle.mst_graph.specs.Renaming.{link_by, island_by}
 use Rattle.mst_graph.proofs.Members.{from_map, from_filter}
 use Rattle.mst_graph.proofs.Splits.{kept_each, map_of_map}
-use Rattle.mst_net.specs.Tables.{Net, Numbers, IsNetwork}
+use Rattle.mst_tables.specs.Tables.{Net, Numbers, IsNetwork}
 use Rattle.mst_lag.specs.View.{view_ports}
 use Rattle.mst_lag.specs.Viewed.{Viewed}
 use Rattle.mst_trees.specs.Outcome.{Outcome}

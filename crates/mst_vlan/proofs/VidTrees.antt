@@ -8,10 +8,10 @@ use Rattle.std.specs.FinMap as fin
 use Rattle.std.proofs.lemmas.Bool.{and_parts}
 use Rattle.std.proofs.lemmas.List.FromFn.{length-range_with_len, get_or-range_with_len}
 use Rattle.mst_graph.proofs.Members.{in_none, cases, in_filter}
-use Rattle.mst_net.specs.Table.{tree_in, has_tree, mstis_in, no_table}
-use Rattle.mst_net.specs.Tables.{Net, BridgeRow, IsNetwork}
-use Rattle.mst_net.specs.After.{table_of}
-use Rattle.mst_net.proofs.TableFits.{tree_in-no_table}
+use Rattle.mst_tables.specs.Table.{tree_in, has_tree, mstis_in, no_table}
+use Rattle.mst_tables.specs.Tables.{Net, BridgeRow, IsNetwork}
+use Rattle.mst_tables.specs.After.{table_of}
+use Rattle.mst_tables.proofs.TableFits.{tree_in-no_table}
 use Rattle.mst_lag.specs.Trees.{mstis_of, is_among}
 use Rattle.mst_trees.specs.config.Regions.{same_region, same_configuration}
 use Rattle.mst_trees.specs.Msti.{has_msti}

@@ -6,9 +6,9 @@ use Rattle.std.specs.Option.{option_map_or}
 use Rattle.std.proofs.lemmas.Bool.{eqb-true}
 use Rattle.std.proofs.lemmas.List.{length-map, get_or-map}
 use Rattle.mst_graph.specs.Numbers.{AreNumbers}
-use Rattle.mst_net.specs.ByTree.{table_in}
-use Rattle.mst_net.specs.Seen.{bridge_row}
-use Rattle.mst_net.specs.Table.{tree_in}
+use Rattle.mst_tables.specs.ByTree.{table_in}
+use Rattle.mst_tables.specs.Seen.{bridge_row}
+use Rattle.mst_tables.specs.Table.{tree_in}
 use Rattle.mst_lag.specs.Viewed.{Viewed}
 use Rattle.mst_lag.specs.declared.in_view.BridgeInView.{BridgeInView}
 use Rattle.mst_classes.specs.Alike.{AreAlike, TellApart}

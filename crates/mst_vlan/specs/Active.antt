@@ -3,7 +3,7 @@ use Rattle.std.specs.Prelude.{◌≡◌, ℕ, true, List, filter}
 use Rattle.std.specs.List.{Contains}
 use Rattle.mst_graph.specs.Walks.{Ends, Node, bridge_at, lan_at}
 use Rattle.mst_graph.specs.Joined.{IsJoined, HasNoLoop}
-use Rattle.mst_net.specs.Tables.{Net}
+use Rattle.mst_tables.specs.Tables.{Net}
 use Rattle.mst_lag.specs.View.{LogicalPort, view_ports}
 use Rattle.mst_trees.specs.Outcome.{Outcome}
 use Rattle.mst_trees.specs.Roles.{forwards_for}

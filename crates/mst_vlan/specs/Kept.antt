@@ -1,7 +1,7 @@
 -- What is kept of a view with its trees, so that it is read for each VID which ports carry it.
 use Rattle.std.specs.Prelude.{◌≡◌, ℕ, ◌+◌, ◌<◌, ◌&&◌, Bool, true, false, List, [], length, map, slice_index, slice_index_or}
 use Rattle.mst_ids.specs.Vids.{has}
-use Rattle.mst_net.specs.ByTree.{vlans_in}
+use Rattle.mst_tables.specs.ByTree.{vlans_in}
 use Rattle.mst_lag.specs.Viewed.{Viewed}
 use Rattle.mst_trees.specs.Agrees.{Known}
 use Rattle.mst_trees.specs.Forest.{Forest}

@@ -3,8 +3,8 @@ use Rattle.std.specs.Prelude.{◌≡◌, ℕ, Bool, List, map, filter, Some}
 use Rattle.std.specs.FinMap as fin
 use Rattle.mst_ids.specs.Vids.{has}
 use Rattle.mst_graph.specs.Islands.{Link, Island, AreIslands}
-use Rattle.mst_net.specs.Tables.{Net, Numbers}
-use Rattle.mst_net.specs.ByTree.{by_tree, vlans_in}
+use Rattle.mst_tables.specs.Tables.{Net, Numbers}
+use Rattle.mst_tables.specs.ByTree.{by_tree, vlans_in}
 use Rattle.mst_lag.specs.View.{LogicalPort, view_lans}
 use Rattle.mst_trees.specs.Outcome.{Outcome}
 use Rattle.mst_vlan.specs.Active.{active_ports}

@@ -4,8 +4,8 @@ use Rattle.std.specs.List.{find}
 use Rattle.std.specs.Option.{option_map}
 use Rattle.mst_ids.specs.Vids.{has}
 use Rattle.mst_graph.specs.Islands.{Link, Island}
-use Rattle.mst_net.specs.ByTree.{vlans_in}
-use Rattle.mst_net.specs.Seen.{bridge_row}
+use Rattle.mst_tables.specs.ByTree.{vlans_in}
+use Rattle.mst_tables.specs.Seen.{bridge_row}
 use Rattle.mst_lag.specs.Viewed.{Viewed}
 use Rattle.mst_lag.specs.declared.in_view.PortInView.{PortInView}
 use Rattle.mst_trees.specs.Forest.{Forest}

@@ -25,7 +25,7 @@ pub struct Carriage<'a> {
 impl<'a> Model for Carriage<'a> {
     ghost use Rattle.std.specs.Prelude.{map};
     ghost use Rattle.std.specs.Coded.{codes};
-    ghost use Rattle.mst_net.specs.ByTree.{by_tree_code};
+    ghost use Rattle.mst_tables.specs.ByTree.{by_tree_code};
     ghost use Rattle.mst_vlan.specs.Carried.{ViewWithTrees};
     ghost use Rattle.mst_vlan.specs.Kept.{IsKept};
 
@@ -40,7 +40,7 @@ impl<'a> Model for Carriage<'a> {
 
 impl<'a> Carriage<'a> {
     ghost use Rattle.std.specs.Prelude.{◌≡◌, ◌<◌, IfOk, false, length, map, slice_index_or};
-    ghost use Rattle.mst_net.specs.Tables.{Net, Numbers};
+    ghost use Rattle.mst_tables.specs.Tables.{Net, Numbers};
     ghost use Rattle.mst_trees.specs.Agrees.{AreOf, Known};
     ghost use Rattle.mst_trees.specs.Forest.{IsForest};
     ghost use Rattle.mst_vlan.specs.Reach.{AreReached};

@@ -17,8 +17,8 @@ ghost use Rattle.mst_trees.specs.nested.Parts.{SameRoots, HasRoot, HasRegionalRo
 ghost use Rattle.mst_trees.specs.nested.Ports.{port_ends as plug_ends};
 ghost use Rattle.mst_trees.specs.nested.Roles.{Forwards, ForwardsInside};
 ghost use Rattle.mst_trees.specs.nested.Trees.{SamePart, SameRegion, HasTree};
-ghost use Rattle.mst_net.specs.Tables.{Net, IsNetwork};
-ghost use Rattle.mst_net.specs.ByTree.{by_tree};
+ghost use Rattle.mst_tables.specs.Tables.{Net, IsNetwork};
+ghost use Rattle.mst_tables.specs.ByTree.{by_tree};
 ghost use Rattle.mst_lag.specs.View.{LogicalPort, IsUnrestricted};
 ghost use Rattle.mst_trees.specs.Cist.{cist_of, cist_port};
 ghost use Rattle.mst_trees.specs.Sight.{tree_port};

@@ -1,6 +1,6 @@
 ghost use Rattle.std.specs.Prelude.{◌≡◌, ◌++◌, true, not, if◌then◌else◌, List, None, Some, OnOk};
 ghost use Rattle.std.specs.List.{Contains};
-ghost use Rattle.mst_net.specs.After.{has_bridge};
+ghost use Rattle.mst_tables.specs.After.{has_bridge};
 ghost use Rattle.mst_rows.specs.Rows.{Row};
 ghost use Rattle.mst_words.specs.Explaining.{Explains, has_tree as has_tree_in, has_asked, unexplained_of, code_of, text_of};
 
@@ -9,9 +9,9 @@ use mst_explain::laws::some_explained;
 use mst_explain::{put_explanation, put_explanations};
 use mst_ids::{PortName, Tree};
 use mst_lag::PortInView;
-use mst_net::Contents;
 use mst_report::Planner;
 use mst_rows::Rows;
+use mst_tables::Contents;
 use mst_trees::Settled;
 use std::alloc::{AllocError, Global};
 use thiserror::Error;

@@ -4,8 +4,8 @@ ghost use Rattle.mst_words.specs.Unadvised.{unadvised_of, unrooted_of};
 use crate::explaining::{Unexplained, unexplained_in};
 use mst_advise::Goal;
 use mst_ids::{Name, Tree};
-use mst_net::Contents;
 use mst_report::Planner;
+use mst_tables::Contents;
 
 /// Why there is no advice, if there is none: for a port as where it is [explained](unexplained_in), for a root that there is no
 /// bridge of that name, or that it doesn't have the tree. It takes no memory.

@@ -5,7 +5,7 @@ use mst_ask::{engine_laws as laws, laws as standing, report_laws as answers, sta
 use mst_ids::BadText;
 use mst_io::RunFault;
 use mst_lang::Fault;
-use mst_net::Refusal;
+use mst_tables::Refusal;
 use mst_trees::laws as outcomes;
 use std::alloc::Global;
 use std::fmt::Display;

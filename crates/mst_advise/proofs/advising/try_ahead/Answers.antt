@@ -1,6 +1,6 @@
 use Rattle.std.proofs.Common.{◌≡◌, List, Ok, ap, subst, sym, ◌∙◌}
 use Rattle.std.proofs.lemmas.Result.{IfOk-weaker}
-use Rattle.mst_net.specs.Contents.{ahead_of}
+use Rattle.mst_net.specs.tables.Contents.{ahead_of}
 use Rattle.mst_rows.specs.Rows.{Row}
 use Rattle.mst_trees.specs.Settled.{SettledNet}
 use Rattle.mst_advise.specs.Made.{after_settings}

@@ -1,7 +1,7 @@
 use Rattle.std.proofs.Common.{[], map, take}
 use Rattle.std.specs.List.{AllByRecursion}
 use Rattle.mst_advise.specs.Settings.{alone}
-use Rattle.mst_net.specs.Contents.{SameContents}
+use Rattle.mst_net.specs.tables.Contents.{SameContents}
 use Rattle.mst_advise.specs.Advising.{Fail}
 use Rattle.mst_sweeping.specs.Sweeping.{Puts}
 use Rattle.mst_advise.proofs.advising.try_each.Given as goal

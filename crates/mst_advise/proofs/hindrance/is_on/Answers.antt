@@ -1,6 +1,6 @@
 use Rattle.std.proofs.Common.{Option, false, sym, ap, ◌∙◌}
 use Rattle.std.specs.Option.{option_copied, option_map_or}
-use Rattle.mst_net.specs.Tables.{BridgeRow}
+use Rattle.mst_net.specs.tables.Tables.{BridgeRow}
 use Rattle.mst_advise.proofs.BridgeNamed.{is_there, not_there}
 use Rattle.mst_advise.proofs.hindrance.is_on.Goals as goal
 

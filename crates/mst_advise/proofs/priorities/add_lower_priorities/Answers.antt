@@ -1,7 +1,7 @@
 use Rattle.std.proofs.Common.{◌≡◌, ◌++◌, ℕ, List, [], ◌∷◌, Option, sym, ap, subst, ◌∙◌, append-nil}
 use Rattle.std.specs.Prelude.{OnOk}
 use Rattle.std.specs.Option.{option_copied, option_map_or}
-use Rattle.mst_net.specs.Tables.{BridgeRow}
+use Rattle.mst_net.specs.tables.Tables.{BridgeRow}
 use Rattle.mst_trees.specs.Settled.{outcome_of}
 use Rattle.mst_advise.specs.Priorities.{lower_priorities, lower_priority, others}
 use Rattle.mst_advise.specs.declared.setting.Setting.{Setting}

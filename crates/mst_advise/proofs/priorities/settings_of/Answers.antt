@@ -1,7 +1,7 @@
 use Rattle.std.proofs.Common.{List, [], Option, sym, ap, ◌∙◌}
 use Rattle.std.specs.Option.{option_map_or}
 use Rattle.std.proofs.lemmas.Result.{IfOk-weaker}
-use Rattle.mst_net.specs.Tables.{BridgeRow}
+use Rattle.mst_net.specs.tables.Tables.{BridgeRow}
 use Rattle.mst_trees.specs.Settled.{outcome_of}
 use Rattle.mst_trees.proofs.Seen.{bridge_seen}
 use Rattle.mst_verify.specs.summary.declared.roots.Follower.{Follower}

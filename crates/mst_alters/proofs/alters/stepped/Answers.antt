@@ -1,5 +1,5 @@
 use Rattle.std.proofs.Common.{◌≡◌, ◌+◌, ◌≤◌, ℕ, Bool, true, false, List, [], Option, None, length, arith, ap, subst}
-use Rattle.mst_net.specs.Contents.{Contents}
+use Rattle.mst_tables.specs.Contents.{Contents}
 use Rattle.mst_policy.specs.declared.policy.PolicyLine.{PolicyLine}
 use Rattle.mst_print.proofs.Shown.{grew_none}
 use Rattle.mst_words.specs.verdict.Stepping.{lines_of}

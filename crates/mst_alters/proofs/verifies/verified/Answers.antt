@@ -1,5 +1,5 @@
 use Rattle.std.proofs.Common.{[], None, ap}
-use Rattle.mst_net.specs.Contents.{Contents}
+use Rattle.mst_tables.specs.Contents.{Contents}
 use Rattle.mst_words.specs.verdict.Judged.{counts_of}
 use Rattle.mst_print.proofs.Shown.{grew_none}
 use Rattle.mst_tool.specs.Shown.{verify_row}

@@ -1,5 +1,5 @@
 use Rattle.std.proofs.Common.{subst}
-use Rattle.mst_net.specs.Table.{tree_in}
+use Rattle.mst_tables.specs.Table.{tree_in}
 use Rattle.mst_classes.specs.Alike.{IsSplit}
 use Rattle.mst_classes.proofs.Split.{tables_more}
 use Rattle.mst_classes.proofs.alike.split_by_tables.Goals as goal

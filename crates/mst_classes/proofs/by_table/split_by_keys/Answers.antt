@@ -1,6 +1,6 @@
 use Rattle.std.proofs.Common.{◌≡◌, ℕ, ◌+◌, length, get_or, nat_eq, ◌&&◌, refl, ap, ◌∙◌, arith}
 use Rattle.std.proofs.lemmas.Bool.{and_parts, eqb-true}
-use Rattle.mst_net.specs.Table.{tree_in}
+use Rattle.mst_tables.specs.Table.{tree_in}
 use Rattle.mst_classes.proofs.Split.{key_pushed, tree_at, is_split, keys_long, numbers_small}
 use Rattle.mst_classes.proofs.by_table.split_by_keys.Goals as goal
 

@@ -1,5 +1,5 @@
 use Rattle.std.proofs.Common.{◌≡◌}
-use Rattle.mst_net.specs.Table.{tree_in}
+use Rattle.mst_tables.specs.Table.{tree_in}
 use Rattle.mst_classes.specs.Alike.{keys_to}
 use Rattle.mst_classes.proofs.by_table.split_by_keys.Given as goal
 

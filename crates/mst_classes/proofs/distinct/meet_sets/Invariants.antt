@@ -1,5 +1,5 @@
 use Rattle.std.proofs.Common.{take}
-use Rattle.mst_net.specs.ByTree.{vlans_in}
+use Rattle.mst_tables.specs.ByTree.{vlans_in}
 use Rattle.mst_classes.proofs.Gathered.{MetSoFar}
 use Rattle.mst_classes.proofs.distinct.meet_sets.Given as goal
 

@@ -2,7 +2,7 @@ use Rattle.std.proofs.Common.{◌≡◌, ◌<◌, ◌≤◌, ℕ, List, nat_eq, 
 use Rattle.std.specs.Cmp.Lexicographic.{pointwise, bytes_decides}
 use Rattle.std.specs.List.{AllByRecursion, Contains}
 use Rattle.std.proofs.lemmas.List.{take_all}
-use Rattle.mst_net.specs.ByTree.{ByTree, table_in}
+use Rattle.mst_tables.specs.ByTree.{ByTree, table_in}
 use Rattle.mst_lag.specs.declared.in_view.BridgeInView.{BridgeInView}
 use Rattle.mst_classes.proofs.Gathered.{none_so_far, one_put, one_there}
 use Rattle.mst_classes.proofs.distinct.meet_tables.Goals as goal

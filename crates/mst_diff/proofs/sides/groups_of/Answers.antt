@@ -5,7 +5,7 @@ use Rattle.mst_vlan.specs.trees.Forest.{IsForest}
 use Rattle.mst_vlan.specs.trees.Settled.{outcome_of}
 use Rattle.mst_vlan.specs.Reach.{AreReached}
 use Rattle.mst_vlan.proofs.trees_lemmas.SettledNet.{forest_of}
-use Rattle.mst_net.specs.Tables.{Net, Numbers}
+use Rattle.mst_tables.specs.Tables.{Net, Numbers}
 use Rattle.mst_vlan.specs.Carried.{ViewWithTrees}
 use Rattle.mst_diff.specs.Seen.{seen_groups}
 use Rattle.mst_diff.proofs.NamedSides.{groups_named}

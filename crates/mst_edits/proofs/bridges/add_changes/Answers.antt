@@ -1,6 +1,6 @@
 use Rattle.std.proofs.Common.{◌∙◌}
 use Rattle.std.proofs.lemmas.Result.{on_ok_weaker}
-use Rattle.mst_net.specs.Seen.{bridge_row}
+use Rattle.mst_net.specs.tables.Seen.{bridge_row}
 use Rattle.mst_edits.specs.Edits.{bridge_set}
 use Rattle.mst_edits.proofs.Listing.{onto, all_behind}
 use Rattle.mst_edits.proofs.bridges.add_changes.Goals as goal

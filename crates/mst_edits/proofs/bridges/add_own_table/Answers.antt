@@ -1,6 +1,6 @@
 use Rattle.std.proofs.Common.{◌≡◌, ◌++◌, replicate, sym, ap, ◌∙◌}
 use Rattle.std.proofs.lemmas.Result.{on_ok_weaker}
-use Rattle.mst_net.specs.After.{table_of}
+use Rattle.mst_net.specs.tables.After.{table_of}
 use Rattle.mst_edits.specs.Staying.{table_before}
 use Rattle.mst_edits.specs.TableLines.{table_edits}
 use Rattle.mst_edits.proofs.LinesMade.{new_table}

@@ -4,7 +4,7 @@ use Rattle.std.specs.Cmp.Lexicographic.{pointwise}
 use Rattle.std.proofs.lemmas.Result.{on_ok_weaker}
 use Rattle.mst_lang.specs.declared.line.Edit.TheVariants.{SetByTree}
 use Rattle.mst_lang.specs.declared.line.TreeChange.TheVariants.{Vlans}
-use Rattle.mst_net.specs.After.{vlans_of}
+use Rattle.mst_net.specs.tables.After.{vlans_of}
 use Rattle.mst_save.specs.Saved.{when}
 use Rattle.mst_edits.specs.Staying.{vlans_before}
 use Rattle.mst_edits.specs.Edits.{port_set}

@@ -1,7 +1,7 @@
 use Rattle.std.proofs.Common.{ℕ, Bool, ◌||◌, is_some, ap, ◌∙◌, ◌++◌}
 use Rattle.mst_lang.specs.declared.line.Edit.TheVariants.{SetByTree}
 use Rattle.mst_lang.specs.declared.line.TreeChange.TheVariants.{PortCost}
-use Rattle.mst_net.specs.Contents.{port_cost_of}
+use Rattle.mst_net.specs.tables.Contents.{port_cost_of}
 use Rattle.mst_edits.specs.Edits.{port_cost_edits}
 use Rattle.mst_edits.proofs.Listing.{one_given, all_given}
 use Rattle.mst_edits.proofs.Quiet.{listed_are, same_cost}

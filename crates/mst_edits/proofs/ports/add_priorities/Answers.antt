@@ -2,7 +2,7 @@ use Rattle.std.proofs.Common.{ℕ, Bool, ◌||◌, not, ap, ◌∙◌, ◌++◌}
 use Rattle.std.specs.Prelude.{◌==◌}
 use Rattle.mst_lang.specs.declared.line.Edit.TheVariants.{SetByTree}
 use Rattle.mst_lang.specs.declared.line.TreeChange.TheVariants.{PortPriority}
-use Rattle.mst_net.specs.Contents.{port_priority_of}
+use Rattle.mst_net.specs.tables.Contents.{port_priority_of}
 use Rattle.mst_edits.specs.Edits.{port_priority_edits}
 use Rattle.mst_edits.proofs.Listing.{one_given, all_given}
 use Rattle.mst_edits.proofs.Quiet.{listed_are, same_priority}

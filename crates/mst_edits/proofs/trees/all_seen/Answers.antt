@@ -1,6 +1,6 @@
 use Rattle.std.proofs.Common.{◌||◌}
-use Rattle.mst_net.specs.Table.{has_tree}
-use Rattle.mst_net.specs.TreesSet.{trees_where}
+use Rattle.mst_net.specs.tables.Table.{has_tree}
+use Rattle.mst_net.specs.tables.TreesSet.{trees_where}
 use Rattle.mst_edits.proofs.trees.all_seen.Goals as goal
 
 pub returns : goal.returns

@@ -4,7 +4,7 @@ use Rattle.std.specs.List.{list_any}
 use Rattle.std.proofs.lemmas.Bool.{eqb-true}
 use Rattle.std.proofs.lemmas.List.{nil_from_length}
 use Rattle.std.proofs.lemmas.Result.{IfOk-weaker}
-use Rattle.mst_net.specs.Table.{has_tree}
+use Rattle.mst_net.specs.tables.Table.{has_tree}
 use Rattle.mst_edits.proofs.Filtered.{among, same_trees, no_trees_either}
 use Rattle.mst_edits.proofs.trees.either.Goals as goal
 

@@ -1,5 +1,5 @@
 use Rattle.std.proofs.Common.{arith}
-use Rattle.mst_net.proofs.TableLemmas.{all_mapped}
+use Rattle.mst_net.proofs.tables_lemmas.TableLemmas.{all_mapped}
 use Rattle.mst_edits.proofs.trees.map_vids.Goals as goal
 
 pub returns : goal.returns

@@ -1,4 +1,4 @@
-use Rattle.mst_net.proofs.TableLemmas.{MapsBelow}
+use Rattle.mst_net.proofs.tables_lemmas.TableLemmas.{MapsBelow}
 use Rattle.mst_edits.proofs.trees.map_vids.Given as goal
 
 -- the VIDs up to the next are mapped

@@ -1,5 +1,5 @@
 use Rattle.std.proofs.Common.{◌∙◌}
-use Rattle.mst_net.specs.Table.{has_tree, mstis_in}
+use Rattle.mst_net.specs.tables.Table.{has_tree, mstis_in}
 use Rattle.mst_edits.proofs.Filtered.{or_false}
 use Rattle.mst_edits.proofs.trees.mstis.Goals as goal
 

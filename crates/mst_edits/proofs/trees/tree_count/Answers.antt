@@ -1,6 +1,6 @@
 use Rattle.std.proofs.Common.{◌∙◌}
-use Rattle.mst_net.specs.Table.{has_tree}
-use Rattle.mst_net.proofs.TableLemmas.{flags_counted}
+use Rattle.mst_net.specs.tables.Table.{has_tree}
+use Rattle.mst_net.proofs.tables_lemmas.TableLemmas.{flags_counted}
 use Rattle.mst_edits.proofs.Filtered.{or_false}
 use Rattle.mst_edits.proofs.trees.tree_count.Goals as goal
 

@@ -1,5 +1,5 @@
 use Rattle.std.proofs.Common.{◌≡◌, ℕ, ◌++◌, ◌∷◌, [], Bool, true, false, not, sym, ap, ◌∙◌, append-nil}
-use Rattle.mst_net.specs.Table.{has_tree}
+use Rattle.mst_net.specs.tables.Table.{has_tree}
 use Rattle.mst_edits.proofs.Filtered.{or_false, one_kept}
 use Rattle.mst_edits.proofs.trees.unwanted.Goals as goal
 use Rattle.mst_edits.proofs.trees.unwanted.Goals.{then-not-has+in_ok-push, else-not-has}

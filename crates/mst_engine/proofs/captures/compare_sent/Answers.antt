@@ -1,5 +1,5 @@
 use Rattle.std.proofs.Common.{◌≡◌, false, sym, ap, subst, ◌∙◌}
-use Rattle.mst_net.specs.Tables.{Net}
+use Rattle.mst_net.specs.tables.Tables.{Net}
 use Rattle.mst_compare.specs.Comparison.{AreDifferences}
 use Rattle.mst_report.specs.Planned.{planned_state}
 use Rattle.mst_engine.specs.Captures.{compared}

@@ -1,6 +1,6 @@
 use Rattle.std.proofs.Common.{◌≡◌, ℕ, List, subst, sym}
 use Rattle.std.specs.List.Sorted.{IsNonDecreasingBy}
-use Rattle.mst_net.specs.Seen.{bridge_row}
+use Rattle.mst_tables.specs.Seen.{bridge_row}
 use Rattle.mst_lag.proofs.Rising.{mstis_rise}
 use Rattle.mst_lag.proofs.trees.trees_in_view.Goals as goal
 

@@ -1,4 +1,4 @@
-use Rattle.mst_net.proofs.AfterLemmas.{no_network, after_is_network}
+use Rattle.mst_tables.proofs.AfterLemmas.{no_network, after_is_network}
 use Rattle.mst_net.proofs.laws.networks.Goals as goal
 
 pub returns-clause-empty : goal.returns-clause-empty

@@ -3,7 +3,7 @@ use Rattle.std.specs.Prelude.{◌&&◌}
 use Rattle.std.specs.Option.{option_map_or}
 use Rattle.mst_ids.specs.Vids.{has}
 use Rattle.mst_lag.specs.Viewed.{named_port}
-use Rattle.mst_net.specs.ByTree.{vlans_in}
+use Rattle.mst_tables.specs.ByTree.{vlans_in}
 use Rattle.mst_trees.specs.Roles.{forwards, role_in, tree_of_vid}
 use Rattle.mst_trees.specs.SeenRoles.{seen_tree}
 use Rattle.mst_trees.specs.Settled.{outcome_of}

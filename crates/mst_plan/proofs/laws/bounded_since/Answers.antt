@@ -3,7 +3,7 @@ use Rattle.mst_vector.specs.Cist.{cist_rules}
 use Rattle.mst_vector.specs.Msti.{msti_rules}
 use Rattle.mst_vector.specs.declared.cist.CistVector.{CistVector}
 use Rattle.mst_vector.specs.declared.msti.MstiVector.{MstiVector}
-use Rattle.mst_net.specs.Contents.{Contents}
+use Rattle.mst_net.specs.tables.Contents.{Contents}
 use Rattle.mst_trees.specs.Cist.{cist_sight}
 use Rattle.mst_trees.specs.Msti.{msti_sight}
 use Rattle.mst_trees.specs.Outcome.{Outcome}

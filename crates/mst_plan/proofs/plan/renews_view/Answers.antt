@@ -1,6 +1,6 @@
 use Rattle.std.proofs.Common.{sym, subst, ◌∙◌}
 use Rattle.mst_lang.specs.declared.line.Edit.{Edit}
-use Rattle.mst_net.specs.Contents.{Commits}
+use Rattle.mst_net.specs.tables.Contents.{Commits}
 use Rattle.mst_plan.proofs.plan.renews_view.Goals as goal
 
 pub renew_lan-requires : goal.renew_lan-requires

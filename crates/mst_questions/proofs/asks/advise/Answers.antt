@@ -1,5 +1,5 @@
 use Rattle.std.proofs.Common.{◌≡◌, None, ap, refl, sym, ◌∙◌}
-use Rattle.mst_net.specs.Contents.{Contents}
+use Rattle.mst_net.specs.tables.Contents.{Contents}
 use Rattle.mst_questions.specs.Ask.{unadvised_early}
 use Rattle.mst_questions.proofs.EarlyRefusals.{unadvised_so, whatever}
 use Rattle.mst_questions.proofs.WholeAsk.{unadvised_told}

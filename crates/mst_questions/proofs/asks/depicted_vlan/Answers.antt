@@ -1,6 +1,6 @@
 use Rattle.std.proofs.Common.{subst}
 use Rattle.std.specs.Prelude.{IfOk}
-use Rattle.mst_net.specs.Contents.{Contents}
+use Rattle.mst_net.specs.tables.Contents.{Contents}
 use Rattle.mst_words.specs.Picturing.{DepictsVlan}
 use Rattle.mst_questions.proofs.asks.depicted_vlan.Goals as goal
 

@@ -1,5 +1,5 @@
 use Rattle.std.proofs.Common.{◌≡◌, None, ap, refl, sym, ◌∙◌}
-use Rattle.mst_net.specs.Contents.{Contents}
+use Rattle.mst_net.specs.tables.Contents.{Contents}
 use Rattle.mst_questions.specs.Ask.{unexplained_early}
 use Rattle.mst_questions.proofs.EarlyRefusals.{unexplained_so, whatever}
 use Rattle.mst_questions.proofs.WholeAsk.{unexplained_told}

@@ -1,5 +1,5 @@
 use Rattle.std.proofs.Common.{[], None, ap, sym, ◌∙◌}
-use Rattle.mst_net.specs.Contents.{Contents}
+use Rattle.mst_net.specs.tables.Contents.{Contents}
 use Rattle.mst_print.proofs.Shown.{grew_none}
 use Rattle.mst_questions.specs.Shown.{explain_row}
 use Rattle.mst_questions.proofs.WholeAsk.{explained_shown, unexplained_told}

@@ -1,5 +1,5 @@
 use Rattle.std.proofs.Common.{[], None, ap}
-use Rattle.mst_net.specs.Contents.{Contents}
+use Rattle.mst_net.specs.tables.Contents.{Contents}
 use Rattle.mst_print.proofs.Shown.{grew_none}
 use Rattle.mst_questions.specs.Shown.{sweep_row}
 use Rattle.mst_questions.proofs.WholeAsk.{swept_shown}

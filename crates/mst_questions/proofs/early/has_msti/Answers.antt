@@ -1,7 +1,7 @@
 use Rattle.std.proofs.Common.{◌∙◌, ap, sym}
-use Rattle.mst_net.specs.After.{is_rstp}
-use Rattle.mst_net.specs.Seen.{bridge_row}
-use Rattle.mst_net.specs.Table.{has_tree}
+use Rattle.mst_net.specs.tables.After.{is_rstp}
+use Rattle.mst_net.specs.tables.Seen.{bridge_row}
+use Rattle.mst_net.specs.tables.Table.{has_tree}
 use Rattle.mst_questions.proofs.EarlyRefusals.{mstp_has}
 use Rattle.mst_questions.proofs.early.has_msti.Goals as goal
 

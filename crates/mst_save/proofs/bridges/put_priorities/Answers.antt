@@ -2,10 +2,10 @@ use Rattle.std.proofs.Common.{◌++◌, ◌∙◌, subst}
 use Rattle.std.specs.List.{flat_map}
 use Rattle.mst_lang.specs.declared.line.Edit.TheVariants.{SetByTree}
 use Rattle.mst_lang.specs.declared.line.TreeChange.TheVariants.{Priority}
-use Rattle.mst_net.specs.Contents.{priority_of}
+use Rattle.mst_net.specs.tables.Contents.{priority_of}
 use Rattle.mst_rows.proofs.Loops.{rows_all, rows_more}
 use Rattle.mst_save.specs.SaveRows.{edit_rows}
-use Rattle.mst_net.specs.TreesSet.{priority_trees}
+use Rattle.mst_net.specs.tables.TreesSet.{priority_trees}
 use Rattle.mst_save.proofs.RowsInTurn.{rows_mapped}
 use Rattle.mst_save.proofs.bridges.put_priorities.Goals as goal
 

@@ -1,7 +1,7 @@
 use Rattle.std.proofs.Common.{subst}
 use Rattle.std.proofs.lemmas.Result.{on_ok_weaker}
 use Rattle.mst_lang.specs.declared.line.Edit.TheVariants.{AddBridge}
-use Rattle.mst_net.specs.Seen.{bridge_row}
+use Rattle.mst_net.specs.tables.Seen.{bridge_row}
 use Rattle.mst_save.specs.Saved.{bridge_set}
 use Rattle.mst_save.proofs.RowsInTurn.{set_behind}
 use Rattle.mst_save.proofs.bridges.put_settings.Goals as goal

@@ -1,7 +1,7 @@
 use Rattle.std.proofs.Common.{subst}
 use Rattle.std.proofs.lemmas.Result.{on_ok_weaker}
 use Rattle.mst_lang.specs.declared.line.Edit.TheVariants.{AddLan}
-use Rattle.mst_net.specs.Seen.{lan_row}
+use Rattle.mst_net.specs.tables.Seen.{lan_row}
 use Rattle.mst_save.specs.Saved.{lan_set}
 use Rattle.mst_save.proofs.RowsInTurn.{set_behind}
 use Rattle.mst_save.proofs.lans.put_settings.Goals as goal

@@ -2,8 +2,8 @@ use Rattle.std.proofs.Common.{◌++◌, ◌∙◌, List, sym, ap, subst}
 use Rattle.std.proofs.lemmas.Result.{on_ok_weaker}
 use Rattle.std.specs.List.{flat_map}
 use Rattle.mst_rows.specs.Rows.{Row}
-use Rattle.mst_net.specs.Table.{mstis_in}
-use Rattle.mst_net.specs.After.{table_of}
+use Rattle.mst_net.specs.tables.Table.{mstis_in}
+use Rattle.mst_net.specs.tables.After.{table_of}
 use Rattle.mst_save.specs.Saved.{tree_maps}
 use Rattle.mst_save.specs.SaveRows.{edits_rows}
 use Rattle.mst_save.proofs.RowsInTurn.{rows_flat}

@@ -2,7 +2,7 @@ use Rattle.std.proofs.Common.{List, ◌++◌, take}
 use Rattle.std.specs.List.{flat_map}
 use Rattle.mst_lang.specs.declared.line.Edit.TheVariants.{SetByTree}
 use Rattle.mst_lang.specs.declared.line.TreeChange.TheVariants.{PortPriority}
-use Rattle.mst_net.specs.Contents.{port_priority_of}
+use Rattle.mst_net.specs.tables.Contents.{port_priority_of}
 use Rattle.mst_rows.specs.Rows.{Row}
 use Rattle.mst_save.specs.SaveRows.{edit_rows}
 use Rattle.mst_save.specs.contracts.ports.put_priorities.{R-type}

@@ -1,8 +1,8 @@
 use Rattle.std.proofs.Common.{subst}
 use Rattle.std.proofs.lemmas.Result.{on_ok_weaker}
 use Rattle.mst_lang.specs.declared.line.Edit.TheVariants.{AddPort}
-use Rattle.mst_net.specs.After.{vlans_of}
-use Rattle.mst_net.specs.Seen.{port_row}
+use Rattle.mst_net.specs.tables.After.{vlans_of}
+use Rattle.mst_net.specs.tables.Seen.{port_row}
 use Rattle.mst_save.specs.Saved.{port_set}
 use Rattle.mst_save.proofs.RowsInTurn.{set_behind, vlans_rows}
 use Rattle.mst_save.proofs.ports.put_settings.Goals as goal

@@ -1,5 +1,5 @@
 use Rattle.std.proofs.Common.{◌==◌, ◌≤◌, sym, ap, subst, ◌∙◌}
-use Rattle.mst_net.specs.Table.{tree_in}
+use Rattle.mst_net.specs.tables.Table.{tree_in}
 use Rattle.mst_save.proofs.Cuts.{mapped_is, no_vid}
 use Rattle.mst_save.proofs.runs.is_mapped.Goals as goal
 

@@ -1,6 +1,6 @@
 use Rattle.std.proofs.Common.{List, Bool, ◌++◌, ◌∷◌, [], ap, subst, ◌∙◌}
 use Rattle.std.specs.Prelude.{OnOk}
-use Rattle.mst_net.specs.ByTree.{ByTree, table_in}
+use Rattle.mst_tables.specs.ByTree.{ByTree, table_in}
 use Rattle.mst_slips.specs.Tables.{table_row, vids_apart}
 use Rattle.mst_slips.proofs.tables.put_odd.Goals as goal
 

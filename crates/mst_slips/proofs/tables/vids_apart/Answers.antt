@@ -1,6 +1,6 @@
 use Rattle.std.proofs.Common.{ℕ, Bool, ◌==◌, ◌||◌, not, sym, ap, ◌∙◌, arith}
 use Rattle.mst_ids.specs.Vids.{set_where, has, is_within}
-use Rattle.mst_net.specs.Table.{tree_in}
+use Rattle.mst_tables.specs.Table.{tree_in}
 use Rattle.mst_slips.proofs.VidsThat.{one_in, one_out}
 use Rattle.mst_slips.proofs.tables.vids_apart.Goals as goal
 use Rattle.mst_slips.proofs.tables.vids_apart.Goals.{then-is_apart, else-is_apart}

@@ -1,6 +1,6 @@
 use Rattle.std.proofs.Common.{◌≡◌, ◌==◌, not}
 use Rattle.mst_ids.specs.Vids.{set_where}
-use Rattle.mst_net.specs.Table.{tree_in}
+use Rattle.mst_tables.specs.Table.{tree_in}
 use Rattle.mst_slips.proofs.VidsThat.{below}
 use Rattle.mst_slips.proofs.tables.vids_apart.Given as goal
 

@@ -1,5 +1,5 @@
 use Rattle.std.proofs.Common.{ap, subst, ◌∙◌}
-use Rattle.mst_net.specs.Tables.{Net, Numbers}
+use Rattle.mst_tables.specs.Tables.{Net, Numbers}
 use Rattle.mst_trees.specs.Agrees.{AreOf}
 use Rattle.mst_trees.specs.Forest.{IsForest}
 use Rattle.mst_trees.specs.Settled.{outcome_of}

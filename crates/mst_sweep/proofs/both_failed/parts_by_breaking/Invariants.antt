@@ -1,5 +1,5 @@
 use Rattle.std.proofs.Common.{◌≡◌, ◌<◌, ◌∷◌, [], ℕ, get_or, length, map}
-use Rattle.mst_net.specs.Tables.{Net}
+use Rattle.mst_net.specs.tables.Tables.{Net}
 use Rattle.mst_sweep.specs.Between.{OfPair, pair_of}
 use Rattle.mst_sweep.specs.CutClasses.{IsPartsOfClass}
 use Rattle.mst_sweep.specs.Cuts.{names_of}

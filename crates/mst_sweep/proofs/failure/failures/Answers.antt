@@ -1,5 +1,5 @@
 use Rattle.std.proofs.Common.{◌++◌, List, map, filter, ap, ◌∙◌}
-use Rattle.mst_net.specs.Seen.{bridge_row}
+use Rattle.mst_net.specs.tables.Seen.{bridge_row}
 use Rattle.mst_lag.specs.declared.in_view.BridgeInView.{BridgeInView}
 use Rattle.mst_lag.specs.declared.in_view.MemberLan.{MemberLan}
 use Rattle.mst_sweep.specs.declared.failure.Failure.{Failure}

@@ -1,6 +1,6 @@
 use Rattle.std.proofs.Common.{ap, sym, ◌∙◌}
 use Rattle.std.specs.Map.{lookup}
-use Rattle.mst_net.specs.Tables.{port_eq}
+use Rattle.mst_net.specs.tables.Tables.{port_eq}
 use Rattle.mst_sweeping.proofs.PortsByName.{put, kept}
 use Rattle.mst_sweeping.proofs.ports.by_name.Goals as goal
 use Rattle.mst_sweeping.proofs.ports.by_name.Goals.{then-not-contains_key+in_ok-insert, else-not-contains_key}

@@ -1,5 +1,5 @@
 use Rattle.std.proofs.Common.{subst}
-use Rattle.mst_net.specs.Seen.{bridge_row}
+use Rattle.mst_tables.specs.Seen.{bridge_row}
 use Rattle.mst_text.proofs.Shown.{shown}
 use Rattle.mst_text.proofs.configuration.put_configuration.Goals as goal
 

@@ -1,6 +1,6 @@
 use Rattle.std.proofs.Common.{◌==◌, ◌||◌, sym, ap, ◌∙◌, arith}
 use Rattle.mst_ids.specs.Vids.{set_where, has, is_within}
-use Rattle.mst_net.specs.Table.{tree_in}
+use Rattle.mst_tables.specs.Table.{tree_in}
 use Rattle.mst_text.proofs.VidsOf.{one_taken, one_passed}
 use Rattle.mst_text.proofs.configuration.vids_of.Goals as goal
 use Rattle.mst_text.proofs.configuration.vids_of.Goals.{then-eq, else-eq}

@@ -1,6 +1,6 @@
 use Rattle.std.proofs.Common.{◌≡◌, ℕ, ◌||◌, sym, ap, subst, ◌∙◌}
 use Rattle.std.proofs.lemmas.Result.{on_ok_weaker}
-use Rattle.mst_net.specs.ByTree.{AreInTrees}
+use Rattle.mst_net.specs.tables.ByTree.{AreInTrees}
 use Rattle.mst_lag.specs.Trees.{is_among}
 use Rattle.mst_trees.specs.Own.{is_set}
 use Rattle.mst_trees.proofs.OwnSettings.{set_among, noted_in_both}

@@ -1,6 +1,6 @@
 use Rattle.std.proofs.Common.{◌≡◌, None, false, take}
 use Rattle.std.specs.List.{AllByRecursion}
-use Rattle.mst_net.specs.Tables.{Net}
+use Rattle.mst_net.specs.tables.Tables.{Net}
 use Rattle.mst_verdict.specs.Verifying.{AreLacking, expected_in}
 use Rattle.mst_verdict.proofs.judging.asked_vids.Given as goal
 

@@ -1,7 +1,7 @@
 use Rattle.std.proofs.Common.{◌≡◌, ◌+◌, ◌∷◌, [], ◌++◌, List, Ok, None, Some, map, take, sym, ap, subst, ◌∙◌}
 use Rattle.std.specs.List.{AllByRecursion}
 use Rattle.std.proofs.lemmas.List.{map-append, take_all, take_more}
-use Rattle.mst_net.specs.After.{after}
+use Rattle.mst_net.specs.tables.After.{after}
 use Rattle.mst_sweep.specs.Failures.{edit_of}
 use Rattle.mst_sweep.specs.Pairs.{failed}
 use Rattle.mst_sweep.specs.declared.failure.Failure.{Failure}

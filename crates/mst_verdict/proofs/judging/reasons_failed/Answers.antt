@@ -3,8 +3,8 @@ use Rattle.std.specs.List.{AllZip}
 use Rattle.std.proofs.lemmas.Result.{IfOk-weaker}
 use Rattle.mst_vlan.specs.Carried.{ViewWithTrees}
 use Rattle.mst_classes.specs.Classes.{AreClasses}
-use Rattle.mst_net.specs.After.{after}
-use Rattle.mst_net.specs.Contents.{Tables}
+use Rattle.mst_net.specs.tables.After.{after}
+use Rattle.mst_net.specs.tables.Contents.{Tables}
 use Rattle.mst_sweep.specs.Failures.{edit_of}
 use Rattle.mst_sweep.specs.Pairs.{failed}
 use Rattle.mst_trees.specs.Agrees.{AreOf}

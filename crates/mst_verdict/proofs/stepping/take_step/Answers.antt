@@ -1,5 +1,5 @@
 use Rattle.std.proofs.Common.{◌++◌, ◌∙◌, List, ap, arith, refl, subst, sym}
-use Rattle.mst_net.specs.Tables.{Net}
+use Rattle.mst_net.specs.tables.Tables.{Net}
 use Rattle.mst_verdict.specs.Setting.{refused_lines}
 use Rattle.mst_verdict.specs.Stepping.{IsStepTold, StepTold, changes_in}
 use Rattle.mst_verdict.proofs.Made.{lines_few}

@@ -1,5 +1,5 @@
 use Rattle.std.proofs.Common.{◌≡◌, ◌+◌, List, [], arith, append-nil, refl, subst, sym, ap, take, ◌∙◌}
-use Rattle.mst_net.specs.Tables.{Net}
+use Rattle.mst_net.specs.tables.Tables.{Net}
 use Rattle.mst_rows.specs.Rows.{Row}
 use Rattle.mst_verdict.specs.Setting.{after_steps}
 use Rattle.mst_verdict.specs.Stepping.{AreRowsIn, IsFew}

@@ -2,7 +2,7 @@ use Rattle.std.proofs.Common.{◌≡◌, ◌&&◌, take}
 use Rattle.std.specs.List.{list_any}
 use Rattle.std.specs.HashSet.{contains}
 use Rattle.mst_ids.specs.declared.name.PortName.{PortName}
-use Rattle.mst_net.specs.Tables.{port_eq}
+use Rattle.mst_net.specs.tables.Tables.{port_eq}
 use Rattle.mst_verify.proofs.before.enabled_ports.Given as goal
 
 -- the enabled ones of those so far

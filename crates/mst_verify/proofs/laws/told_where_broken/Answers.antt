@@ -2,7 +2,7 @@ use Rattle.std.proofs.Common.{◌≡◌, ◌↔◌, [], List}
 use Rattle.mst_policy.specs.declared.expectation.Expectation.{Expectation}
 use Rattle.mst_policy.specs.declared.expectation.Expectation.TheVariants as expect
 use Rattle.mst_rows.specs.Rows.{Row}
-use Rattle.mst_net.specs.Tables.{Net, IsNetwork}
+use Rattle.mst_net.specs.tables.Tables.{Net, IsNetwork}
 use Rattle.mst_nested.specs.Trees.{IsSettled}
 use Rattle.mst_trees.specs.Outcome.{Outcome, IsOutcome, trees_of}
 use Rattle.mst_note_text.specs.NotesText.{AreNoteRows}

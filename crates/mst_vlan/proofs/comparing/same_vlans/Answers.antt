@@ -2,7 +2,7 @@ use Rattle.std.proofs.Common.{◌≡◌, ◌<◌, ℕ, Bool, true, false, List, 
 use Rattle.std.specs.Bool.{beq}
 use Rattle.std.proofs.lemmas.Grind.{common_steps}
 use Rattle.std.proofs.lemmas.List.{length-map}
-use Rattle.mst_net.specs.ByTree.{vlans_in}
+use Rattle.mst_tables.specs.ByTree.{vlans_in}
 use Rattle.mst_vlan.specs.Kept.{seen_vlans}
 use Rattle.mst_vlan.proofs.Lists.{equal_flags, equal_lists, one_more_flag, value_at}
 use Rattle.mst_vlan.proofs.comparing.same_vlans.Goals as goal

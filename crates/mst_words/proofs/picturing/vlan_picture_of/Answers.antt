@@ -1,5 +1,5 @@
 use Rattle.std.proofs.Common.{ℕ, List, ap, subst, sym, ◌∙◌, ◌++◌}
-use Rattle.mst_net.specs.Tables.{Net}
+use Rattle.mst_tables.specs.Tables.{Net}
 use Rattle.mst_trees.specs.Settled.{outcome_of}
 use Rattle.mst_picture.specs.VlanPicture.{IsVlanPicture}
 use Rattle.mst_words.specs.Picturing.{DepictsVlan}

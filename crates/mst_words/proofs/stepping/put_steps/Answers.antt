@@ -4,8 +4,8 @@ use Rattle.std.specs.List.{flat_map}
 use Rattle.std.specs.Option.{option_map}
 use Rattle.mst_change.specs.Reading.{LineRead}
 use Rattle.mst_lang.specs.declared.line.Fault.{Fault}
-use Rattle.mst_net.specs.Contents.{Contents}
-use Rattle.mst_net.specs.Tables.{Net}
+use Rattle.mst_tables.specs.Contents.{Contents}
+use Rattle.mst_tables.specs.Tables.{Net}
 use Rattle.mst_policy.specs.declared.expectation.Promise.{Promise}
 use Rattle.mst_policy.specs.declared.policy.PolicyLine.{PolicyLine}
 use Rattle.mst_rows.specs.Rows.{Row}

@@ -1,6 +1,6 @@
 use Rattle.std.proofs.Common.{◌+◌, ◌≤◌, length, List, subst}
 use Rattle.std.proofs.lemmas.Result.{IfOk-weaker}
-use Rattle.mst_net.specs.Contents.{Contents}
+use Rattle.mst_tables.specs.Contents.{Contents}
 use Rattle.mst_policy.specs.declared.policy.PolicyLine.{PolicyLine}
 use Rattle.mst_verdict.specs.Verifying.{Verifies}
 use Rattle.mst_verdict.specs.Judged.{counts_of}

@@ -1,5 +1,5 @@
 use Rattle.std.proofs.Common.{◌∙◌, ◌-◌, ap, arith, inl, inr, refl}
-use Rattle.mst_net.specs.Contents.{Contents}
+use Rattle.mst_net.specs.tables.Contents.{Contents}
 use Rattle.mst_ask.proofs.Changes.{undo_kept, undo_may, undo_none, undo_stands}
 use Rattle.mst_ask.proofs.standing.Standing.undo.Goals as goal
 

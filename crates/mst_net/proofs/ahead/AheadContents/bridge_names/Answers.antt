@@ -3,10 +3,10 @@ use Rattle.std.proofs.lemmas.Result.{IfOk-weaker}
 use Rattle.std.specs.FinMap as fin
 use Rattle.std.specs.List.{filter}
 use Rattle.std.specs.List.Sorted.{IsPermutation}
-use Rattle.mst_net.specs.After.{effect, refusal_of, new_bridge}
-use Rattle.mst_net.proofs.AfterLemmas.{bridge_addable}
-use Rattle.mst_net.proofs.Keys.{name_eq, names}
-use Rattle.mst_net.proofs.NamesInOrder.{name_joins, name_leaves}
+use Rattle.mst_tables.specs.After.{effect, refusal_of, new_bridge}
+use Rattle.mst_tables.proofs.AfterLemmas.{bridge_addable}
+use Rattle.mst_tables.proofs.Keys.{name_eq, names}
+use Rattle.mst_tables.proofs.NamesInOrder.{name_joins, name_leaves}
 use Rattle.mst_net.proofs.NamesAfter.{bridge_names_stay}
 use Rattle.mst_net.proofs.ahead.AheadContents.bridge_names.Goals as goal
 

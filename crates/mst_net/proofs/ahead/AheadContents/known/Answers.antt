@@ -1,7 +1,7 @@
 use Rattle.std.proofs.Common.{Some, ap, sym, subst, ◌∙◌}
-use Rattle.mst_net.specs.Tables.{IsNetwork}
-use Rattle.mst_net.specs.Contents.{IsNumbered}
-use Rattle.mst_net.proofs.AfterLemmas.{effect_is_network}
+use Rattle.mst_tables.specs.Tables.{IsNetwork}
+use Rattle.mst_tables.specs.Contents.{IsNumbered}
+use Rattle.mst_tables.proofs.AfterLemmas.{effect_is_network}
 use Rattle.mst_net.proofs.NumbersAfter.{numbered_after}
 use Rattle.mst_net.proofs.ahead.AheadContents.known.Goals as goal
 

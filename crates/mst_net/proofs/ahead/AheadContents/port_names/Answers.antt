@@ -3,13 +3,13 @@ use Rattle.std.proofs.lemmas.Result.{IfOk-weaker}
 use Rattle.std.specs.FinMap as fin
 use Rattle.std.specs.List.{filter}
 use Rattle.std.specs.List.Sorted.{IsPermutation}
-use Rattle.mst_net.specs.After.{effect, refusal_of, new_port}
-use Rattle.mst_net.proofs.AfterLemmas.{port_addable}
-use Rattle.mst_net.proofs.Keys.{ports}
-use Rattle.mst_net.proofs.NamesInOrder.{name_joins, name_leaves}
+use Rattle.mst_tables.specs.After.{effect, refusal_of, new_port}
+use Rattle.mst_tables.proofs.AfterLemmas.{port_addable}
+use Rattle.mst_tables.proofs.Keys.{ports}
+use Rattle.mst_tables.proofs.NamesInOrder.{name_joins, name_leaves}
 use Rattle.mst_net.proofs.NamesAfter.{port_names_stay}
 use Rattle.mst_net.proofs.ahead.AheadContents.port_names.Goals as goal
-use Rattle.mst_net.specs.Tables.{port_eq}
+use Rattle.mst_tables.specs.Tables.{port_eq}
 
 pub returns-in-AddPort : goal.returns-in-AddPort
 returns-in-AddPort c =

@@ -1,7 +1,7 @@
 use Rattle.std.proofs.Common.{ap, sym, subst, ◌∙◌}
-use Rattle.mst_net.specs.ByTree.{AreInTrees, by_tree}
-use Rattle.mst_net.specs.SettingsAfter.{set_after}
-use Rattle.mst_net.proofs.SettingsLemmas.{network_in_trees, set_in_network}
+use Rattle.mst_tables.specs.ByTree.{AreInTrees, by_tree}
+use Rattle.mst_tables.specs.SettingsAfter.{set_after}
+use Rattle.mst_tables.proofs.SettingsLemmas.{network_in_trees, set_in_network}
 use Rattle.mst_net.proofs.ahead.AheadContents.settings.Goals as goal
 
 pub make-requires-clause-trees : goal.make-requires-clause-trees

@@ -1,5 +1,5 @@
 use Rattle.std.proofs.Common.{ap, sym, ◌∙◌}
-use Rattle.mst_net.specs.After.{table_of}
+use Rattle.mst_tables.specs.After.{table_of}
 use Rattle.mst_net.specs.Foreseen.{table_after}
 use Rattle.mst_net.proofs.ForeseenLemmas.{foreseen_table}
 use Rattle.mst_net.proofs.ahead.AheadContents.table.Goals as goal

@@ -2,12 +2,12 @@ use Rattle.std.proofs.Common.{◌≡◌, ◌∙◌, ℕ, List, Some, cond, ap, s
 use Rattle.std.proofs.lemmas.Result.{IfOk-at_ok}
 use Rattle.std.specs.Map.{lookup}
 use Rattle.mst_lang.specs.declared.line.Edit.TheVariants.{AddBridge}
-use Rattle.mst_net.specs.After.{new_bridge}
-use Rattle.mst_net.specs.Contents.{Contents, CanCommit, Makes}
+use Rattle.mst_tables.specs.After.{new_bridge}
+use Rattle.mst_tables.specs.Contents.{Contents, CanCommit, Makes}
 use Rattle.mst_net.specs.NetworkKept.{contents_of}
 use Rattle.mst_net.specs.declared.network.Network.TheInside.{Inside}
-use Rattle.mst_net.specs.Tables.{BridgeRow}
-use Rattle.mst_net.proofs.Keys.{name_eq}
+use Rattle.mst_tables.specs.Tables.{BridgeRow}
+use Rattle.mst_tables.proofs.Keys.{name_eq}
 use Rattle.mst_net.proofs.EditLemmas.{absent_bridge, bridge_made, bridge_sound}
 use Rattle.mst_net.proofs.network.Network.add_bridge.Goals as goal
 

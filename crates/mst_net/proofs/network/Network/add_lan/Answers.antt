@@ -1,12 +1,12 @@
 use Rattle.std.proofs.Common.{◌≡◌, ◌∙◌, ℕ, List, Some, cond, ap, sym, subst, refl}
 use Rattle.std.specs.Map.{lookup}
 use Rattle.mst_lang.specs.declared.line.Edit.TheVariants.{AddLan}
-use Rattle.mst_net.specs.After.{new_lan}
-use Rattle.mst_net.specs.Contents.{Contents, CanCommit, Makes}
+use Rattle.mst_tables.specs.After.{new_lan}
+use Rattle.mst_tables.specs.Contents.{Contents, CanCommit, Makes}
 use Rattle.mst_net.specs.NetworkKept.{contents_of}
 use Rattle.mst_net.specs.declared.network.Network.TheInside.{Inside}
-use Rattle.mst_net.specs.Tables.{LanRow}
-use Rattle.mst_net.proofs.Keys.{name_eq}
+use Rattle.mst_tables.specs.Tables.{LanRow}
+use Rattle.mst_tables.proofs.Keys.{name_eq}
 use Rattle.mst_net.proofs.EditLemmas.{absent_lan, lan_made, lan_sound}
 use Rattle.mst_net.proofs.network.Network.add_lan.Goals as goal
 

@@ -2,11 +2,11 @@ use Rattle.std.proofs.Common.{◌≡◌, ◌∙◌, Some, cond, ap, sym, subst, 
 use Rattle.std.specs.Map.{lookup}
 use Rattle.mst_ids.specs.declared.name.PortName.{PortName}
 use Rattle.mst_lang.specs.declared.line.Edit.TheVariants.{AddPort}
-use Rattle.mst_net.specs.After.{new_port}
-use Rattle.mst_net.specs.Contents.{Contents, CanCommit, Makes}
+use Rattle.mst_tables.specs.After.{new_port}
+use Rattle.mst_tables.specs.Contents.{Contents, CanCommit, Makes}
 use Rattle.mst_net.specs.NetworkKept.{contents_of}
 use Rattle.mst_net.specs.declared.network.Network.TheInside.{Inside}
-use Rattle.mst_net.specs.Tables.{PortRow, port_eq}
+use Rattle.mst_tables.specs.Tables.{PortRow, port_eq}
 use Rattle.mst_net.proofs.EditLemmas.{absent_port, port_made, port_sound, few_of_bridge}
 use Rattle.mst_net.proofs.network.Network.add_port.Goals as goal
 

@@ -1,12 +1,12 @@
 use Rattle.std.proofs.Common.{◌≡◌, ◌<◌, Bool, true, false, not, [], ◌∷◌, Ok, refl, sym, ap, subst, nat_lt, arith}
 use Rattle.std.specs.Prelude.{⊤, Result}
 use Rattle.std.proofs.lemmas.Bool.{le-ltb}
-use Rattle.mst_net.specs.After.{first_of, table_of}
+use Rattle.mst_tables.specs.After.{first_of, table_of}
 use Rattle.mst_net.specs.Checks.{answer_of}
-use Rattle.mst_net.specs.Table.{mapped, tree_count}
-use Rattle.mst_net.specs.declared.refusal.Refusal.{Refusal}
-use Rattle.mst_net.specs.declared.refusal.Refusal.TheVariants.{E04, E15}
-use Rattle.mst_net.proofs.TablesCounted.{one_more}
+use Rattle.mst_tables.specs.Table.{mapped, tree_count}
+use Rattle.mst_tables.specs.declared.refusal.Refusal.{Refusal}
+use Rattle.mst_tables.specs.declared.refusal.Refusal.TheVariants.{E04, E15}
+use Rattle.mst_tables.proofs.TablesCounted.{one_more}
 use Rattle.mst_net.proofs.network.Network.check_table.Goals as goal
 
 accepted : (there many : Bool) → Ok tt ≡ answer_of (first_of ((not there, E04) ∷ [])) → many ≡ false → Ok tt ≡ answer_of (first_of ((not there, E04) ∷ (many, E15) ∷ []))

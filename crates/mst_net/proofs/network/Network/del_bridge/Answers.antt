@@ -2,12 +2,12 @@ use Rattle.std.proofs.Common.{false, cond, nat_eq, ap, sym, subst, refl, ◌∙�
 use Rattle.std.specs.FinMap as fin
 use Rattle.std.specs.HashSet as set
 use Rattle.mst_lang.specs.declared.line.Edit.TheVariants.{DelBridge}
-use Rattle.mst_net.specs.Contents.{Contents, CanCommit, Makes}
+use Rattle.mst_tables.specs.Contents.{Contents, CanCommit, Makes}
 use Rattle.mst_net.specs.NetworkKept.{contents_of}
 use Rattle.mst_net.specs.declared.network.Network.TheInside.{Inside}
-use Rattle.mst_net.specs.Tables.{BridgeRow}
+use Rattle.mst_tables.specs.Tables.{BridgeRow}
 use Rattle.mst_net.proofs.EditLemmas.{present_bridge, bridge_unmade, bridge_left_sound}
-use Rattle.mst_net.proofs.SettingsLemmas.{network_in_trees}
+use Rattle.mst_tables.proofs.SettingsLemmas.{network_in_trees}
 use Rattle.mst_net.proofs.network.Network.del_bridge.Goals as goal
 
 pub remove-requires : goal.remove-requires

@@ -1,10 +1,10 @@
 use Rattle.std.proofs.Common.{sym, subst, refl}
 use Rattle.mst_lang.specs.declared.line.Edit.TheVariants.{DelPort}
-use Rattle.mst_net.specs.Contents.{Contents, CanCommit, Makes}
+use Rattle.mst_tables.specs.Contents.{Contents, CanCommit, Makes}
 use Rattle.mst_net.specs.NetworkKept.{contents_of}
 use Rattle.mst_net.specs.declared.network.Network.TheInside.{Inside}
 use Rattle.mst_net.proofs.EditLemmas.{present_port, port_counted_once, port_unmade, port_left_sound}
-use Rattle.mst_net.proofs.SettingsLemmas.{network_in_trees}
+use Rattle.mst_tables.proofs.SettingsLemmas.{network_in_trees}
 use Rattle.mst_net.proofs.network.Network.del_port.Goals as goal
 
 pub remove-requires : goal.remove-requires

@@ -1,7 +1,7 @@
 use Rattle.std.proofs.Common.{ap, sym, ◌∙◌}
 use Rattle.std.specs.FinMap as fin
-use Rattle.mst_net.proofs.Keyed.{contains_keyed}
-use Rattle.mst_net.proofs.Keys.{names}
+use Rattle.mst_tables.proofs.Keyed.{contains_keyed}
+use Rattle.mst_tables.proofs.Keys.{names}
 use Rattle.mst_net.proofs.network.Network.has_lan.Goals as goal
 
 pub returns : goal.returns

@@ -1,9 +1,9 @@
 use Rattle.std.proofs.Common.{ap, ◌∙◌}
 use Rattle.std.specs.Prelude.{nat_lt}
-use Rattle.mst_net.specs.After.{some_port, is_in_lan}
+use Rattle.mst_tables.specs.After.{some_port, is_in_lan}
 use Rattle.mst_net.specs.NetworkKept.{contents_of}
-use Rattle.mst_net.proofs.Counting.{any_counted}
-use Rattle.mst_net.proofs.Keys.{ports}
+use Rattle.mst_tables.proofs.Counting.{any_counted}
+use Rattle.mst_tables.proofs.Keys.{ports}
 use Rattle.mst_net.proofs.network.Network.has_plugs.Goals as goal
 
 pub returns : goal.returns

@@ -1,7 +1,7 @@
 use Rattle.std.proofs.Common.{ap, sym, ◌∙◌}
 use Rattle.std.specs.FinMap as fin
-use Rattle.mst_net.proofs.Keyed.{get_keyed}
-use Rattle.mst_net.proofs.Keys.{names}
+use Rattle.mst_tables.proofs.Keyed.{get_keyed}
+use Rattle.mst_tables.proofs.Keys.{names}
 use Rattle.mst_net.proofs.network.Network.next_bridge.Goals as goal
 
 pub returns-clause-fresh : goal.returns-clause-fresh

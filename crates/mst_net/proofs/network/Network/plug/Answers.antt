@@ -1,11 +1,11 @@
 use Rattle.std.proofs.Common.{is_some, ap, sym, subst, refl, ◌∙◌}
 use Rattle.std.specs.FinMap as fin
 use Rattle.mst_lang.specs.declared.line.Edit.TheVariants.{Plug}
-use Rattle.mst_net.specs.Contents.{Contents, CanCommit, Makes}
+use Rattle.mst_tables.specs.Contents.{Contents, CanCommit, Makes}
 use Rattle.mst_net.specs.NetworkKept.{contents_of}
 use Rattle.mst_net.specs.declared.network.Network.TheInside.{Inside}
-use Rattle.mst_net.proofs.Keyed.{get_keyed}
-use Rattle.mst_net.proofs.Keys.{ports}
+use Rattle.mst_tables.proofs.Keyed.{get_keyed}
+use Rattle.mst_tables.proofs.Keys.{ports}
 use Rattle.mst_net.proofs.EditLemmas.{few_in_lan, plugged_made, plugged_sound}
 use Rattle.mst_net.proofs.network.Network.plug.Goals as goal
 

@@ -1,7 +1,7 @@
 use Rattle.std.proofs.Common.{ap, sym, ◌∙◌}
 use Rattle.std.specs.FinMap as fin
-use Rattle.mst_net.proofs.Keyed.{get_keyed}
-use Rattle.mst_net.proofs.Keys.{ports}
+use Rattle.mst_tables.proofs.Keyed.{get_keyed}
+use Rattle.mst_tables.proofs.Keys.{ports}
 use Rattle.mst_net.proofs.network.Network.port_record.Goals as goal
 
 pub returns-clause-row : goal.returns-clause-row

@@ -2,12 +2,12 @@ use Rattle.std.proofs.Common.{Some, cond, is_some, ap, sym, subst, refl, ◌∙�
 use Rattle.std.specs.FinMap as fin
 use Rattle.std.specs.Map.{lookup}
 use Rattle.mst_lang.specs.declared.line.Edit.TheVariants.{SetBridge}
-use Rattle.mst_net.specs.Contents.{Contents, CanCommit, Makes}
+use Rattle.mst_tables.specs.Contents.{Contents, CanCommit, Makes}
 use Rattle.mst_net.specs.NetworkKept.{contents_of}
 use Rattle.mst_net.specs.declared.network.Network.TheInside.{Inside}
 use Rattle.mst_net.proofs.EditLemmas.{bridge_to_set, bridge_set_made, bridge_set_sound}
-use Rattle.mst_net.proofs.Keyed.{contains_keyed}
-use Rattle.mst_net.proofs.Keys.{name_eq, names}
+use Rattle.mst_tables.proofs.Keyed.{contains_keyed}
+use Rattle.mst_tables.proofs.Keys.{name_eq, names}
 use Rattle.mst_net.proofs.network.Network.set_bridge.Goals as goal
 
 pub unwrap-settings-requires : goal.unwrap-settings-requires

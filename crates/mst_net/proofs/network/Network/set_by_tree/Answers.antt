@@ -1,10 +1,10 @@
 use Rattle.std.proofs.Common.{sym, subst, refl}
 use Rattle.mst_lang.specs.declared.line.Edit.TheVariants.{SetByTree}
-use Rattle.mst_net.specs.Contents.{Contents, CanCommit, Makes}
+use Rattle.mst_tables.specs.Contents.{Contents, CanCommit, Makes}
 use Rattle.mst_net.specs.NetworkKept.{contents_of}
 use Rattle.mst_net.specs.declared.network.Network.TheInside.{Inside}
 use Rattle.mst_net.proofs.EditLemmas.{setting_made, setting_sound}
-use Rattle.mst_net.proofs.SettingsLemmas.{has_room}
+use Rattle.mst_tables.proofs.SettingsLemmas.{has_room}
 use Rattle.mst_net.proofs.network.Network.set_by_tree.Goals as goal
 
 pub set-requires : goal.set-requires

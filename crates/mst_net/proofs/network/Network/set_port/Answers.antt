@@ -1,14 +1,14 @@
 use Rattle.std.proofs.Common.{Some, cond, is_some, ap, sym, subst, refl, ◌∙◌}
 use Rattle.std.specs.FinMap as fin
 use Rattle.std.specs.Map.{lookup}
-use Rattle.mst_net.specs.Tables.{port_eq}
+use Rattle.mst_tables.specs.Tables.{port_eq}
 use Rattle.mst_lang.specs.declared.line.Edit.TheVariants.{SetPort}
-use Rattle.mst_net.specs.Contents.{Contents, CanCommit, Makes}
+use Rattle.mst_tables.specs.Contents.{Contents, CanCommit, Makes}
 use Rattle.mst_net.specs.NetworkKept.{contents_of}
 use Rattle.mst_net.specs.declared.network.Network.TheInside.{Inside}
 use Rattle.mst_net.proofs.EditLemmas.{port_to_set, port_set_made, port_set_sound}
-use Rattle.mst_net.proofs.Keyed.{contains_keyed}
-use Rattle.mst_net.proofs.Keys.{ports}
+use Rattle.mst_tables.proofs.Keyed.{contains_keyed}
+use Rattle.mst_tables.proofs.Keys.{ports}
 use Rattle.mst_net.proofs.network.Network.set_port.Goals as goal
 
 pub unwrap-settings-requires : goal.unwrap-settings-requires

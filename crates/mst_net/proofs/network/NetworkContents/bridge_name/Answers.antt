@@ -1,7 +1,7 @@
 use Rattle.std.proofs.Common.{Some, ap, sym, ◌∙◌}
 use Rattle.std.specs.FinMap as fin
-use Rattle.mst_net.proofs.Keyed.{get_keyed}
-use Rattle.mst_net.proofs.Keys.{names}
+use Rattle.mst_tables.proofs.Keyed.{get_keyed}
+use Rattle.mst_tables.proofs.Keys.{names}
 use Rattle.mst_net.proofs.network.NetworkContents.bridge_name.Goals as goal
 
 pub returns-clause-found : goal.returns-clause-found

@@ -1,5 +1,5 @@
 use Rattle.std.proofs.Common.{subst}
-use Rattle.mst_net.specs.Contents.{IsNumbered}
+use Rattle.mst_tables.specs.Contents.{IsNumbered}
 use Rattle.mst_net.proofs.SoundLemmas.{numbered_contents}
 use Rattle.mst_net.proofs.network.NetworkContents.known.Goals as goal
 

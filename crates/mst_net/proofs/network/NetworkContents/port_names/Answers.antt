@@ -1,8 +1,8 @@
 use Rattle.std.proofs.Common.{ap, ◌∙◌, subst}
 use Rattle.std.specs.FinMap as fin
 use Rattle.std.specs.List.Sorted.{IsPermutation}
-use Rattle.mst_net.proofs.Keys.{ports}
-use Rattle.mst_net.proofs.NamesInOrder.{names_in_order}
+use Rattle.mst_tables.proofs.Keys.{ports}
+use Rattle.mst_tables.proofs.NamesInOrder.{names_in_order}
 use Rattle.mst_net.proofs.network.NetworkContents.port_names.Goals as goal
 
 pub returns : goal.returns

@@ -1,7 +1,7 @@
 use Rattle.std.proofs.Common.{ap, sym, ◌∙◌}
 use Rattle.std.specs.FinMap as fin
 use Rattle.std.specs.Option.{option_map}
-use Rattle.mst_net.specs.Seen.{bridge_row}
+use Rattle.mst_net.specs.tables.Seen.{bridge_row}
 use Rattle.mst_report.specs.Planned.{planned_state}
 use Rattle.mst_report.proofs.Answering.{configuration_there}
 use Rattle.mst_report.proofs.planner.Planner.no_bridge.Goals as goal

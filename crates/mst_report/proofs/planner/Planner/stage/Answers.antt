@@ -1,6 +1,6 @@
 use Rattle.std.proofs.Common.{subst}
 use Rattle.mst_lang.specs.declared.line.Edit.{Edit}
-use Rattle.mst_net.specs.Contents.{Commits}
+use Rattle.mst_net.specs.tables.Contents.{Commits}
 use Rattle.mst_report.proofs.Staying.{kept_so}
 use Rattle.mst_report.proofs.planner.Planner.stage.Goals as goal
 

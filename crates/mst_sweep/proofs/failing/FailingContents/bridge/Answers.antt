@@ -1,7 +1,7 @@
 use Rattle.std.proofs.Common.{Some, sym, ap, ◌∙◌}
 use Rattle.std.specs.List.{list_any}
 use Rattle.std.specs.Option.{option_map}
-use Rattle.mst_net.specs.Tables.{BridgeRow}
+use Rattle.mst_net.specs.tables.Tables.{BridgeRow}
 use Rattle.mst_sweep.specs.Failing.{fails_bridge, off_if}
 use Rattle.mst_sweep.proofs.Together.{bridge_failed}
 use Rattle.mst_sweep.proofs.failing.FailingContents.bridge.Goals as goal

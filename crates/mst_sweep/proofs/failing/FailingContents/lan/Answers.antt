@@ -1,7 +1,7 @@
 use Rattle.std.proofs.Common.{Some, sym, ap, ◌∙◌}
 use Rattle.std.specs.List.{list_any}
 use Rattle.std.specs.Option.{option_map}
-use Rattle.mst_net.specs.Tables.{LanRow}
+use Rattle.mst_net.specs.tables.Tables.{LanRow}
 use Rattle.mst_sweep.specs.Failing.{fails_lan, down_if}
 use Rattle.mst_sweep.proofs.Together.{lan_failed}
 use Rattle.mst_sweep.proofs.failing.FailingContents.lan.Goals as goal

@@ -1,6 +1,6 @@
 use Rattle.std.proofs.Common.{◌&&◌, ap, ◌∙◌}
 use Rattle.std.specs.List.{list_any}
-use Rattle.mst_net.specs.Tables.{port_eq}
+use Rattle.mst_net.specs.tables.Tables.{port_eq}
 use Rattle.mst_verify.proofs.NamedIn.{enabled_named}
 use Rattle.mst_verify.proofs.before.Before.new.Goals as goal
 

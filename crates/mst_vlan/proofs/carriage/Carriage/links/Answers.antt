@@ -1,5 +1,5 @@
 use Rattle.std.proofs.Common.{◌≡◌, List, map, sym, ap, ◌∙◌}
-use Rattle.mst_net.specs.ByTree.{vlans_in}
+use Rattle.mst_tables.specs.ByTree.{vlans_in}
 use Rattle.mst_lag.specs.declared.in_view.PortInView.{PortInView}
 use Rattle.mst_trees.specs.SeenRoles.{seen_forwards}
 use Rattle.mst_vlan.specs.Seen.{seen_link}

@@ -1,0 +1,15 @@
+pub mod AfterLemmas
+pub mod Changed
+pub mod Counting
+pub mod Keyed
+pub mod Keys
+pub mod MarkedLemmas
+pub mod NamesInOrder
+pub mod Rising
+pub mod SetByTree
+pub mod SettingsLemmas
+pub mod Somes
+pub mod TableFits
+pub mod TableLemmas
+pub mod TablesCounted
+pub mod TreesListed

@@ -1,0 +1,14 @@
+pub mod After
+pub mod ByTree
+pub mod Contents
+pub mod Counting
+pub mod KeptTables
+pub mod Refusals
+pub mod Seen
+pub mod SetByTree
+pub mod Settings
+pub mod SettingsAfter
+pub mod SettingsKept
+pub mod Table
+pub mod Tables
+pub mod TreesSet
