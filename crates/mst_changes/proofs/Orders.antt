@@ -45,8 +45,6 @@ in_one tree a b l = ap (λ o. ordering_then o (item_cmp a b)) (tied_itself nat_c
 by_trees : (a b : Subject) → a.tree < b.tree → subject_cmp a b ≡ Less
 by_trees a b l = ap (λ o. ordering_then o (item_cmp a.item b.item)) (sym (nat_cmp_is a.tree b.tree Less l))
 
-unfolding all_trees
-
 module _ (bridges : List (List ℕ)) (ports : List PortName) where
   pub all_in : (tree : ℕ) → AllByRecursion (λ (p : Subject). p.tree ≡ tree) (subjects_in bridges ports tree)
   all_in tree =

@@ -221,7 +221,7 @@ impl Planner {
     /// Takes the network out, with its plan: the planner is then that of the network with no records, which isn't settled. It keeps its mark.
     pub fn take(&mut self) -> (Network, Plan)
         requires { self.old.is_settled ≡ true }
-        ensures network { result.0.now ≡ self.old.contents }
+        ensures network { result.0 ≡ self.old.contents }
         ensures plan { IsPlan self.old.contents.net self.old.contents.numbers result.1 }
         ensures settled { self.new.is_settled ≡ false }
         ensures mark { self.new.mark ≡ self.old.mark }
@@ -233,8 +233,8 @@ impl Planner {
 
     /// Takes over a network with its plan, in the place of what this planner has. It keeps its mark.
     pub fn give(&mut self, network: Network, plan: Plan)
-        requires { IsPlan network.now.net network.now.numbers plan }
-        ensures network { self.new.contents ≡ network.now }
+        requires { IsPlan network.net network.numbers plan }
+        ensures network { self.new.contents ≡ network }
         ensures settled { self.new.is_settled ≡ true }
         ensures mark { self.new.mark ≡ self.old.mark }
     {

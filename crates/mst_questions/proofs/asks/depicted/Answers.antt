@@ -5,4 +5,4 @@ use Rattle.mst_words.specs.Picturing.{Depicts}
 use Rattle.mst_questions.proofs.asks.depicted.Goals as goal
 
 pub returns-clause-picture : goal.returns-clause-picture
-returns-clause-picture c = subst (λ (k : Contents). IfOk c.picture.result (λ text. Depicts k.net c.args.tree text.items)) c.settle.ensures.same c.picture.ensures
+returns-clause-picture c = subst (λ (k : Contents). IfOk c.picture_of.result (λ text. Depicts k.net c.args.tree text.items)) c.settle.ensures.same c.picture_of.ensures

@@ -5,4 +5,4 @@ use Rattle.mst_words.specs.Picturing.{DepictsVlan}
 use Rattle.mst_questions.proofs.asks.depicted_vlan.Goals as goal
 
 pub returns-clause-picture : goal.returns-clause-picture
-returns-clause-picture c = subst (λ (k : Contents). IfOk c.vlan_picture.result (λ text. DepictsVlan k.net c.args.vid text.items)) c.settle.ensures.same c.vlan_picture.ensures
+returns-clause-picture c = subst (λ (k : Contents). IfOk c.vlan_picture_of.result (λ text. DepictsVlan k.net c.args.vid text.items)) c.settle.ensures.same c.vlan_picture_of.ensures

@@ -8,7 +8,7 @@ use Rattle.mst_questions.proofs.asks.summarized.Goals as goal
 pub returns-clause-answer : goal.returns-clause-answer
 returns-clause-answer c =
     let printer = c.in_ok-printer.printer in
-    let put = c.in_ok-put_summary.ensures printer [] (grew_none printer) in
+    let put = c.in_ok-put_summary_of.ensures printer [] (grew_none printer) in
     summary_shown c.args.form c.args.planner.now.contents.net c.settle.new.self.contents.net put.0 c.in_ok-text.text.items
     (ap (λ (k : Contents). k.net) c.settle.ensures.same) put.1
     (c.in_ok-text.ensures c.args.form None summary_row printer put.0 c.in_ok-printer.ensures put.2)

@@ -9,7 +9,7 @@ returns-clause-told g c first before grew =
     IfOk-weaker c.advise_network.result _ _
     (λ advice said. (
       said.0,
-      subst (λ (p : Contents). Advises p.net c.args.goal.now advice said.0) c.take.ensures.network said.1,
+      subst (λ (p : Contents). Advises p.net c.args.goal.now advice said.0) c.take-network.ensures.network said.1,
       said.2 first before grew,
     ))
     c.advise_network.ensures

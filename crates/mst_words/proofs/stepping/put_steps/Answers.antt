@@ -23,7 +23,7 @@ returns-clause-told g c first before grew =
     let policy : Option (List PolicyLine) = option_map (λ p. p.now) c.args.policy in (
       said.0,
       subst (λ (steps : List (List LineRead)). Steps c.args.planner.now.contents.net steps policy course said.0) c.steps.ensures
-          (subst (λ (p : Contents). Steps p.net c.steps.result.now policy course said.0) c.take.ensures.network said.1),
+          (subst (λ (p : Contents). Steps p.net c.steps.result.now policy course said.0) c.take-network.ensures.network said.1),
       said.2 first before grew,
     )
 
