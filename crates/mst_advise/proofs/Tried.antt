@@ -10,17 +10,17 @@ use Rattle.mst_net.specs.tables.Contents.{Contents, SameContents, Tables}
 use Rattle.mst_net.specs.tables.Tables.{Net}
 use Rattle.mst_net.specs.tables.declared.refusal.Refusal.{Refusal}
 use Rattle.mst_rows.specs.Rows.{Row}
-use Rattle.mst_trees.specs.Outcome.{Outcome, IsOutcome}
+use Rattle.mst_sweeping.specs.plan.trees.Outcome.{Outcome, IsOutcome}
 use Rattle.mst_advise.specs.declared.advising.Advised.{Advised}
 use Rattle.mst_advise.specs.declared.advising.Advised.TheVariants as advised
 use Rattle.mst_advise.specs.declared.goal.Goal.{Goal}
-use Rattle.mst_plan.specs.declared.plan.Plan.{Plan}
+use Rattle.mst_sweeping.specs.plan.declared.plan.Plan.{Plan}
 use Rattle.mst_advise.specs.declared.setting.Setting.{Setting}
 use Rattle.mst_advise.specs.Advising.{Advises, AdvisesIn, Tells}
 use Rattle.mst_advise.specs.Made.{Has, after_settings, then_set}
 use Rattle.mst_advise.specs.Candidates.{AreCandidates}
 use Rattle.mst_advise.specs.Settings.{alone, edit_of}
-use Rattle.mst_plan.specs.Plan.{IsPlan}
+use Rattle.mst_sweeping.specs.plan.Plan.{IsPlan}
 use Rattle.mst_sweeping.specs.Sweeping.{Puts}
 
 -- what holds by the plan of contents that are as they were

@@ -1,3 +1,4 @@
+pub use Rattle.mst_explain.specs as explain
 pub use Rattle.mst_verify.specs as verify
 pub mod Goals
 pub mod Settings

@@ -8,9 +8,9 @@ ghost use Rattle.mst_advise.specs.declared.goal.Goal.TheVariants as goal_is;
 ghost use Rattle.mst_net.specs.tables.After.{after};
 ghost use Rattle.mst_net.specs.tables.Contents.{CanCommit, SameContents, ahead_of};
 ghost use Rattle.mst_net.specs.tables.Tables.{Net, Numbers};
-ghost use Rattle.mst_trees.specs.Agrees.{Known};
+ghost use Rattle.mst_sweeping.specs.plan.trees.Agrees.{Known};
 ghost use Rattle.mst_advise.specs.Advising.{Advises, AdvisesIn, Tries, TriesEach, TriesRoot};
-ghost use Rattle.mst_plan.specs.Plan.{IsPlan};
+ghost use Rattle.mst_sweeping.specs.plan.Plan.{IsPlan};
 ghost use Rattle.mst_sweeping.specs.Sweeping.{Puts};
 ghost use Rattle.mst_rows.specs.Rows.{Row};
 
@@ -23,11 +23,9 @@ use crate::setting::{Setting, edit_of};
 use crate::told::{put_because, put_count, put_none, put_settings};
 use mst_ids::{Name, PortName, Tree};
 use mst_net::{Network, Ready, Refusal};
-use mst_plan::{Plan, plan_beside};
 use mst_rows::Rows;
-use mst_sweeping::{Deed, put_between};
-use mst_trees::Settled;
-use mst_trees::laws::one_outcome;
+use mst_sweeping::trees_laws::one_outcome;
+use mst_sweeping::{Deed, Plan, Settled, plan_beside, put_between};
 use std::alloc::{AllocError, Global};
 use std::slice::from_ref;
 

@@ -10,8 +10,8 @@ use Rattle.mst_words.specs.verdict.declared.stepping.Course.{Course}
 use Rattle.mst_tool.specs.engine.Engine.{Tally, outcome_of}
 use Rattle.mst_tool.specs.engine.Served.{Served}
 use Rattle.mst_tool.specs.engine.declared.engine.Input.TheVariants.{Network}
-use Rattle.mst_print.specs.Shape.{of_script, shown}
-use Rattle.mst_print.specs.declared.form.Form.{Form}
+use Rattle.mst_tool.specs.engine.print.Shape.{of_script, shown}
+use Rattle.mst_tool.specs.engine.print.declared.form.Form.{Form}
 use Rattle.mst_rows.specs.Rows.{Row}
 use Rattle.mst_alters.specs.Alter.{Alters, TellsSteps, counted_along, policy_if, refusals_in}
 use Rattle.mst_tool.specs.Lines.{AreLines, AreSteps}

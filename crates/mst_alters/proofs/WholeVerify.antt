@@ -9,8 +9,8 @@ use Rattle.mst_words.specs.verdict.Verified.{Counts}
 use Rattle.mst_tool.specs.engine.Engine.{Tally, outcome_of}
 use Rattle.mst_tool.specs.engine.Served.{Served}
 use Rattle.mst_tool.specs.engine.declared.engine.Input.TheVariants.{Network}
-use Rattle.mst_print.specs.Shape.{of_script, shown}
-use Rattle.mst_print.specs.declared.form.Form.{Form}
+use Rattle.mst_tool.specs.engine.print.Shape.{of_script, shown}
+use Rattle.mst_tool.specs.engine.print.declared.form.Form.{Form}
 use Rattle.mst_rows.specs.Rows.{Row}
 use Rattle.mst_tool.specs.Lines.{AreLines}
 use Rattle.mst_tool.specs.Shown.{verify_row}

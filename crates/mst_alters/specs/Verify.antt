@@ -11,8 +11,8 @@ use Rattle.mst_tool.specs.engine.Script.{LoadsAll}
 use Rattle.mst_tool.specs.engine.Steps.{Step, left_by, texts_of, refusals_of, lacks_of, lacking_of}
 use Rattle.mst_io.specs.Written.{Reads}
 use Rattle.mst_io.specs.declared.outcome.Outcome.{Outcome}
-use Rattle.mst_print.specs.Shape.{of_script}
-use Rattle.mst_print.specs.declared.form.Form.{Form}
+use Rattle.mst_tool.specs.engine.print.Shape.{of_script}
+use Rattle.mst_tool.specs.engine.print.declared.form.Form.{Form}
 use Rattle.mst_tool.specs.Load.{LoadsEnded, LoadsOrEnded, LoadsScript}
 use Rattle.mst_tool.specs.Lines.{AreLines}
 use Rattle.mst_tool.specs.Shown.{IsShown, verify_row}

@@ -6,7 +6,7 @@ ghost use Rattle.mst_drive.specs.Words.{Ended, HasTold, Inputs, Unwritten, input
 ghost use Rattle.mst_tool.specs.engine.Served.{IsFew};
 ghost use Rattle.mst_tool.specs.engine.report.Planned.{planned_state};
 ghost use Rattle.mst_io.specs.Devices.{HearsWhere, seen_by, stopped_by};
-ghost use Rattle.mst_print.specs.Shape.{of_script};
+ghost use Rattle.mst_tool.specs.engine.print.Shape.{of_script};
 ghost use Rattle.mst_tool.specs.Load.{LoadsEnded, LoadsScript};
 ghost use Rattle.mst_alters.specs.Alter.{TellsSteps, altering, counted_along, course_of, policy_if};
 ghost use Rattle.mst_tool.specs.Lines.{AreLines, AreSteps};
@@ -16,9 +16,10 @@ use mst_drive::Word;
 use mst_io::{FromRead, Outcome, RunFault, Sink, Source, TURNS, ToWrite, put};
 use mst_kinds::Query;
 use mst_policy::Policy;
-use mst_print::{Form, Shape, Side};
 use mst_tool::laws::one_load;
-use mst_tool::{Input, Planner, open_question, read_change, read_policy, serve_first};
+use mst_tool::{
+    Form, Input, Planner, Shape, Side, open_question, read_change, read_policy, serve_first,
+};
 use mst_words::put_steps;
 use std::alloc::{AllocError, Global};
 use std::io::{Read, Write};

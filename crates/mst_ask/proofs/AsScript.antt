@@ -25,8 +25,8 @@ use Rattle.mst_questions.specs.tool.engine.Steps.{Step, left_by, lacks_of}
 use Rattle.mst_questions.specs.tool.engine.report.State.{State, empty_state}
 use Rattle.mst_questions.proofs.tool_lemmas.engine_lemmas.OneRun.{answered_keeps}
 use Rattle.mst_policy.specs.declared.policy.PolicyLine.{PolicyLine}
-use Rattle.mst_print.specs.Shape.{of_script}
-use Rattle.mst_print.specs.declared.form.Form.{Form}
+use Rattle.mst_questions.specs.tool.engine.print.Shape.{of_script}
+use Rattle.mst_questions.specs.tool.engine.print.declared.form.Form.{Form}
 use Rattle.mst_ask.specs.Asking.{loaded_by}
 use Rattle.mst_ask.specs.Kept.{lines_net, made_by, made_in, net_or, script_net}
 use Rattle.mst_ask.specs.Requests.{request_of}

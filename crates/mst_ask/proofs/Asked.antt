@@ -19,9 +19,9 @@ use Rattle.mst_questions.specs.tool.engine.report.Answers.{Answers}
 use Rattle.mst_questions.specs.tool.engine.report.State.{State, IsState}
 use Rattle.mst_questions.proofs.tool_lemmas.engine_lemmas.OneRun.{Laws, answered_keeps}
 use Rattle.mst_policy.specs.declared.policy.PolicyLine.{PolicyLine}
-use Rattle.mst_print.specs.Shape.{of_script}
-use Rattle.mst_print.specs.declared.form.Form.{Form}
-use Rattle.mst_print.specs.declared.form.Shape.{Shape}
+use Rattle.mst_questions.specs.tool.engine.print.Shape.{of_script}
+use Rattle.mst_questions.specs.tool.engine.print.declared.form.Form.{Form}
+use Rattle.mst_questions.specs.tool.engine.print.declared.form.Shape.{Shape}
 use Rattle.mst_rows.specs.Rows.{Row}
 use Rattle.mst_questions.specs.Ask.{is_refused}
 use Rattle.mst_questions.specs.tool.Shown.{verify_row}

@@ -9,8 +9,8 @@ use Rattle.mst_lang.specs.declared.line.Edit.{Edit}
 use Rattle.mst_lang.specs.declared.line.Line.TheVariants.{Edit as edit}
 use Rattle.mst_net.specs.tables.After.{after}
 use Rattle.mst_questions.specs.tool.engine.report.Planned.{Planned, planned_state}
-use Rattle.mst_print.specs.Shape.{listed}
-use Rattle.mst_print.specs.declared.form.Form.{Form}
+use Rattle.mst_questions.specs.tool.engine.print.Shape.{listed}
+use Rattle.mst_questions.specs.tool.engine.print.declared.form.Form.{Form}
 use Rattle.mst_ask.specs.Kept.{IsKept, Keeps, line_row, lines_kept, lines_net, made_by, made_in, net_of_script, net_or, rows_of, standing_of}
 use Rattle.mst_ask.specs.Replies.{replied}
 use Rattle.mst_ask.specs.Standing.{back, turned, undone, undone_rows, with_edit}

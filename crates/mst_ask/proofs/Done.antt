@@ -1,7 +1,7 @@
 -- The parts of `done STATUS`, as a record.
 use Rattle.std.proofs.Common.{◌≡◌, ℕ, List, [], ◌∷◌, ◌++◌, codes, decimal, refl, ap, append-nil, append_assoc}
 use Rattle.json.specs.Print.{escape_byte}
-use Rattle.mst_print.specs.declared.form.Form.TheVariants.{Json}
+use Rattle.mst_questions.specs.tool.engine.print.declared.form.Form.TheVariants.{Json}
 use Rattle.mst_rows.specs.Answers.{named}
 use Rattle.mst_ask.specs.Standing.{done}
 

@@ -7,7 +7,7 @@ use Rattle.mst_lang.specs.declared.line.Version.{Version}
 use Rattle.mst_io.specs.Held.{hold, lines_held}
 use Rattle.mst_io.proofs.Long.{held_cases, none_held_of, one_held_of}
 use Rattle.mst_io.proofs.Starts.{IsHeld, IsHeld-nothing, IsHeld-push}
-use Rattle.mst_print.specs.declared.form.Form.{Form}
+use Rattle.mst_questions.specs.tool.engine.print.declared.form.Form.{Form}
 use Rattle.mst_ask.specs.Requests.{request_of}
 use Rattle.mst_ask.specs.Standing.{Standing, Turn, Asks, AsksBy, AsksLine}
 use Rattle.mst_ask.proofs.Turns.{asks_alike}

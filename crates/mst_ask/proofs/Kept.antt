@@ -22,7 +22,7 @@ use Rattle.mst_questions.specs.tool.engine.Steps.{Step, RunsBy, left_by, lacks_o
 use Rattle.mst_questions.specs.tool.engine.report.Planned.{planned_state}
 use Rattle.mst_questions.specs.tool.engine.report.State.{State, IsState, empty_state}
 use Rattle.mst_questions.proofs.tool_lemmas.engine_lemmas.Steps.{none_lack}
-use Rattle.mst_print.specs.declared.form.Shape.{Shape}
+use Rattle.mst_questions.specs.tool.engine.print.declared.form.Shape.{Shape}
 use Rattle.mst_ask.specs.Kept.{line_row, lines_kept as all_lines, lines_net, made_by, made_in, net_of_script, net_or, script_net, standing_of}
 use Rattle.mst_ask.specs.Standing.{IsStanding, back, undone_rows}
 use Rattle.mst_ask.specs.declared.standing.Standing.{Standing}

@@ -14,9 +14,9 @@ use Rattle.mst_questions.specs.tool.engine.Steps.{Step, RunsBy, left_by, lacks_o
 use Rattle.mst_questions.specs.tool.engine.declared.engine.Input.TheVariants.{Network}
 use Rattle.mst_questions.specs.tool.engine.report.State.{State, IsState, empty_state}
 use Rattle.mst_questions.proofs.tool_lemmas.engine_lemmas.Steps.{left_by-append, runs-none, runs-first}
-use Rattle.mst_print.specs.Shape.{of_script}
-use Rattle.mst_print.specs.declared.form.Form.{Form}
-use Rattle.mst_print.specs.declared.form.Shape.{Shape}
+use Rattle.mst_questions.specs.tool.engine.print.Shape.{of_script}
+use Rattle.mst_questions.specs.tool.engine.print.declared.form.Form.{Form}
+use Rattle.mst_questions.specs.tool.engine.print.declared.form.Shape.{Shape}
 use Rattle.mst_ask.specs.Answering.{LoadsLines}
 
 -- what the engine has served of the lines, where these are left

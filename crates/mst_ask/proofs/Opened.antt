@@ -13,8 +13,8 @@ use Rattle.mst_questions.specs.tool.engine.report.State.{State}
 use Rattle.mst_io.specs.declared.outcome.RunFault.{RunFault}
 use Rattle.mst_io.specs.declared.outcome.RunFault.TheVariants.{Write}
 use Rattle.mst_policy.specs.declared.policy.PolicyLine.{PolicyLine}
-use Rattle.mst_print.specs.Shape.{of_script}
-use Rattle.mst_print.specs.declared.form.Form.{Form}
+use Rattle.mst_questions.specs.tool.engine.print.Shape.{of_script}
+use Rattle.mst_questions.specs.tool.engine.print.declared.form.Form.{Form}
 use Rattle.mst_ask.specs.Answering.{IsLoaded, LoadsLines}
 use Rattle.mst_ask.specs.Asking.{opening}
 use Rattle.mst_ask.specs.Kept.{IsKept, net_of_script, standing_of}

@@ -21,9 +21,9 @@ use Rattle.mst_questions.specs.tool.engine.Script.{Loads, LoadsAll, version_of}
 use Rattle.mst_questions.specs.tool.engine.Steps.{Step, RunsBy, left_by, lacking_of, lacks_of, texts_of}
 use Rattle.mst_questions.specs.tool.engine.report.State.{IsState, empty_state}
 use Rattle.mst_questions.proofs.tool_lemmas.engine_lemmas.Steps.{runs-none}
-use Rattle.mst_print.specs.Shape.{of_script}
-use Rattle.mst_print.specs.declared.form.Form.{Form}
-use Rattle.mst_print.specs.declared.form.Shape.{Shape}
+use Rattle.mst_questions.specs.tool.engine.print.Shape.{of_script}
+use Rattle.mst_questions.specs.tool.engine.print.declared.form.Form.{Form}
+use Rattle.mst_questions.specs.tool.engine.print.declared.form.Shape.{Shape}
 use Rattle.mst_questions.specs.tool.Load.{LoadsEnded, LoadsScript}
 use Rattle.mst_ask.specs.Answering.{IsBegun, IsLeft, IsScript, LoadsLines}
 use Rattle.mst_ask.specs.Asking.{Begins, LoadsFront}

@@ -1,7 +1,7 @@
 -- Turns that lines can do.
 use Rattle.std.proofs.Common.{◌≡◌, ℕ, ◌+◌, Bool, List, [], ◌∷◌, ap}
 use Rattle.mst_lang.specs.declared.line.Version.{Version}
-use Rattle.mst_print.specs.declared.form.Form.{Form}
+use Rattle.mst_questions.specs.tool.engine.print.declared.form.Form.{Form}
 use Rattle.mst_ask.specs.Standing.{Standing, Turn, AsksBy, AsksLine, IsStanding, lacking_of}
 
 -- any lines can be asked, whatever stands

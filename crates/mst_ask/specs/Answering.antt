@@ -12,8 +12,8 @@ use Rattle.mst_questions.specs.tool.engine.Steps.{Step, left_by, texts_of}
 use Rattle.mst_questions.specs.tool.engine.declared.engine.Engine.{Engine}
 use Rattle.mst_questions.specs.tool.engine.report.Planned.{planned_state}
 use Rattle.mst_questions.specs.tool.engine.report.State.{empty_state}
-use Rattle.mst_print.specs.Shape.{of_script}
-use Rattle.mst_print.specs.declared.form.Form.{Form}
+use Rattle.mst_questions.specs.tool.engine.print.Shape.{of_script}
+use Rattle.mst_questions.specs.tool.engine.print.declared.form.Form.{Form}
 use Rattle.mst_ask.specs.Kept.{standing_of}
 use Rattle.mst_ask.specs.Standing.{Turn, AsksBy, answers_of, differing_of, lacks_of, refusals_of}
 use Rattle.mst_ask.specs.declared.script.Script.{Script}

@@ -8,8 +8,8 @@ use Rattle.mst_io.specs.Devices.{Told, Works, IsStopped}
 use Rattle.mst_io.specs.declared.outcome.RunFault.{RunFault}
 use Rattle.mst_io.specs.declared.outcome.RunFault.TheVariants.{Read, Write, Memory}
 use Rattle.mst_policy.specs.declared.policy.PolicyLine.{PolicyLine}
-use Rattle.mst_print.specs.Shape.{of_script}
-use Rattle.mst_print.specs.declared.form.Form.{Form}
+use Rattle.mst_questions.specs.tool.engine.print.Shape.{of_script}
+use Rattle.mst_questions.specs.tool.engine.print.declared.form.Form.{Form}
 use Rattle.mst_questions.specs.tool.Load.{LoadsScript}
 use Rattle.mst_ask.specs.Answering.{IsBegun, LoadsLines}
 use Rattle.mst_ask.specs.Asking.{Begins, loaded_by, opening}

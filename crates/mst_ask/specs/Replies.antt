@@ -2,8 +2,8 @@
 use Rattle.std.specs.Prelude.{ℕ, ◌==◌, false, not, List, [], ◌++◌}
 use Rattle.mst_questions.specs.tool.engine.Engine as engine
 use Rattle.mst_questions.specs.tool.engine.declared.engine.Reply.{Reply as LineReply}
-use Rattle.mst_print.specs.Shape.{of_script}
-use Rattle.mst_print.specs.declared.form.Form.{Form}
+use Rattle.mst_questions.specs.tool.engine.print.Shape.{of_script}
+use Rattle.mst_questions.specs.tool.engine.print.declared.form.Form.{Form}
 use Rattle.mst_questions.specs.Ask.{answer_text, told_of}
 use Rattle.mst_questions.specs.declared.asks.Answer.{Answer as ToolAnswer}
 use Rattle.mst_alters.specs.declared.verifies.Verification.{Verification}

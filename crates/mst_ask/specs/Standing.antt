@@ -17,8 +17,8 @@ use Rattle.mst_questions.specs.tool.engine.Script.{ServesRead}
 use Rattle.mst_questions.specs.tool.engine.Steps.{Step}
 use Rattle.mst_questions.specs.tool.engine.report.State.{State, IsState}
 use Rattle.mst_policy.specs.declared.policy.PolicyLine.{PolicyLine}
-use Rattle.mst_print.specs.Shape.{coded, listed, of_script}
-use Rattle.mst_print.specs.declared.form.Form.{Form}
+use Rattle.mst_questions.specs.tool.engine.print.Shape.{coded, listed, of_script}
+use Rattle.mst_questions.specs.tool.engine.print.declared.form.Form.{Form}
 use Rattle.mst_rows.specs.Cells.{number as number_cell, word}
 use Rattle.mst_rows.specs.Rows.{Row, row_of}
 use Rattle.mst_questions.specs.Ask.{IsAnswer, Told, is_refused}

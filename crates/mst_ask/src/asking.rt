@@ -2,7 +2,7 @@ ghost use Rattle.std.specs.Prelude.{◌≡◌, ◌≤◌, ◌<◌, ◌^◌, ◌�
 ghost use Rattle.mst_drive.specs.Turned.{Turned, turning};
 ghost use Rattle.mst_drive.specs.Words.{Ended, HasTold, Unwritten, Wrote, WroteFront, inputs};
 ghost use Rattle.mst_io.specs.Devices.{HearsWhere, seen_by, stopped_by};
-ghost use Rattle.mst_print.specs.Shape.{of_script};
+ghost use Rattle.mst_questions.specs.tool.engine.print.Shape.{of_script};
 ghost use Rattle.mst_questions.specs.tool.Load.{LoadsEnded};
 ghost use Rattle.mst_ask.specs.Asking.{AnswersEnded, Begins, LoadsFront, standing};
 ghost use Rattle.mst_ask.specs.Opening.{Leaves, MayOpen, Opens, OpensNot, OpensWhole};
@@ -13,9 +13,8 @@ use crate::reply::{Verdict, put_done};
 use crate::script::{Script, read_script};
 use crate::standing::{Standing, load};
 use mst_io::{Outcome, RunFault, Sink, Source};
-use mst_print::Form;
 use mst_questions::engine_laws::{has_load, one_load, states};
-use mst_questions::read_policy;
+use mst_questions::{Form, read_policy};
 use std::alloc::Global;
 
 /// Loads the network of a script, and then answers the questions that the third source gives, each of which is a line, some of them by

@@ -7,8 +7,8 @@ ghost use Rattle.mst_questions.specs.tool.engine.Steps.{Step, left_by};
 ghost use Rattle.mst_questions.specs.tool.engine.Steps as steps;
 ghost use Rattle.mst_questions.specs.tool.engine.report.State.{empty_state};
 ghost use Rattle.mst_policy.specs.declared.policy.PolicyLine.{PolicyLine as LineOf};
-ghost use Rattle.mst_print.specs.Shape.{of_script};
-ghost use Rattle.mst_print.specs.declared.form.Form.{Form};
+ghost use Rattle.mst_questions.specs.tool.engine.print.Shape.{of_script};
+ghost use Rattle.mst_questions.specs.tool.engine.print.declared.form.Form.{Form};
 ghost use Rattle.mst_ask.specs.Asking.{loaded_by};
 ghost use Rattle.mst_ask.specs.Standing.{AsksBy, IsStanding, Standing, Turn, edits_of, lacking_of, left_after};
 

@@ -16,8 +16,9 @@ mod word;
 pub use asking::ask_within;
 pub use mst_alters::{StepsWord, VerifyWord, steps, verify};
 pub use mst_questions::{
-    Between, CheckWord, DiffWord, Question, QuestionWord, RunWord, ask, check, check_within, diff,
-    edits, engine_laws, report_laws, run, run_from, run_within, status,
+    Between, CheckWord, DiffWord, Form, Question, QuestionWord, RunWord, ask, check, check_within,
+    diff, edits, engine_laws, report_laws, run, run_from, run_within, status,
 };
+pub use mst_trees::laws as trees_laws;
 pub use request::Request;
 pub use word::AskWord;

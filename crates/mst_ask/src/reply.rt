@@ -9,8 +9,7 @@ use itoa::Buffer;
 use mst_alters::Verification;
 use mst_drive::Says;
 use mst_io::{Sink, WriteFailed, put, put_parts};
-use mst_print::Form;
-use mst_questions::{Answer, Input, Reply as LineReply, print, put_answer};
+use mst_questions::{Answer, Form, Input, Reply as LineReply, print, put_answer};
 
 /// What a question is answered by.
 #[derive(Drop)]

@@ -12,7 +12,7 @@ ghost use Rattle.mst_questions.specs.tool.engine.report.Planned.{planned_state};
 ghost use Rattle.mst_questions.specs.tool.engine.report.State.{IsState};
 ghost use Rattle.mst_io.specs.Devices.{Works, IsStopped};
 ghost use Rattle.mst_io.specs.Written.{AppendsFront};
-ghost use Rattle.mst_print.specs.Shape.{listed, of_script};
+ghost use Rattle.mst_questions.specs.tool.engine.print.Shape.{listed, of_script};
 ghost use Rattle.mst_questions.specs.Ask.{keeps};
 ghost use Rattle.mst_ask.specs.declared.request.Request.TheVariants.{Script as Said, Word, Undo, Verify};
 ghost use Rattle.mst_ask.specs.Answering.{IsLoaded, LoadsLines};
@@ -32,10 +32,10 @@ use mst_lang::{Edit, Fault, Line, Version, parse_line_as};
 use mst_net::Refusal;
 use mst_net::laws::networks;
 use mst_policy::Policy;
-use mst_print::{Form, Shape, Side};
 use mst_questions::engine_laws::has_load;
 use mst_questions::{
-    Engine, Input, Planner, Question, Reply as LineReply, answer_to, print, serve,
+    Engine, Form, Input, Planner, Question, Reply as LineReply, Shape, Side, answer_to, print,
+    serve,
 };
 use std::alloc::{AllocError, Global};
 

@@ -1,10 +1,10 @@
 ghost use Rattle.std.specs.Prelude.{◌≡◌, ◌++◌, List, IfOk, OnOk};
-ghost use Rattle.mst_print.specs.Shape.{listed};
+ghost use Rattle.mst_questions.specs.tool.engine.print.Shape.{listed};
 ghost use Rattle.mst_rows.specs.Rows.{Row};
 ghost use Rattle.mst_ask.specs.Kept.{rows_of};
 
 use mst_kinds::{AskLine, Kind};
-use mst_print::Form;
+use mst_questions::Form;
 use mst_rows::{JsonLines, Rows, Value, put};
 use std::alloc::{AllocError, Global};
 

@@ -1,7 +1,7 @@
 use crate::asking::ask_within;
 use mst_drive::Word;
 use mst_io::{Outcome, RunFault, Sink, Source};
-use mst_print::Form;
+use mst_questions::Form;
 use std::alloc::Global;
 
 /// A standing planner that prints in this form: its inputs are a script, the questions, and the policy, in this order.

@@ -1,7 +1,7 @@
 -- What a word was meant for that stands where the program has no such word.
 use Rattle.std.specs.Prelude.{◌≡◌, ◌==◌, ◌||◌, ◌&&◌, ℕ, Bool, true, false, List, [], ◌∷◌, Option, Some, None, codes, if◌then◌else◌}
 use Rattle.std.specs.List.{Contains}
-use Rattle.mst_hints.specs.Near.{is_in_case, is_within_one}
+use Rattle.mst_frame.specs.hints.Near.{is_in_case, is_within_one}
 use Rattle.mst_command.specs.declared.strays.Meant.{Meant}
 use Rattle.mst_command.specs.declared.strays.Meant.TheVariants.{Json, Hints, Help, Version, Flag}
 

@@ -11,6 +11,9 @@ mod table;
 mod words;
 
 pub use flags::{Flags, Parted};
+pub use mst_frame::{
+    Names, Ran, Script, Scripts, Sources, Unopened, Unserved, is_write_fault, serve_named,
+};
 pub use stop::Stop;
 pub use strays::Meant;
 pub use table::{VERBS, Verb};

@@ -4,7 +4,7 @@ ghost use Rattle.mst_command.specs.Strays.{IsStray, bare as without_hyphens, beh
 ghost use Rattle.mst_command.specs.Words.{behind_name};
 
 use crate::flags::DASHES;
-use mst_hints::{is_in_case, is_within_one};
+use mst_frame::{is_in_case, is_within_one};
 
 /// What a word was meant for that stands where the program has no such word.
 #[derive(Clone, Copy)]

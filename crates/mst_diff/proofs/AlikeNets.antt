@@ -28,15 +28,15 @@ use Rattle.mst_vlan.proofs.trees_lemmas.Views.{entry_there}
 use Rattle.mst_vlan.specs.trees.Roles.{role_in, role_of}
 use Rattle.mst_vlan.specs.trees.declared.kind.Role.{Role}
 use Rattle.mst_vlan.specs.trees.declared.kind.Role.TheVariants.{Root, Designated, Alternate, Backup, Master, Disabled}
-use Rattle.mst_classes.specs.AllVids.{all_vids}
-use Rattle.mst_classes.proofs.VidPlaces.{place_of_vid}
-use Rattle.mst_classes.proofs.VidPlaces.{is_vid_there}
+use Rattle.mst_vlan.specs.classes.AllVids.{all_vids}
+use Rattle.mst_vlan.proofs.classes_lemmas.VidPlaces.{place_of_vid}
+use Rattle.mst_vlan.proofs.classes_lemmas.VidPlaces.{is_vid_there}
 use Rattle.mst_changes.specs.declared.value.VectorOrRole.TheVariants.{HasRole}
-use Rattle.mst_trees.specs.AllTrees.{all_trees}
+use Rattle.mst_vlan.specs.trees.AllTrees.{all_trees}
 use Rattle.mst_changes.specs.Subjects.{port_in, names_of_either}
 use Rattle.mst_changes.specs.PortChanges.{counted, port_change_rows}
 use Rattle.mst_changes.specs.Values.{value_at, same_side}
-use Rattle.mst_trees.specs.RoleNumbers.{role_number}
+use Rattle.mst_vlan.specs.trees.RoleNumbers.{role_number}
 use Rattle.mst_changes.specs.ChangesText.{item_row, change_rows}
 use Rattle.mst_rows.specs.Rows.{Row}
 use Rattle.mst_diff.specs.declared.diff.Differing.{Differing}

@@ -12,7 +12,7 @@ use Rattle.mst_lag.specs.Trees.{is_among}
 use Rattle.mst_vlan.specs.trees.Outcome.{Outcome}
 use Rattle.mst_vlan.proofs.trees_lemmas.Entries.{all_weaker}
 use Rattle.mst_vlan.proofs.trees_lemmas.Lists.{all_there, all_contained}
-use Rattle.mst_classes.specs.AllVids.{all_vids}
+use Rattle.mst_vlan.specs.classes.AllVids.{all_vids}
 use Rattle.mst_rows.specs.Rows.{Row}
 use Rattle.mst_diff.specs.declared.diff.Differing.{Differing}
 use Rattle.mst_diff.specs.Regions.{region_changes}

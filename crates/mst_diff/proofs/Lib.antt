@@ -1,3 +1,4 @@
+pub use Rattle.mst_vlan.proofs as vlan_lemmas
 pub mod Shared
 pub mod Once
 pub mod NamedSides

@@ -13,8 +13,8 @@ use Rattle.mst_vlan.proofs.trees_lemmas.Entries.{all_weaker}
 use Rattle.mst_vlan.proofs.trees_lemmas.Lists.{all_there}
 use Rattle.mst_vlan.proofs.trees_lemmas.Looking.{filter_alike}
 use Rattle.mst_vlan.specs.Reach.{AreIslandsOf}
-use Rattle.mst_classes.specs.AllVids.{all_vids}
-use Rattle.mst_classes.proofs.VidPlaces.{vids_once, is_vid_there, OneGrouping}
+use Rattle.mst_vlan.specs.classes.AllVids.{all_vids}
+use Rattle.mst_vlan.proofs.classes_lemmas.VidPlaces.{vids_once, is_vid_there, OneGrouping}
 use Rattle.mst_rows.specs.Rows.{Row}
 use Rattle.mst_diff.specs.declared.diff.Differing.{Differing}
 use Rattle.mst_diff.specs.Regions.{region_changes}

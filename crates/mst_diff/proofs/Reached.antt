@@ -6,10 +6,10 @@ use Rattle.mst_graph.specs.Islands.{AreIslands}
 use Rattle.mst_vlan.specs.trees.Settled.{SettledNet, outcome_of, IsSettledNet}
 use Rattle.mst_vlan.proofs.trees_lemmas.Entries.{all_weaker}
 use Rattle.mst_vlan.specs.Reach.{bridges_on, lans_up}
-use Rattle.mst_classes.specs.Alike.{AreAlike}
+use Rattle.mst_vlan.specs.classes.Alike.{AreAlike}
 use Rattle.mst_vlan.proofs.LinksAlike.{links_shared}
 use Rattle.mst_diff.specs.Reach.{Sides}
-use Rattle.mst_classes.specs.Classes.{HasOnly}
+use Rattle.mst_vlan.specs.classes.Classes.{HasOnly}
 use Rattle.mst_diff.specs.Seen.{AreSidesOf}
 
 -- what is in the first list, or in the second, is in both

@@ -17,8 +17,8 @@ use Rattle.mst_vlan.specs.trees.Settled.{SettledNet, outcome_of, IsSettledNet}
 use Rattle.mst_vlan.proofs.trees_lemmas.Entries.{all_weaker}
 use Rattle.mst_vlan.proofs.trees_lemmas.Lists.{all_there, kept_same, no_some, some_is}
 use Rattle.mst_lag.specs.View.{bridge_names}
-use Rattle.mst_trees.proofs.NotInUse.{unused, unused_by}
-use Rattle.mst_trees.proofs.Pieces.{filter_map-map}
+use Rattle.mst_vlan.proofs.trees_lemmas.NotInUse.{unused, unused_by}
+use Rattle.mst_vlan.proofs.trees_lemmas.Pieces.{filter_map-map}
 use Rattle.mst_rows.specs.Rows.{Row}
 use Rattle.mst_facts.specs.declared.both.Both.{Both}
 use Rattle.mst_diff.specs.declared.roots.RootPair.{RootPair}

@@ -8,11 +8,11 @@ use Rattle.mst_ids.specs.Vids.{is_vid}
 use Rattle.mst_graph.specs.Groups.{AreGroups}
 use Rattle.mst_graph.specs.Numbers.{AreNumbers, HaveBodies}
 use Rattle.mst_graph.proofs.Alike.{alike_groups}
-use Rattle.mst_classes.specs.Alike.{AreAlike, TellApart}
-use Rattle.mst_classes.specs.AllVids.{NumberEach}
-use Rattle.mst_classes.specs.AllVids.{all_vids}
-use Rattle.mst_classes.proofs.VidPlaces.{zip_at}
-use Rattle.mst_classes.proofs.VidPlaces.{vids_long, vid_place, place_of_vid}
+use Rattle.mst_vlan.specs.classes.Alike.{AreAlike, TellApart}
+use Rattle.mst_vlan.specs.classes.AllVids.{NumberEach}
+use Rattle.mst_vlan.specs.classes.AllVids.{all_vids}
+use Rattle.mst_vlan.proofs.classes_lemmas.VidPlaces.{zip_at}
+use Rattle.mst_vlan.proofs.classes_lemmas.VidPlaces.{vids_long, vid_place, place_of_vid}
 use Rattle.std.proofs.lemmas.List.FromFn.{get_or-range_with_len}
 use Rattle.mst_diff.specs.Reach.{Sides, reach_unless, group_rows}
 use Rattle.mst_diff.specs.Seen.{seen_sides, sides_at}

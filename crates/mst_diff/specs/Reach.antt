@@ -14,7 +14,7 @@ use Rattle.mst_rows.specs.Cells as cells
 use Rattle.mst_rows.specs.Rows.{Row, row_of}
 use Rattle.mst_vlan.specs.trees.Outcome.{Outcome}
 use Rattle.mst_vlan.specs.Reach.{AreIslandsOf}
-use Rattle.mst_classes.specs.AllVids.{all_vids}
+use Rattle.mst_vlan.specs.classes.AllVids.{all_vids}
 use Rattle.mst_graph.specs.Lists.{has_any}
 
 -- the bridges of each island that has one

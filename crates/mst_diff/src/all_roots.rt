@@ -1,6 +1,6 @@
 ghost use Rattle.std.specs.Prelude.{◌≡◌, ◌++◌, List, IfOk, OnOk, map};
 ghost use Rattle.std.specs.List.{flat_map};
-ghost use Rattle.mst_trees.specs.AllTrees.{all_trees};
+ghost use Rattle.mst_vlan.specs.trees.AllTrees.{all_trees};
 ghost use Rattle.mst_rows.specs.Rows.{Row};
 ghost use Rattle.mst_diff.specs.Seen.{roots_of, row_of_root};
 

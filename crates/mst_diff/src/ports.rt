@@ -1,7 +1,7 @@
 ghost use Rattle.std.specs.Prelude.{◌≡◌, ◌++◌, List, IfOk};
 ghost use Rattle.std.specs.List.{flat_map};
 ghost use Rattle.mst_changes.specs.PortChanges.{counted};
-ghost use Rattle.mst_trees.specs.AllTrees.{all_trees};
+ghost use Rattle.mst_vlan.specs.trees.AllTrees.{all_trees};
 ghost use Rattle.mst_rows.specs.Rows.{Row};
 ghost use Rattle.mst_diff.specs.Seen.{ports_of};
 

@@ -25,12 +25,12 @@ use Rattle.mst_net.specs.tables.Contents.{priority_of}
 use Rattle.mst_net.specs.tables.Settings.{kind_of, power_of}
 use Rattle.mst_net.proofs.tables_lemmas.Keys.{name_eq, names}
 use Rattle.mst_net.proofs.tables_lemmas.Changed.{itself}
-use Rattle.mst_save.specs.Making.{made}
-use Rattle.mst_save.specs.Saved.{when, joined, ports_of}
-use Rattle.mst_save.proofs.Lists.{all_append, all_flat, all_as, all_when, keys_distinct, keys_hold}
-use Rattle.mst_save.proofs.Steps.{steps, Stays, steps-append, stays, steps-when, steps-joined, steps_one, steps_none}
-use Rattle.mst_save.proofs.BridgeEnds.{AtBridge, at_bridge, bridge_step, bridge_made, table_is}
-use Rattle.mst_save.proofs.Tables.{few_trees}
+use Rattle.mst_edits.specs.save.Making.{made}
+use Rattle.mst_edits.specs.save.Saved.{when, joined, ports_of}
+use Rattle.mst_edits.proofs.save_lemmas.Lists.{all_append, all_flat, all_as, all_when, keys_distinct, keys_hold}
+use Rattle.mst_edits.proofs.save_lemmas.Steps.{steps, Stays, steps-append, stays, steps-when, steps-joined, steps_one, steps_none}
+use Rattle.mst_edits.proofs.save_lemmas.BridgeEnds.{AtBridge, at_bridge, bridge_step, bridge_made, table_is}
+use Rattle.mst_edits.proofs.save_lemmas.Tables.{few_trees}
 use Rattle.mst_edits.specs.Staying.{has_mac, bridge_stays, bridge_before, table_before, priority_before}
 use Rattle.mst_edits.specs.TableLines.{edit_of, table_after, with_ways, direct_moves, table_edits}
 use Rattle.mst_edits.specs.Edits.{unplug_edits, del_port_edits, del_lan_edits, del_bridge_edits, in_trees, is_same_configuration, priority_edits, bridge_set, bridge_settings, bridge_edits, port_edits, lan_edits, bridge_part, plug_edits, power_settings, power_edits, state_edits, going, coming, edits}

@@ -27,14 +27,14 @@ use Rattle.mst_net.proofs.tables_lemmas.Keyed.{same_keys, get_inserted, after_in
 use Rattle.mst_net.proofs.tables_lemmas.Keys.{name_eq, names, ports}
 use Rattle.mst_net.proofs.tables_lemmas.Changed.{itself, contains_changed, changed_from, value_found}
 use Rattle.mst_net.proofs.tables_lemmas.Somes.{no_some}
-use Rattle.mst_save.specs.Making.{made, Accepted}
-use Rattle.mst_save.specs.Saved.{when, joined, ports_of}
-use Rattle.mst_save.proofs.Lists.{all_append, all_when, all_map, all_flat, all_as, in_filter, distinct_filter, keys_distinct, keys_hold}
-use Rattle.mst_save.proofs.Whose.{OfPort, OfLan, all_joined}
-use Rattle.mst_save.proofs.Steps.{steps, Stays}
-use Rattle.mst_save.proofs.BridgeEnds.{AtBridge, at_bridge, bridge_step, bridge_made}
-use Rattle.mst_save.proofs.PortEnds.{AtPort, at_port, port_step, port_made, lan_step, lan_made}
-use Rattle.mst_save.proofs.Tables.{few_trees}
+use Rattle.mst_edits.specs.save.Making.{made, Accepted}
+use Rattle.mst_edits.specs.save.Saved.{when, joined, ports_of}
+use Rattle.mst_edits.proofs.save_lemmas.Lists.{all_append, all_when, all_map, all_flat, all_as, in_filter, distinct_filter, keys_distinct, keys_hold}
+use Rattle.mst_edits.proofs.save_lemmas.Whose.{OfPort, OfLan, all_joined}
+use Rattle.mst_edits.proofs.save_lemmas.Steps.{steps, Stays}
+use Rattle.mst_edits.proofs.save_lemmas.BridgeEnds.{AtBridge, at_bridge, bridge_step, bridge_made}
+use Rattle.mst_edits.proofs.save_lemmas.PortEnds.{AtPort, at_port, port_step, port_made, lan_step, lan_made}
+use Rattle.mst_edits.proofs.save_lemmas.Tables.{few_trees}
 use Rattle.mst_edits.specs.Staying.{has_mac, bridge_stays, port_stays, plug_stays, lan_of, bridge_before, settings_before, lan_before, table_before, priority_before, port_priority_before, port_cost_before, vlans_before}
 use Rattle.mst_edits.specs.TableLines.{edit_of, with_ways, direct_moves, table_edits}
 use Rattle.mst_edits.specs.Edits.{in_trees, is_same_cost, is_same_configuration, priority_edits, port_cost_edits, port_priority_edits, port_set, bridge_settings, port_settings, lan_settings, bridge_edits, port_edits, lan_edits, bridge_part, plug_edits, power_settings, power_edits, state_settings, state_edits, going, coming}

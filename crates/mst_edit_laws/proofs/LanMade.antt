@@ -14,11 +14,11 @@ use Rattle.mst_net.specs.tables.After.{has_lan, new_lan, lan_with, is_up}
 use Rattle.mst_net.specs.tables.Settings.{state_of}
 use Rattle.mst_net.proofs.tables_lemmas.Keys.{name_eq, names}
 use Rattle.mst_net.proofs.tables_lemmas.Changed.{itself}
-use Rattle.mst_save.specs.Making.{made}
-use Rattle.mst_save.specs.Saved.{when, joined, ports_of}
-use Rattle.mst_save.proofs.Lists.{all_append, all_flat, all_as, keys_distinct, keys_hold}
-use Rattle.mst_save.proofs.Steps.{steps, Stays, steps-append, stays, steps-when, steps-joined, steps_one, steps_none}
-use Rattle.mst_save.proofs.PortEnds.{lan_step, lan_made}
+use Rattle.mst_edits.specs.save.Making.{made}
+use Rattle.mst_edits.specs.save.Saved.{when, joined, ports_of}
+use Rattle.mst_edits.proofs.save_lemmas.Lists.{all_append, all_flat, all_as, keys_distinct, keys_hold}
+use Rattle.mst_edits.proofs.save_lemmas.Steps.{steps, Stays, steps-append, stays, steps-when, steps-joined, steps_one, steps_none}
+use Rattle.mst_edits.proofs.save_lemmas.PortEnds.{lan_step, lan_made}
 use Rattle.mst_edits.specs.Staying.{lan_before}
 use Rattle.mst_edits.specs.Edits.{unplug_edits, del_port_edits, del_lan_edits, del_bridge_edits, lan_set, lan_settings, bridge_edits, port_edits, lan_edits, bridge_part, plug_edits, power_edits, state_settings, state_edits, going, coming, edits}
 use Rattle.mst_edit_laws.proofs.Whose.{BridgeEdit, PortEdit, LanEdit, lan_by_bridge, lan_by_port, lan_by_other, unplugs_of, del_ports_of, del_lans_of, del_bridges_of, bridges_of, ports_are_of, lans_of, plugs_of, powers_of, states_of, others_leave}

@@ -20,11 +20,11 @@ use Rattle.mst_net.specs.tables.Contents.{port_priority_of, port_cost_of}
 use Rattle.mst_net.proofs.tables_lemmas.Keyed.{same_keys}
 use Rattle.mst_net.proofs.tables_lemmas.Keys.{name_eq, names, ports}
 use Rattle.mst_net.proofs.tables_lemmas.Changed.{itself}
-use Rattle.mst_save.specs.Making.{made}
-use Rattle.mst_save.specs.Saved.{when, joined, ports_of}
-use Rattle.mst_save.proofs.Lists.{all_append, all_flat_of, all_as, all_of, all_when, holds, in_filter, into_filter, distinct_filter, keys_distinct, keys_hold}
-use Rattle.mst_save.proofs.Steps.{steps, Stays, steps-append, stays, steps-when, steps-joined, steps_one, steps_none}
-use Rattle.mst_save.proofs.PortEnds.{AtPort, at_port, port_step, port_made}
+use Rattle.mst_edits.specs.save.Making.{made}
+use Rattle.mst_edits.specs.save.Saved.{when, joined, ports_of}
+use Rattle.mst_edits.proofs.save_lemmas.Lists.{all_append, all_flat_of, all_as, all_of, all_when, holds, in_filter, into_filter, distinct_filter, keys_distinct, keys_hold}
+use Rattle.mst_edits.proofs.save_lemmas.Steps.{steps, Stays, steps-append, stays, steps-when, steps-joined, steps_one, steps_none}
+use Rattle.mst_edits.proofs.save_lemmas.PortEnds.{AtPort, at_port, port_step, port_made}
 use Rattle.mst_edits.specs.Staying.{bridge_stays, port_stays, plug_stays, lan_of, is_same_lan, settings_before, port_priority_before, port_cost_before, vlans_before}
 use Rattle.mst_edits.specs.Edits.{unplug_edits, del_port_edits, del_lan_edits, del_bridge_edits, in_trees, is_same_cost, port_cost_edits, port_priority_edits, port_set, port_settings, bridge_edits, port_edits, lan_edits, bridge_part, plug_edits, power_edits, state_edits, going, coming, edits}
 use Rattle.mst_edit_laws.proofs.Whose.{BridgeEdit, PortEdit, LanEdit, port_by_bridge, port_by_lan, port_by_other, trees_set, unplugs_of, del_ports_of, del_lans_of, del_bridges_of, bridges_of, ports_are_of, lans_of, plugs_of, powers_of, states_of, others_leave}

@@ -13,9 +13,9 @@ use Rattle.mst_lang.specs.declared.line.Edit.{Edit}
 use Rattle.mst_net.specs.tables.Tables.{Net, IsNetwork}
 use Rattle.mst_net.specs.tables.After.{effect}
 use Rattle.mst_net.proofs.tables_lemmas.AfterLemmas.{after_accepted}
-use Rattle.mst_save.specs.Making.{made, Accepted}
-use Rattle.mst_save.specs.SaveText.{Makes, Leave, IsShort}
-use Rattle.mst_save.proofs.Spaced.{spaced_is_plain}
+use Rattle.mst_edits.specs.save.Making.{made, Accepted}
+use Rattle.mst_edits.specs.save.SaveText.{Makes, Leave, IsShort}
+use Rattle.mst_edits.proofs.save_lemmas.Spaced.{spaced_is_plain}
 use Rattle.mst_edits.specs.Edits.{edits}
 use Rattle.mst_edit_laws.specs.EditText.{edits_text, ReadAs, ChangesInto}
 use Rattle.mst_edit_laws.proofs.RowLines.{ended, row_words, said_line, text_is}

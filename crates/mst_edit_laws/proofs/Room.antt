@@ -18,14 +18,14 @@ use Rattle.mst_net.proofs.ForeseenLemmas.{foreseen_table}
 use Rattle.mst_net.proofs.tables_lemmas.Keys.{names}
 use Rattle.mst_net.proofs.tables_lemmas.Changed.{itself}
 use Rattle.mst_net.proofs.tables_lemmas.TableFits.{length-mapped}
-use Rattle.mst_save.specs.Making.{made, Accepted}
-use Rattle.mst_save.specs.Runs.{vids_of}
-use Rattle.mst_save.specs.Saved.{vids_in, fits, cut}
-use Rattle.mst_save.proofs.Lists.{all_map, all_flat_of, all_as, all_filter, holds, into_filter}
-use Rattle.mst_save.proofs.RunLemmas.{covers, set_of_runs}
-use Rattle.mst_save.proofs.Cuts.{some_line, vids_in_is}
-use Rattle.mst_save.proofs.Tables.{IsUnder, tree_in-mapped, tree_of_none, has_place, under_count}
-use Rattle.mst_save.proofs.BridgeEnds.{mstis_fit}
+use Rattle.mst_edits.specs.save.Making.{made, Accepted}
+use Rattle.mst_edits.specs.save.Runs.{vids_of}
+use Rattle.mst_edits.specs.save.Saved.{vids_in, fits, cut}
+use Rattle.mst_edits.proofs.save_lemmas.Lists.{all_map, all_flat_of, all_as, all_filter, holds, into_filter}
+use Rattle.mst_edits.proofs.save_lemmas.RunLemmas.{covers, set_of_runs}
+use Rattle.mst_edits.proofs.save_lemmas.Cuts.{some_line, vids_in_is}
+use Rattle.mst_edits.proofs.save_lemmas.Tables.{IsUnder, tree_in-mapped, tree_of_none, has_place, under_count}
+use Rattle.mst_edits.proofs.save_lemmas.BridgeEnds.{mstis_fit}
 use Rattle.mst_edits.specs.TableLines.{move, edit_of, moves_to, moved_to, crowds, unwanted, is_one_line, with_tree, gathered, gathered_first, with_way, with_ways, table_after}
 use Rattle.mst_edit_laws.proofs.Accepting.{Fine, accepted_append}
 use Rattle.mst_edit_laws.proofs.Coming.{TableRoom}

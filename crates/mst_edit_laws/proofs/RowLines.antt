@@ -23,8 +23,8 @@ use Rattle.mst_lang.specs.declared.line.LanState.TheVariants.{Up, Down}
 use Rattle.mst_net.specs.tables.After.{all_vids}
 use Rattle.mst_rows.specs.Cells.{vids}
 use Rattle.mst_rows.specs.Lines.{row_line}
-use Rattle.mst_save.specs.EditLine.{spaced, words_of, cost_text, no_vids, vlans_text}
-use Rattle.mst_save.specs.SaveRows.{of_port, first_row}
+use Rattle.mst_edits.specs.save.EditLine.{spaced, words_of, cost_text, no_vids, vlans_text}
+use Rattle.mst_edits.specs.save.SaveRows.{of_port, first_row}
 use Rattle.mst_edits.specs.EditRows.{edit_rows_of}
 
 -- a line, and its end

@@ -25,16 +25,16 @@ use Rattle.mst_net.specs.tables.Table.{has_tree, mapped, mstis_in, tree_in}
 use Rattle.mst_net.specs.tables.Tables.{Net, IsNetwork, BridgeRow, PortRow, LanRow}
 use Rattle.mst_net.specs.tables.declared.settings.PortSettings.{PortSettings}
 use Rattle.mst_net.proofs.tables_lemmas.Keys.{names, ports}
-use Rattle.mst_save.specs.EditLine.{line_of, IsSayable}
-use Rattle.mst_save.specs.Runs.{vids_of}
-use Rattle.mst_save.specs.Saved.{when, joined, mapping, fits, cut, ports_of}
-use Rattle.mst_save.specs.SaveText.{IsShort}
-use Rattle.mst_save.proofs.BridgeEnds.{table_is, mstis_fit}
-use Rattle.mst_save.proofs.Cuts.{IsLine, lines_are, line_set, line_some, one_fits}
-use Rattle.mst_save.proofs.Lists.{all_append, all_when, all_map_of, all_flat, all_flat_of, all_as, all_of, keys_hold}
-use Rattle.mst_save.proofs.RunLemmas.{runs_of_set}
-use Rattle.mst_save.proofs.Short.{HasNoList, edit_short}
-use Rattle.mst_save.proofs.Whose.{all_joined}
+use Rattle.mst_edits.specs.save.EditLine.{line_of, IsSayable}
+use Rattle.mst_edits.specs.save.Runs.{vids_of}
+use Rattle.mst_edits.specs.save.Saved.{when, joined, mapping, fits, cut, ports_of}
+use Rattle.mst_edits.specs.save.SaveText.{IsShort}
+use Rattle.mst_edits.proofs.save_lemmas.BridgeEnds.{table_is, mstis_fit}
+use Rattle.mst_edits.proofs.save_lemmas.Cuts.{IsLine, lines_are, line_set, line_some, one_fits}
+use Rattle.mst_edits.proofs.save_lemmas.Lists.{all_append, all_when, all_map_of, all_flat, all_flat_of, all_as, all_of, keys_hold}
+use Rattle.mst_edits.proofs.save_lemmas.RunLemmas.{runs_of_set}
+use Rattle.mst_edits.proofs.save_lemmas.Short.{HasNoList, edit_short}
+use Rattle.mst_edits.proofs.save_lemmas.Whose.{all_joined}
 use Rattle.mst_edits.specs.Staying.{bridge_stays, port_stays, plug_stays, bridge_before, settings_before, lan_before, table_before}
 use Rattle.mst_edits.specs.TableLines.{move, edit_of, moves_to, moved_to, direct_moves, crowds, unwanted, gathered_first, ways, with_way, with_ways, table_after}
 use Rattle.mst_edits.specs.Edits.{unplug_edits, del_port_edits, del_lan_edits, del_bridge_edits, in_trees, priority_edits, port_cost_edits, port_priority_edits, bridge_set, port_set, lan_set, bridge_settings, port_settings, lan_settings, bridge_edits, port_edits, lan_edits, bridge_part, plug_edits, power_settings, power_edits, state_settings, state_edits, going, coming, edits}

@@ -19,12 +19,12 @@ use Rattle.mst_net.specs.tables.After.{new_bridge, new_port, new_lan, in_lan, ha
 use Rattle.mst_net.proofs.tables_lemmas.Keyed.{IsKeyed}
 use Rattle.mst_net.proofs.tables_lemmas.Keys.{name_eq}
 use Rattle.mst_net.specs.tables.declared.settings.PortSettings.{PortSettings}
-use Rattle.mst_save.specs.Saved.{when, joined}
-use Rattle.mst_save.proofs.Lists.{all_when, all_map, all_flat, all_as, Distinct, holds}
-use Rattle.mst_save.proofs.Whose.{all_joined}
-use Rattle.mst_save.proofs.Steps.{steps, Stays, stays, steps_one, steps_none}
-use Rattle.mst_save.proofs.BridgeEnds.{bridge_step}
-use Rattle.mst_save.proofs.PortEnds.{port_step, lan_step}
+use Rattle.mst_edits.specs.save.Saved.{when, joined}
+use Rattle.mst_edits.proofs.save_lemmas.Lists.{all_when, all_map, all_flat, all_as, Distinct, holds}
+use Rattle.mst_edits.proofs.save_lemmas.Whose.{all_joined}
+use Rattle.mst_edits.proofs.save_lemmas.Steps.{steps, Stays, stays, steps_one, steps_none}
+use Rattle.mst_edits.proofs.save_lemmas.BridgeEnds.{bridge_step}
+use Rattle.mst_edits.proofs.save_lemmas.PortEnds.{port_step, lan_step}
 use Rattle.mst_edits.specs.TableLines.{edit_of, with_ways, direct_moves}
 use Rattle.mst_edits.specs.Staying.{bridge_stays, port_stays, plug_stays, lan_of, bridge_before, settings_before, lan_before, table_before}
 use Rattle.mst_edits.specs.Edits.{unplug_edits, del_port_edits, del_lan_edits, del_bridge_edits, in_trees, priority_edits, port_cost_edits, port_priority_edits, bridge_set, port_set, lan_set, bridge_settings, port_settings, lan_settings, bridge_edits, port_edits, lan_edits, plug_edits, power_settings, power_edits, state_settings, state_edits}

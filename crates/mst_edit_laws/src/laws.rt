@@ -3,8 +3,8 @@ ghost use Rattle.std.specs.Prelude.{◌≡◌};
 ghost use Rattle.std.specs.List.{AllByRecursion};
 ghost use Rattle.mst_lang.specs.Lines.{lines_of};
 ghost use Rattle.mst_net.specs.tables.Tables.{Net, IsNetwork};
-ghost use Rattle.mst_save.specs.Making.{made, Accepted};
-ghost use Rattle.mst_save.specs.SaveText.{IsShort};
+ghost use Rattle.mst_edits.specs.save.Making.{made, Accepted};
+ghost use Rattle.mst_edits.specs.save.SaveText.{IsShort};
 ghost use Rattle.mst_edits.specs.Edits.{edits};
 ghost use Rattle.mst_edit_laws.specs.EditText.{edits_text, ReadAs, ChangesInto};
 

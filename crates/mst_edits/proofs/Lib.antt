@@ -1,3 +1,4 @@
+pub use Rattle.mst_save.proofs as save_lemmas
 pub mod Listing
 pub mod Sets
 mod Moved

@@ -1,3 +1,4 @@
+pub use Rattle.mst_print.proofs as print_lemmas
 pub mod Skips
 pub mod Steps
 pub mod Held

@@ -7,7 +7,7 @@ use Rattle.mst_lang.specs.declared.line.Version.{Version}
 use Rattle.mst_net.specs.tables.declared.refusal.Refusal.{Refusal}
 use Rattle.mst_net.specs.tables.Tables.{Net}
 use Rattle.mst_net.specs.tables.After.{after}
-use Rattle.mst_changes.specs.declared.subject.Entry.{Entry}
+use Rattle.mst_report.specs.changes.declared.subject.Entry.{Entry}
 use Rattle.mst_report.specs.State.{State}
 use Rattle.mst_engine.specs.Script.{Serves, ServesRead, Loads, loading, unmarked, reading_at, edited, marked}
 use Rattle.mst_print.specs.Shape.{of_script}

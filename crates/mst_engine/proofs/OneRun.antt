@@ -15,7 +15,7 @@ use Rattle.mst_net.specs.tables.declared.refusal.Refusal.{Refusal}
 use Rattle.mst_net.specs.tables.Refusals as refusal
 use Rattle.mst_net.specs.tables.Tables.{Net, IsNetwork, empty_net}
 use Rattle.mst_net.specs.tables.After.{after}
-use Rattle.mst_changes.specs.declared.subject.Entry.{Entry}
+use Rattle.mst_report.specs.changes.declared.subject.Entry.{Entry}
 use Rattle.mst_report.specs.Answers.{Answers}
 use Rattle.mst_report.specs.State.{State, IsState, IsMark, IsMarkNow, empty_state}
 use Rattle.mst_rows.specs.Rows.{Row}

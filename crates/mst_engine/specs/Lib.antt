@@ -1,3 +1,4 @@
+pub use Rattle.mst_print.specs as print
 pub use Rattle.mst_report.specs as report
 pub mod Steps
 pub mod Script

@@ -15,7 +15,7 @@ use Rattle.mst_net.specs.tables.declared.refusal.Refusal.TheVariants.{E99}
 use Rattle.mst_net.specs.tables.Refusals as refusal
 use Rattle.mst_net.specs.tables.Tables.{Net}
 use Rattle.mst_net.specs.tables.After.{after}
-use Rattle.mst_changes.specs.declared.subject.Entry.{Entry}
+use Rattle.mst_report.specs.changes.declared.subject.Entry.{Entry}
 use Rattle.mst_report.specs.Answers.{Answers}
 use Rattle.mst_report.specs.State.{State, IsMarkNow, empty_state}
 use Rattle.mst_print.specs.Shape.{of_script, coded, shown, query_row}

@@ -1,3 +1,4 @@
+pub use Rattle.mst_trees.proofs as trees_lemmas
 pub mod Lower
 pub mod Firsts
 pub mod SeenTrees

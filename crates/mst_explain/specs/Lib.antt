@@ -1,3 +1,4 @@
+pub use Rattle.mst_trees.specs as trees
 pub mod Contest
 pub mod Fields
 pub mod Lines

@@ -9,7 +9,7 @@ use Rattle.mst_io.specs.declared.outcome.Outcome.{Outcome}
 use Rattle.mst_io.specs.declared.outcome.RunFault.{RunFault}
 use Rattle.mst_io.specs.declared.outcome.RunFault.TheVariants.{Read, Write, Memory}
 use Rattle.mst_hinting.specs.Hinted.{Hints, HintsFront, HintsEnded}
-use Rattle.mst_hints.specs.declared.whose.Script.{Script}
+use Rattle.mst_hinting.specs.hints.declared.whose.Script.{Script}
 use Rattle.mst_hinting.specs.Listening.{AreTold, Closed}
 use Rattle.mst_hinting.proofs.Ended.{ended_front}
 use Rattle.mst_drive.proofs.Words.{unread_alone}

@@ -3,8 +3,8 @@ use Rattle.std.specs.Prelude.{◌≡◌, ◌⊎◌, ◌==◌, ℕ, ◌<◌, ◌&
 use Rattle.std.specs.Io.KnownBytes.{Appends}
 use Rattle.mst_hinting.specs.Hinted.{Hints, HintsFront, HintsEnded}
 use Rattle.mst_hinting.specs.Listening.{StoppedBy}
-use Rattle.mst_hints.specs.declared.whose.Script.{Script}
-use Rattle.mst_hints.specs.declared.whose.Script.TheVariants.{Run}
+use Rattle.mst_hinting.specs.hints.declared.whose.Script.{Script}
+use Rattle.mst_hinting.specs.hints.declared.whose.Script.TheVariants.{Run}
 use Rattle.mst_io.specs.Devices.{Seen, Works}
 use Rattle.mst_io.specs.Written.{AppendsFront}
 use Rattle.mst_io.specs.declared.outcome.Outcome.{Outcome}

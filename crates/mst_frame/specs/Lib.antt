@@ -1,3 +1,4 @@
+pub use Rattle.mst_hinting.specs.hints as hints
 pub mod Inputs
 pub mod Opened
 pub mod Named

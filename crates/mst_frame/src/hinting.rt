@@ -8,8 +8,7 @@ ghost use Rattle.mst_frame.specs.Hinted.{are_told as asked_and_there, script_of 
 
 use crate::framed::serve_into;
 use mst_drive::Word;
-use mst_hinting::{Hinting, Telling};
-use mst_hints::Script;
+use mst_hinting::{Hinting, Script, Telling};
 use mst_io::{Outcome, RunFault, Sink, Source};
 use std::alloc::Global;
 use std::io::{BufWriter, Write};

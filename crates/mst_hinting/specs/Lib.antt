@@ -1,3 +1,4 @@
+pub use Rattle.mst_hints.specs as hints
 pub mod Lines
 pub mod Kept
 pub mod Hinted

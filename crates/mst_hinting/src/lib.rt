@@ -10,4 +10,5 @@ mod policy;
 mod telling;
 
 pub use listening::Hinting;
+pub use mst_hints::Script;
 pub use telling::Telling;

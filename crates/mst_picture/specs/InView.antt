@@ -8,10 +8,10 @@ use Rattle.mst_lag.specs.declared.in_view.LanInView.{LanInView}
 use Rattle.mst_lag.specs.declared.in_view.PortInView.{PortInView}
 use Rattle.mst_tables.specs.Seen.{bridge_row}
 use Rattle.mst_graph.specs.Lists.{has_any}
-use Rattle.mst_trees.specs.SeenRoles.{seen_tree}
-use Rattle.mst_trees.specs.Msti.{has_tree}
-use Rattle.mst_trees.specs.Settled.{SettledNet, outcome_of}
-use Rattle.mst_vlan.specs.declared.island.Island.{Island}
+use Rattle.mst_summary.specs.vlan.trees.SeenRoles.{seen_tree}
+use Rattle.mst_summary.specs.vlan.trees.Msti.{has_tree}
+use Rattle.mst_summary.specs.vlan.trees.Settled.{SettledNet, outcome_of}
+use Rattle.mst_summary.specs.vlan.declared.island.Island.{Island}
 use Rattle.mst_picture.specs.Bridges.{bridge_line, is_root, off_text, style}
 use Rattle.mst_picture.specs.Lans.{end_of, end_in_tree, end_in_vlan, ends_on, lan_text}
 use Rattle.mst_picture.specs.VlanPicture.{cluster_closing, cluster_opening, node_line, numbered}

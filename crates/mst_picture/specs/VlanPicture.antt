@@ -5,10 +5,10 @@ use Rattle.std.specs.Option.{option_map_or}
 use Rattle.std.specs.FinMap as fin
 use Rattle.mst_tables.specs.Tables.{Net}
 use Rattle.mst_graph.specs.Lists.{has_any}
-use Rattle.mst_trees.specs.Roles.{tree_of_vid}
-use Rattle.mst_trees.specs.Outcome.{Outcome}
+use Rattle.mst_summary.specs.vlan.trees.Roles.{tree_of_vid}
+use Rattle.mst_summary.specs.vlan.trees.Outcome.{Outcome}
 use Rattle.mst_graph.specs.Islands.{Island}
-use Rattle.mst_vlan.specs.Reach.{AreIslandsOf}
+use Rattle.mst_summary.specs.vlan.Reach.{AreIslandsOf}
 use Rattle.mst_picture.specs.Bridges.{is_root, off_text}
 use Rattle.mst_picture.specs.Lans.{lans_text}
 use Rattle.mst_picture.specs.Picture.{opening, closing}

@@ -1,8 +1,8 @@
 ghost use Rattle.std.specs.Prelude.{◌≡◌, ℕ, ◌++◌, List, OnOk};
 ghost use Rattle.std.specs.List.{Contains, flat_map};
-ghost use Rattle.mst_trees.specs.Settled.{outcome_of};
+ghost use Rattle.mst_summary.specs.vlan.trees.Settled.{outcome_of};
 ghost use Rattle.mst_graph.specs.Islands.{Island as NamedIsland};
-ghost use Rattle.mst_vlan.specs.Reach.{AreIslandsOf};
+ghost use Rattle.mst_summary.specs.vlan.Reach.{AreIslandsOf};
 ghost use Rattle.mst_picture.specs.VlanPicture.{node_line, node_end as node_end_by, cluster_opening, clusters};
 ghost use Rattle.mst_picture.specs.InView.{node_of, node_at, cluster_of, clusters_of};
 
@@ -11,8 +11,7 @@ use crate::pieces::push_pieces;
 use itoa::Buffer;
 use mst_ids::{BridgeNo, Name, Tree, Vid, push_bytes};
 use mst_lag::BridgeInView;
-use mst_trees::{Settled, vid_tree};
-use mst_vlan::{Island, active_ports, has_bridge, reach_from};
+use mst_summary::{Island, Settled, active_ports, has_bridge, reach_from, vid_tree};
 use std::alloc::{AllocError, Global};
 
 /// The end of a node's text, which has two borders for a root.

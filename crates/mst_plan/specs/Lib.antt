@@ -1,3 +1,4 @@
+pub use Rattle.mst_trees.specs as trees
 pub mod Standing
 pub mod Plan
 pub mod Kept

@@ -6,4 +6,8 @@ pub mod laws;
 mod plan;
 
 pub use kept::KeptPlan;
+pub use mst_trees::{
+    Forest, Role, Settled, bridge_id, cist_port, is_had, laws as trees_laws, msti_port, role_of,
+    trees_in_use,
+};
 pub use plan::{Plan, plan_beside};

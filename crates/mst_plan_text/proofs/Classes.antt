@@ -12,8 +12,8 @@ use Rattle.mst_lag.specs.Viewed.{Viewed}
 use Rattle.mst_text.specs.trees.Agrees.{AreOf}
 use Rattle.mst_text.specs.trees.Outcome.{Outcome}
 use Rattle.mst_text.specs.trees.Forest.{Forest}
-use Rattle.mst_classes.specs.Alike.{AreAlike, TellApart}
-use Rattle.mst_classes.proofs.VidPlaces.{place_of_vid}
+use Rattle.mst_text.specs.vlan.classes.Alike.{AreAlike, TellApart}
+use Rattle.mst_text.proofs.vlan_lemmas.classes_lemmas.VidPlaces.{place_of_vid}
 use Rattle.mst_plan_text.specs.Bodies.{pair_of, pairs_at, pairs_of}
 use Rattle.mst_text.proofs.vlan_lemmas.LinksAlike.{one_tree, same_ports}
 use Rattle.mst_plan_text.proofs.VidsAlike.{ports_alike}

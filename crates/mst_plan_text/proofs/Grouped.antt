@@ -7,8 +7,8 @@ use Rattle.mst_ids.specs.declared.name.PortName.{PortName}
 use Rattle.mst_graph.specs.Groups.{AreGroups}
 use Rattle.mst_graph.specs.Numbers.{HaveBodies}
 use Rattle.mst_graph.proofs.Alike.{alike_groups}
-use Rattle.mst_classes.specs.AllVids.{all_vids, NumberEach}
-use Rattle.mst_classes.proofs.VidPlaces.{vids_long, vid_at, vid_place}
+use Rattle.mst_text.specs.vlan.classes.AllVids.{all_vids, NumberEach}
+use Rattle.mst_text.proofs.vlan_lemmas.classes_lemmas.VidPlaces.{vids_long, vid_at, vid_place}
 use Rattle.mst_plan_text.specs.Bodies.{pairs_at}
 
 -- ---- groups, where a test decides whether what is seen of two is the same

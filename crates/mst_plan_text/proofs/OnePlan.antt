@@ -2,7 +2,7 @@
 use Rattle.std.proofs.Common.{◌≡◌, ◌↔◌, ℕ, zero, suc, ◌+◌, ◌<◌, ◌++◌, Bool, true, List, length, map, get_or, refl, sym, ap, subst, ◌∙◌, arith}
 use Rattle.std.specs.Cmp.{IsEquivalence}
 use Rattle.std.specs.List.{flat_map}
-use Rattle.mst_classes.specs.AllVids.{all_vids}
+use Rattle.mst_text.specs.vlan.classes.AllVids.{all_vids}
 use Rattle.mst_graph.specs.Groups.{AreGroups}
 use Rattle.mst_graph.proofs.Alike.{alike_groups}
 use Rattle.mst_tables.specs.Tables.{Net}
@@ -12,7 +12,7 @@ use Rattle.mst_text.specs.VlanText.{ports_of_vid}
 use Rattle.mst_rows.specs.Rows.{Row}
 use Rattle.mst_plan_text.specs.Bodies.{pair_of, pairs_of}
 use Rattle.mst_plan_text.specs.PlanText.{group_rows, trees_rows, Islands, AreIslandsOfEach, HaveOneBody, AreVidsRows, ArePlanRows}
-use Rattle.mst_classes.proofs.VidPlaces.{vids_once, OneGrouping}
+use Rattle.mst_text.proofs.vlan_lemmas.classes_lemmas.VidPlaces.{vids_once, OneGrouping}
 use Rattle.mst_plan_text.proofs.Pairs.{same_pairs, pairs_decide, pairs_equivalence, ports_from_pairs}
 use Rattle.mst_plan_text.proofs.PortLinks.{one_body}
 

@@ -14,7 +14,7 @@ use Rattle.mst_text.specs.trees.Forest.{Forest}
 use Rattle.mst_text.proofs.trees_lemmas.Entries.{all_weaker}
 use Rattle.mst_text.proofs.trees_lemmas.Looking.{has_tree_at}
 use Rattle.mst_text.proofs.trees_lemmas.Seen.{SeenBridge, bridges_seen}
-use Rattle.mst_trees.specs.Msti.{is_had}
+use Rattle.mst_text.specs.trees.Msti.{is_had}
 use Rattle.mst_plan_text.specs.PlanText.{mstis}
 
 any_alike : {A : Type 0} (f g : A → Bool) (xs : List A) → AllByRecursion (λ x. f x ≡ g x) xs → list_any f xs ≡ list_any g xs

@@ -8,4 +8,7 @@ pub mod laws;
 mod plan;
 mod trees;
 
+pub use mst_text::{
+    laws as text_laws, put_configuration, put_lags, put_regions, put_tree, put_vlan,
+};
 pub use plan::put_plan;

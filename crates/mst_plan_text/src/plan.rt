@@ -4,17 +4,16 @@ ghost use Rattle.mst_rows.specs.Rows.{Row};
 ghost use Rattle.mst_text.specs.trees.Settled.{outcome_of};
 ghost use Rattle.mst_text.specs.VlanText.{ports_of_vid};
 ghost use Rattle.mst_plan_text.specs.PlanText.{ArePlanRows, AreVidsRows};
-ghost use Rattle.mst_classes.specs.AllVids.{all_vids};
+ghost use Rattle.mst_text.specs.vlan.classes.AllVids.{all_vids};
 
 use crate::active::actives;
 use crate::groups::put_groups;
 use crate::trees::put_trees;
-use mst_classes::{classes_of_vids, vids};
 use mst_graph::groups_by_body;
 use mst_ids::Vid;
 use mst_rows::Rows;
-use mst_text::Settled;
 use mst_text::vlan_laws::islands_of_vid;
+use mst_text::{Settled, classes_of_vids, vids};
 use std::alloc::{AllocError, Global};
 
 /// Puts the rows of a plan: those of the CIST and of each MSTI that some bridge has, in rising order, and then the bodies

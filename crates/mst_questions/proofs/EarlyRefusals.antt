@@ -30,9 +30,9 @@ use Rattle.mst_words.specs.Explaining.{has_asked, logical_port_of, unexplained_o
 use Rattle.mst_words.specs.Explaining as unexplained
 use Rattle.mst_words.specs.declared.explaining.Unexplained.{Unexplained}
 use Rattle.mst_words.specs.declared.explaining.Unexplained.TheVariants.{NoBridge, NoPort, NoTree}
-use Rattle.mst_trees.specs.Msti.{has_msti}
+use Rattle.mst_words.specs.advise.explain.trees.Msti.{has_msti}
 use Rattle.mst_lang.specs.Faults as fault
-use Rattle.mst_print.specs.declared.form.Form.{Form}
+use Rattle.mst_tool.specs.engine.print.declared.form.Form.{Form}
 use Rattle.mst_questions.specs.Ask.{IsAnswer, Told, is_keyless, is_refused, not_given, unadvised_early, unadvised_in, undrawn_in, unexplained_early, unexplained_in}
 use Rattle.mst_questions.specs.declared.asked.Question.{Question}
 use Rattle.mst_questions.specs.declared.asked.Question.TheVariants.{Explain, Unread, Sweep, Pairs, Summary, Picture, VlanPicture, Undrawn, Advice, Unadvised}

@@ -4,7 +4,7 @@ use Rattle.mst_words.specs.Explaining.{code_of, text_of}
 use Rattle.mst_words.specs.declared.explaining.Unexplained.{Unexplained}
 use Rattle.mst_words.specs.declared.explaining.Unexplained.TheVariants.{NoBridge, NoPort, NoTree}
 use Rattle.mst_lang.specs.declared.line.Fault.TheVariants.{E03}
-use Rattle.mst_print.proofs.Plain.{plain_code, plain_text, refusal_code, refusal_text}
+use Rattle.mst_tool.proofs.engine_lemmas.print_lemmas.Plain.{plain_code, plain_text, refusal_code, refusal_text}
 use Rattle.mst_rows.specs.Answers.{IsPlain}
 
 pub why_code : (why : Unexplained) → IsPlain (code_of why)

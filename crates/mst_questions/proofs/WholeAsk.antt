@@ -21,13 +21,13 @@ use Rattle.mst_questions.specs.Ask.{Told, advised, given, is_nothing, not_given,
 use Rattle.mst_questions.specs.Shown.{advice_row, explain_row, pairs_row, summary_row, sweep_row}
 use Rattle.mst_tool.specs.engine.Engine.{Tally, outcome_of}
 use Rattle.mst_tool.specs.engine.Served.{Served}
-use Rattle.mst_print.specs.Shape.{of_script, shown}
+use Rattle.mst_tool.specs.engine.print.Shape.{of_script, shown}
 use Rattle.mst_tool.specs.engine.Steps.{left_by}
 use Rattle.mst_questions.specs.declared.asked.Asked.{Asked}
 use Rattle.mst_questions.specs.declared.asked.Question.{Question}
 use Rattle.mst_questions.specs.declared.asked.Question.TheVariants.{Explain, Unread, Sweep, Pairs, Summary, Picture, VlanPicture, Undrawn, Advice, Unadvised}
 use Rattle.mst_tool.specs.engine.declared.engine.Input.TheVariants.{Network}
-use Rattle.mst_print.specs.declared.form.Form.{Form}
+use Rattle.mst_tool.specs.engine.print.declared.form.Form.{Form}
 use Rattle.mst_tool.proofs.Shown.{one_shown, same_shown}
 use Rattle.mst_tool.proofs.WholeLoad.{LoadsStates, OneLoad, loads_same}
 

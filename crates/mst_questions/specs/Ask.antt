@@ -33,7 +33,7 @@ use Rattle.mst_tool.specs.Load.{LoadsEnded, LoadsScript}
 use Rattle.mst_tool.specs.Shown.{IsShown}
 use Rattle.mst_questions.specs.Shown.{advice_row, explain_row, pairs_row, summary_row, sweep_row}
 use Rattle.mst_tool.specs.engine.Script.{LoadsAll}
-use Rattle.mst_print.specs.Shape.{of_script, unanswered}
+use Rattle.mst_tool.specs.engine.print.Shape.{of_script, unanswered}
 use Rattle.mst_tool.specs.engine.Steps.{Step, left_by, texts_of, refusals_of, lacks_of, lacking_of}
 use Rattle.mst_io.specs.Written.{Reads}
 use Rattle.mst_questions.specs.declared.asked.Asked.{Asked}
@@ -41,7 +41,7 @@ use Rattle.mst_questions.specs.declared.asked.Question.{Question}
 use Rattle.mst_questions.specs.declared.asked.Question.TheVariants.{Explain, Unread as unread_question, Sweep, Pairs, Summary, Picture, VlanPicture, Undrawn as undrawn_question, Advice, Unadvised}
 use Rattle.mst_questions.specs.declared.asks.Answer.{Answer}
 use Rattle.mst_questions.specs.declared.asks.Answer.TheVariants.{Text, Unread, Refused, Swept, Undrawn, Advised, NotAdvised, UnreadGoal}
-use Rattle.mst_print.specs.declared.form.Form.{Form}
+use Rattle.mst_tool.specs.engine.print.declared.form.Form.{Form}
 use Rattle.mst_io.specs.declared.outcome.Outcome.{Outcome}
 
 -- what words for a bridge, a port and, where there is one, a tree ask: to explain the port. Or they ask nothing, by their fault

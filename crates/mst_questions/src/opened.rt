@@ -1,13 +1,12 @@
 ghost use Rattle.std.specs.Prelude.{None, IfOk};
-ghost use Rattle.mst_print.specs.Shape.{IsOpen};
+ghost use Rattle.mst_tool.specs.engine.print.Shape.{IsOpen};
 ghost use Rattle.mst_questions.specs.Shown.{advice_row, explain_row, pairs_row, part_words, sweep_row};
 ghost use Rattle.mst_tool.specs.Shown.{question_row};
 
 use crate::asked::Asked;
 use mst_kinds::{Kind, Query};
-use mst_print::{Form, Printer};
 use mst_rows::Value;
-use mst_tool::open_question;
+use mst_tool::{Form, Printer, open_question};
 use mst_words::{Goal, SweepPart};
 use std::alloc::{AllocError, Global};
 

@@ -9,20 +9,20 @@ use Rattle.mst_net.specs.tables.After.{table_of}
 use Rattle.mst_net.specs.tables.Tables.{Net, BridgeRow, IsNetwork}
 use Rattle.mst_net.specs.tables.declared.refusal.Refusal.{Refusal}
 use Rattle.mst_net.specs.tables.declared.refusal.Refusal.TheVariants.{E04, E16}
-use Rattle.mst_trees.specs.Outcome.{Outcome, IsOutcome}
+use Rattle.mst_plan.specs.trees.Outcome.{Outcome, IsOutcome}
 use Rattle.mst_changes.specs.ChangesText.{all_changes}
 use Rattle.mst_changes.specs.Kept.{entries_of}
 use Rattle.mst_changes.specs.declared.subject.Entry.{Entry}
-use Rattle.mst_text.specs.LagText.{lags_rows}
+use Rattle.mst_plan_text.specs.text.LagText.{lags_rows}
 use Rattle.mst_note_text.specs.NotesText.{AreNoteRows}
 use Rattle.mst_plan_text.specs.PlanText.{ArePlanRows}
-use Rattle.mst_text.specs.ConfigurationText.{configuration_rows, rows_of_bridge}
-use Rattle.mst_text.specs.RegionsText.{regions_rows}
+use Rattle.mst_plan_text.specs.text.ConfigurationText.{configuration_rows, rows_of_bridge}
+use Rattle.mst_plan_text.specs.text.RegionsText.{regions_rows}
 use Rattle.mst_rows.specs.Rows.{Row}
 use Rattle.mst_save.specs.Digest.{digest_row}
 use Rattle.mst_save.specs.SaveRows.{save_rows}
-use Rattle.mst_text.specs.TreeText.{tree_rows}
-use Rattle.mst_text.specs.VlanText.{AreVlanRows}
+use Rattle.mst_plan_text.specs.text.TreeText.{tree_rows}
+use Rattle.mst_plan_text.specs.text.VlanText.{AreVlanRows}
 use Rattle.mst_report.specs.Answers.{Answers, TellsOutcome, TellsChanges}
 use Rattle.mst_report.specs.Refusing.{HasRows}
 use Rattle.mst_report.specs.State.{State, IsState, IsMark, IsMarkNow}

@@ -9,18 +9,18 @@ use Rattle.mst_net.specs.tables.declared.refusal.Refusal.{Refusal}
 use Rattle.mst_net.specs.tables.declared.refusal.Refusal.TheVariants.{E04, E16}
 use Rattle.mst_rows.specs.Lines.{row_line}
 use Rattle.mst_rows.specs.Rows.{Row}
-use Rattle.mst_trees.specs.Outcome.{Outcome, IsOutcome}
+use Rattle.mst_plan.specs.trees.Outcome.{Outcome, IsOutcome}
 use Rattle.mst_changes.specs.ChangesText.{all_changes}
 use Rattle.mst_changes.specs.declared.subject.Entry.{Entry}
-use Rattle.mst_text.specs.LagText.{lags_rows}
+use Rattle.mst_plan_text.specs.text.LagText.{lags_rows}
 use Rattle.mst_note_text.specs.NotesText.{AreNoteRows}
 use Rattle.mst_plan_text.specs.PlanText.{ArePlanRows}
-use Rattle.mst_text.specs.ConfigurationText.{configuration_rows}
-use Rattle.mst_text.specs.RegionsText.{regions_rows}
+use Rattle.mst_plan_text.specs.text.ConfigurationText.{configuration_rows}
+use Rattle.mst_plan_text.specs.text.RegionsText.{regions_rows}
 use Rattle.mst_save.specs.Digest.{digest_row}
 use Rattle.mst_save.specs.SaveRows.{save_rows}
-use Rattle.mst_text.specs.TreeText.{tree_rows}
-use Rattle.mst_text.specs.VlanText.{AreVlanRows}
+use Rattle.mst_plan_text.specs.text.TreeText.{tree_rows}
+use Rattle.mst_plan_text.specs.text.VlanText.{AreVlanRows}
 use Rattle.mst_report.specs.State.{State, IsMark}
 
 -- an answer that tells the settled outcome of the network by these rows

@@ -10,9 +10,9 @@ ghost use Rattle.mst_changes.specs.declared.subject.Entry.{Entry};
 
 use mst_changes::laws::entries_tell;
 use mst_note_text::laws::notes;
+use mst_plan::trees_laws::{has_outcome, one_outcome};
 use mst_plan_text::laws::{has_plan, one_plan};
-use mst_text::laws::{has_rows, one_rows};
-use mst_trees::laws::{has_outcome, one_outcome};
+use mst_plan_text::text_laws::{has_rows, one_rows};
 
 /// Each query has an answer in each state, rows or a refusal.
 pub fn has_answer()

@@ -11,10 +11,10 @@ use Rattle.mst_graph.proofs.Members.{cases, from_filter, from_map, here, in_filt
 use Rattle.mst_net.specs.tables.Tables.{Net, IsNetwork}
 use Rattle.mst_lag.specs.Aggregation.{same_name}
 use Rattle.mst_rows.specs.Rows.{Row}
-use Rattle.mst_vlan.specs.Reach.{AreIslandsOf, bridges_on, lans_up}
-use Rattle.mst_trees.specs.Outcome.{Outcome, IsOutcome}
+use Rattle.mst_diff.specs.vlan.Reach.{AreIslandsOf, bridges_on, lans_up}
+use Rattle.mst_diff.specs.vlan.trees.Outcome.{Outcome, IsOutcome}
 use Rattle.mst_lag.specs.View.{bridge_names}
-use Rattle.mst_classes.specs.AllVids.{all_vids}
+use Rattle.mst_diff.specs.vlan.classes.AllVids.{all_vids}
 use Rattle.mst_diff.specs.DiffText.{AreDiffRowsOf, diff_row}
 use Rattle.mst_diff.specs.Ports.{port_rows}
 use Rattle.mst_diff.specs.Reach.{AreSides, Sides, differ, group_rows, island_bridges, reach_row, reach_unless, same_names, without}
@@ -22,10 +22,10 @@ use Rattle.mst_graph.specs.Lists.{has_any}
 use Rattle.mst_diff.specs.Regions.{region_changes}
 use Rattle.mst_diff.specs.Roots.{root_changes}
 use Rattle.mst_diff.specs.declared.diff.Differing.{Differing}
-use Rattle.mst_vlan.proofs.OneList.{OneList}
+use Rattle.mst_diff.proofs.vlan_lemmas.OneList.{OneList}
 use Rattle.mst_diff.proofs.SameSides.{names_decide}
-use Rattle.mst_classes.proofs.VidPlaces.{is_vid_there}
-use Rattle.mst_trees.proofs.Lists.{kept_from, some_is}
+use Rattle.mst_diff.proofs.vlan_lemmas.classes_lemmas.VidPlaces.{is_vid_there}
+use Rattle.mst_diff.proofs.vlan_lemmas.trees_lemmas.Lists.{kept_from, some_is}
 use Rattle.mst_verdict.specs.sweep.Cuts.{runs_of}
 use Rattle.mst_verdict.specs.sweep.Parts.{AreParts, all_parts, home, staying, stays_at}
 use Rattle.mst_verdict.proofs.sweep_lemmas.CutApart.{both_true, not_true, stays_is, two_apart}

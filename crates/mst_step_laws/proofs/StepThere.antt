@@ -7,10 +7,10 @@ use Rattle.mst_graph.specs.Groups.{AreGroups}
 use Rattle.mst_graph.specs.Islands.{Island}
 use Rattle.mst_net.specs.tables.Tables.{Net}
 use Rattle.mst_rows.specs.Rows.{Row}
-use Rattle.mst_vlan.specs.Reach.{AreIslandsOf}
-use Rattle.mst_trees.specs.Outcome.{Outcome}
+use Rattle.mst_diff.specs.vlan.Reach.{AreIslandsOf}
+use Rattle.mst_diff.specs.vlan.trees.Outcome.{Outcome}
 use Rattle.mst_lag.specs.View.{bridge_names}
-use Rattle.mst_classes.specs.AllVids.{all_vids}
+use Rattle.mst_diff.specs.vlan.classes.AllVids.{all_vids}
 use Rattle.mst_graph.specs.Lists.{has_any}
 use Rattle.mst_verdict.specs.sweep.Cuts.{runs_of}
 use Rattle.mst_verdict.specs.sweep.Moved.{moved_ports, moved_roots}

@@ -3,7 +3,7 @@ use Rattle.std.specs.Prelude.{◌≡◌, ℕ, Bool, true, List, [], ◌∷◌}
 use Rattle.std.specs.List.{Contains}
 use Rattle.mst_ids.specs.Vids.{has, runs_from}
 use Rattle.mst_rows.specs.Rows.{Row}
-use Rattle.mst_classes.specs.AllVids.{all_vids}
+use Rattle.mst_diff.specs.vlan.classes.AllVids.{all_vids}
 use Rattle.mst_policy.specs.declared.expectation.Expectation.{Expectation}
 use Rattle.mst_policy.specs.declared.expectation.Expectation.TheVariants as expect
 use Rattle.mst_policy.specs.declared.item.NameItem.TheVariants.{Any}

@@ -9,7 +9,7 @@ ghost use Rattle.mst_net.specs.tables.Tables.{Net, IsNetwork};
 ghost use Rattle.mst_policy.specs.declared.policy.PolicyLine.{PolicyLine as LineOf};
 ghost use Rattle.mst_verdict.specs.Setting.{after_lines, after_steps};
 ghost use Rattle.mst_verdict.specs.Stepping.{AreWatched, Steps};
-ghost use Rattle.mst_trees.specs.Outcome.{IsOutcome, Outcome};
+ghost use Rattle.mst_diff.specs.vlan.trees.Outcome.{IsOutcome, Outcome};
 ghost use Rattle.mst_step_laws.specs.Together.{AreAllVids, as_cut, together_all};
 ghost use Rattle.mst_verdict.specs.sweep.Cuts.{AreCutsBy};
 ghost use Rattle.mst_verdict.specs.sweep.Parts.{AreParts};
@@ -23,14 +23,14 @@ ghost use Rattle.mst_rows.specs.Rows.{Row};
 ghost use Rattle.mst_step_laws.specs.InReach.{IsInDiff, StepAndDiff};
 
 use mst_change::laws::no_line_is_left;
+use mst_diff::trees_laws::{has_outcome, one_outcome};
+use mst_diff::vlan_laws::islands_of_vid;
 use mst_graph::laws::group_lists;
 use mst_ids::Vid;
 use mst_net::laws::networks;
-use mst_trees::laws::{has_outcome, one_outcome};
 use mst_verdict::laws::one_judgement;
 use mst_verdict::sweeping_laws::one_step;
 use mst_verdict::verify_laws::reason_lists;
-use mst_vlan::laws::islands_of_vid;
 
 /// What the steps of a change do in a network: there is one list of rows and one count of them, which the network, the lines of the steps
 /// and the policy alone settle.

@@ -21,25 +21,25 @@ use Rattle.mst_lag.specs.Aggregation.{same_name}
 use Rattle.mst_lag.specs.Viewed.{Viewed, named_port}
 use Rattle.mst_lag.specs.declared.in_view.BridgeInView.{BridgeInView}
 use Rattle.mst_lag.specs.declared.in_view.PortInView.{PortInView}
-use Rattle.mst_trees.specs.Forest.{Forest}
-use Rattle.mst_trees.specs.Settled.{SettledNet, outcome_of, IsSettledNet}
-use Rattle.mst_trees.proofs.Entries.{all_weaker}
-use Rattle.mst_trees.proofs.Lists.{all_contained, all_passing, all_there}
-use Rattle.mst_trees.proofs.Looking.{filter_alike}
+use Rattle.mst_vlan.specs.trees.Forest.{Forest}
+use Rattle.mst_vlan.specs.trees.Settled.{SettledNet, outcome_of, IsSettledNet}
+use Rattle.mst_vlan.proofs.trees_lemmas.Entries.{all_weaker}
+use Rattle.mst_vlan.proofs.trees_lemmas.Lists.{all_contained, all_passing, all_there}
+use Rattle.mst_vlan.proofs.trees_lemmas.Looking.{filter_alike}
 use Rattle.mst_vlan.specs.trees.Roles.{forwards}
 use Rattle.mst_vlan.specs.trees.SeenRoles.{seen_role, seen_tree}
 use Rattle.mst_vlan.specs.Reach.{bridges_on, lans_up}
 use Rattle.mst_vlan.specs.Seen.{seen_member}
 use Rattle.mst_vlan.specs.declared.island.Island.{Island as IslandNos}
-use Rattle.mst_classes.specs.Alike.{AreAlike}
-use Rattle.mst_classes.specs.AllVids.{NumberEach}
-use Rattle.mst_classes.specs.AllVids.{all_vids}
-use Rattle.mst_classes.proofs.VidPlaces.{zip_at}
+use Rattle.mst_vlan.specs.classes.Alike.{AreAlike}
+use Rattle.mst_vlan.specs.classes.AllVids.{NumberEach}
+use Rattle.mst_vlan.specs.classes.AllVids.{all_vids}
+use Rattle.mst_vlan.proofs.classes_lemmas.VidPlaces.{zip_at}
 use Rattle.mst_vlan.proofs.LinksAlike.{links_shared}
-use Rattle.mst_classes.proofs.VidPlaces.{place_of_vid, vids_long}
+use Rattle.mst_vlan.proofs.classes_lemmas.VidPlaces.{place_of_vid, vids_long}
 use Rattle.mst_graph.specs.Lists.{has_any}
 use Rattle.mst_summary.specs.Carries.{are_of_two}
-use Rattle.mst_classes.specs.Classes.{AreClasses}
+use Rattle.mst_vlan.specs.classes.Classes.{AreClasses}
 use Rattle.mst_summary.specs.Kept.{count_at}
 use Rattle.mst_summary.specs.Seen.{seen_with_bridge, seen_on, seen_carries, seen_over}
 use Rattle.mst_summary.specs.Vlans.{with_bridge, HasIslands}

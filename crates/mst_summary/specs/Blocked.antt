@@ -7,7 +7,7 @@ use Rattle.mst_rows.specs.Cells.{number, ports}
 use Rattle.mst_rows.specs.Rows.{Row, row_of}
 use Rattle.mst_tables.specs.Tables.{Net}
 use Rattle.mst_lag.specs.View.{LogicalPort, view_ports}
-use Rattle.mst_trees.specs.Outcome.{Outcome}
+use Rattle.mst_vlan.specs.trees.Outcome.{Outcome}
 use Rattle.mst_vlan.specs.trees.Roles.{role_of, forwards}
 use Rattle.mst_vlan.specs.trees.declared.kind.Role.{Role}
 

@@ -10,10 +10,10 @@ use Rattle.mst_tables.specs.Tables.{Net}
 use Rattle.mst_lag.specs.Aggregation.{same_name}
 use Rattle.mst_lag.specs.Trees.{is_among}
 use Rattle.mst_lag.specs.View.{LogicalPort, view_ports}
-use Rattle.mst_trees.specs.Outcome.{Outcome}
+use Rattle.mst_vlan.specs.trees.Outcome.{Outcome}
 use Rattle.mst_vlan.specs.trees.Roles.{forwards_for}
 use Rattle.mst_vlan.specs.Reach.{is_member, lans_up}
-use Rattle.mst_classes.specs.AllVids.{all_vids}
+use Rattle.mst_vlan.specs.classes.AllVids.{all_vids}
 
 -- ---- what goes over a logical LAN
 -- the logical ports of a logical LAN

@@ -1,3 +1,6 @@
+pub use Rattle.mst_slips.specs as slips
+pub use Rattle.mst_facts.specs as facts
+pub use Rattle.mst_vlan.specs as vlan
 pub mod Counts
 pub mod Roots
 pub mod Blocked

@@ -7,8 +7,7 @@ ghost use Rattle.mst_summary.specs.Seen.{seen_carries, seen_joins, seen_over};
 
 use mst_ids::Vid;
 use mst_lag::PortInView;
-use mst_trees::Settled;
-use mst_vlan::{is_member, port_forwards};
+use mst_vlan::{Settled, is_member, port_forwards};
 use std::alloc::{AllocError, Global};
 
 /// Whether a port is active for a VID and a member of its VLAN.

@@ -1,3 +1,5 @@
+pub use Rattle.mst_facts.proofs as facts_lemmas
+pub use Rattle.mst_vlan.proofs as vlan_lemmas
 pub mod HomesNamed
 pub mod HomesOf
 pub mod AllFailures

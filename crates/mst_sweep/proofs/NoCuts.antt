@@ -6,7 +6,7 @@ use Rattle.std.specs.List.{filter, flat_map, list_any}
 use Rattle.std.proofs.lemmas.Bool.{or_parts}
 use Rattle.mst_ids.specs.Vids.{is_vid}
 use Rattle.mst_graph.specs.Groups.{AreGroups}
-use Rattle.mst_classes.specs.AllVids.{all_vids}
+use Rattle.mst_vlan.specs.classes.AllVids.{all_vids}
 use Rattle.mst_graph.specs.Lists.{has_any}
 use Rattle.mst_sweep.specs.declared.cuts.CutBy.{CutBy}
 use Rattle.mst_sweep.specs.Cuts.{cut_row, group_rows, names_of, runs_of, AreCutsBy}

@@ -5,9 +5,9 @@ use Rattle.std.specs.List.{AllZip, count_by, filter_map, flat_map}
 use Rattle.mst_graph.specs.Groups.{AreGroups}
 use Rattle.mst_graph.specs.Islands.{Island}
 use Rattle.mst_net.specs.tables.Tables.{Net, IsNetwork}
-use Rattle.mst_trees.specs.Outcome.{Outcome, IsOutcome}
+use Rattle.mst_vlan.specs.trees.Outcome.{Outcome, IsOutcome}
 use Rattle.mst_vlan.specs.Reach.{AreIslandsOf}
-use Rattle.mst_classes.proofs.VidPlaces.{OneGrouping}
+use Rattle.mst_vlan.proofs.classes_lemmas.VidPlaces.{OneGrouping}
 use Rattle.mst_lag.specs.View.{bridge_names}
 use Rattle.mst_graph.specs.Lists.{has_any}
 use Rattle.mst_vlan.proofs.OneList.{OneList}

@@ -12,11 +12,11 @@ use Rattle.mst_lang.specs.declared.line.Edit.{Edit}
 use Rattle.mst_net.specs.tables.After.{after}
 use Rattle.mst_net.specs.tables.Tables.{Net, BridgeRow, LanRow, IsNetwork}
 use Rattle.mst_net.proofs.tables_lemmas.Keys.{names}
-use Rattle.mst_trees.specs.Outcome.{Outcome, IsOutcome}
-use Rattle.mst_trees.proofs.Entries.{entries_found}
-use Rattle.mst_trees.proofs.Lists.{all_contained}
+use Rattle.mst_vlan.specs.trees.Outcome.{Outcome, IsOutcome}
+use Rattle.mst_vlan.proofs.trees_lemmas.Entries.{entries_found}
+use Rattle.mst_vlan.proofs.trees_lemmas.Lists.{all_contained}
 use Rattle.mst_vlan.specs.Reach.{AreIslandsOf, bridges_on}
-use Rattle.mst_classes.proofs.VidPlaces.{OneGrouping}
+use Rattle.mst_vlan.proofs.classes_lemmas.VidPlaces.{OneGrouping}
 use Rattle.mst_lag.specs.View.{bridge_names}
 use Rattle.mst_graph.specs.Lists.{has_any}
 use Rattle.mst_vlan.proofs.OneList.{OneList}

@@ -8,9 +8,9 @@ use Rattle.std.proofs.lemmas.List.FromFn.{get_or-range_with_len}
 use Rattle.mst_graph.specs.Groups.{AreGroups}
 use Rattle.mst_graph.specs.Numbers.{HaveBodies}
 use Rattle.mst_graph.proofs.Alike.{alike_groups}
-use Rattle.mst_classes.specs.AllVids.{all_vids}
-use Rattle.mst_classes.specs.AllVids.{NumberEach}
-use Rattle.mst_classes.proofs.VidPlaces.{vids_long, vid_place}
+use Rattle.mst_vlan.specs.classes.AllVids.{all_vids}
+use Rattle.mst_vlan.specs.classes.AllVids.{NumberEach}
+use Rattle.mst_vlan.proofs.classes_lemmas.VidPlaces.{vids_long, vid_place}
 use Rattle.mst_sweep.specs.Cuts.{parts_at}
 
 abbrev pub same_names : List (List ℕ) → List (List ℕ) → Bool

@@ -16,22 +16,22 @@ use Rattle.mst_lag.specs.View.{LogicalPort, bridge_names}
 use Rattle.mst_lag.specs.Viewed.{Viewed, named_port}
 use Rattle.mst_lag.specs.declared.in_view.BridgeInView.{BridgeInView}
 use Rattle.mst_lag.specs.declared.in_view.PortInView.{PortInView}
-use Rattle.mst_trees.specs.Agrees.{AreOf}
-use Rattle.mst_trees.specs.Forest.{Forest}
-use Rattle.mst_trees.specs.Outcome.{Outcome}
-use Rattle.mst_trees.proofs.Entries.{all_weaker, entries_found}
-use Rattle.mst_trees.proofs.Lists.{all_there, all_contained, all_mapped, all_unmapped, kept_same, mapped_twice, no_some}
-use Rattle.mst_trees.proofs.Seen.{bridge_seen}
+use Rattle.mst_vlan.specs.trees.Agrees.{AreOf}
+use Rattle.mst_vlan.specs.trees.Forest.{Forest}
+use Rattle.mst_vlan.specs.trees.Outcome.{Outcome}
+use Rattle.mst_vlan.proofs.trees_lemmas.Entries.{all_weaker, entries_found}
+use Rattle.mst_vlan.proofs.trees_lemmas.Lists.{all_there, all_contained, all_mapped, all_unmapped, kept_same, mapped_twice, no_some}
+use Rattle.mst_vlan.proofs.trees_lemmas.Seen.{bridge_seen}
 use Rattle.mst_vlan.specs.Reach.{bridges_on, lans_up, vid_links, AreIslandsOf}
 use Rattle.mst_vlan.proofs.Renumbered.{bridge_listed}
-use Rattle.mst_classes.specs.Alike.{AreAlike}
+use Rattle.mst_vlan.specs.classes.Alike.{AreAlike}
 use Rattle.mst_vlan.proofs.LinksAlike.{links_shared}
-use Rattle.mst_trees.proofs.Pieces.{filter_map-map}
+use Rattle.mst_vlan.proofs.trees_lemmas.Pieces.{filter_map-map}
 use Rattle.mst_facts.specs.declared.both.Both.{Both}
 use Rattle.mst_facts.specs.Both.{seen_in_both, seen_both}
 use Rattle.mst_facts.proofs.Lists.{filter_map-filter_map, find-found}
 use Rattle.mst_facts.proofs.Named.{found_named, names_are}
-use Rattle.mst_classes.specs.Classes.{HasOnly}
+use Rattle.mst_vlan.specs.classes.Classes.{HasOnly}
 use Rattle.mst_net.proofs.tables_lemmas.Keys.{names}
 use Rattle.mst_sweep.specs.declared.parts.Stays.{Stays}
 use Rattle.mst_sweep.specs.Parts.{home, staying, AreParts}

@@ -8,11 +8,11 @@ use Rattle.mst_graph.specs.Numbers.{AreNumbers}
 use Rattle.mst_net.specs.tables.ByTree.{table_in, vlans_in}
 use Rattle.mst_net.specs.tables.Tables.{Net, Numbers}
 use Rattle.mst_lag.specs.Viewed.{Viewed}
-use Rattle.mst_trees.specs.Agrees.{AreOf}
-use Rattle.mst_trees.specs.Forest.{Forest, IsForest}
-use Rattle.mst_trees.specs.Outcome.{Outcome}
+use Rattle.mst_vlan.specs.trees.Agrees.{AreOf}
+use Rattle.mst_vlan.specs.trees.Forest.{Forest, IsForest}
+use Rattle.mst_vlan.specs.trees.Outcome.{Outcome}
 use Rattle.mst_vlan.specs.Reach.{AreIslandsOf}
-use Rattle.mst_classes.specs.Alike.{TellApart}
+use Rattle.mst_vlan.specs.classes.Alike.{TellApart}
 use Rattle.mst_sweep.specs.Parts.{home}
 use Rattle.mst_sweep.specs.declared.baseline.Baseline.{Baseline}
 

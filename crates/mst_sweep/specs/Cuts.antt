@@ -13,8 +13,8 @@ use Rattle.mst_rows.specs.Rows.{Row, row_of}
 use Rattle.mst_graph.specs.Groups.{AreGroups}
 use Rattle.mst_net.specs.tables.Tables.{Net}
 use Rattle.mst_lag.specs.Trees.{is_among}
-use Rattle.mst_trees.specs.Outcome.{Outcome}
-use Rattle.mst_classes.specs.AllVids.{all_vids}
+use Rattle.mst_vlan.specs.trees.Outcome.{Outcome}
+use Rattle.mst_vlan.specs.classes.AllVids.{all_vids}
 use Rattle.mst_graph.specs.Lists.{has_any}
 use Rattle.mst_sweep.specs.declared.cuts.CutBy.{CutBy}
 use Rattle.mst_sweep.specs.declared.cuts.CutBy.TheVariants.{One, Both, Step, Edits}

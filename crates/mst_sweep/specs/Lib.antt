@@ -1,3 +1,5 @@
+pub use Rattle.mst_facts.specs as facts
+pub use Rattle.mst_vlan.specs as vlan
 pub mod Between
 pub mod Failures
 pub mod Left

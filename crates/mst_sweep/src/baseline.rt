@@ -1,17 +1,16 @@
 ghost use Rattle.std.specs.Prelude.{◌≡◌, ◌<◌, ◌+◌, IfOk, length, map, slice_index, vec_len};
 ghost use Rattle.std.specs.List.{All, AllZip};
 ghost use Rattle.mst_net.specs.tables.Tables.{Net, Numbers};
-ghost use Rattle.mst_trees.specs.Agrees.{AreOf, Known};
-ghost use Rattle.mst_trees.specs.Forest.{IsForest};
+ghost use Rattle.mst_vlan.specs.trees.Agrees.{AreOf, Known};
+ghost use Rattle.mst_vlan.specs.trees.Forest.{IsForest};
 ghost use Rattle.mst_sweep.specs.Baseline.{AreHomes, IsBaseline};
 
 use crate::homes::homes_by;
 use indexmap::IndexMap;
-use mst_classes::classes_of_vids;
 use mst_facts::Planned;
 use mst_graph::Numbering;
 use mst_ids::{BridgeNo, Vid};
-use mst_vlan::Carriage;
+use mst_vlan::{Carriage, classes_of_vids};
 use std::alloc::{AllocError, Global};
 
 /// What stays the same for all failures of a network: the classes of its VIDs, and which island each bridge is in before.

@@ -2,8 +2,8 @@ ghost use Rattle.std.specs.Prelude.{◌≡◌, ◌++◌, ◌<◌, ◌+◌, ◌�
 ghost use Rattle.std.specs.Option.{ForSome, option_copied};
 ghost use Rattle.mst_ids.specs.Vids.{runs_from};
 ghost use Rattle.mst_rows.specs.Rows.{Row};
-ghost use Rattle.mst_trees.specs.Agrees.{Known};
-ghost use Rattle.mst_classes.specs.AllVids.{NumberEach};
+ghost use Rattle.mst_vlan.specs.trees.Agrees.{Known};
+ghost use Rattle.mst_vlan.specs.classes.AllVids.{NumberEach};
 ghost use Rattle.mst_graph.specs.Lists.{has_any};
 ghost use Rattle.mst_facts.specs.Both.{seen_both};
 ghost use Rattle.mst_sweep.specs.Between.{OfPair, pair_of};
@@ -22,14 +22,13 @@ use crate::pairs::pairs;
 use crate::parts::all_parts;
 use crate::single::{Single, where_touched};
 use crate::with_both::{Homes, staying_with_both};
-use mst_classes::set_of;
 use mst_facts::{Both, Planned};
 use mst_graph::Numbering;
 use mst_ids::{Name, Vid, VidSet};
 use mst_kinds::{Kind, SweepLine};
 use mst_rows::{Rows, Value, put};
-use mst_vlan::Carriage;
 use mst_vlan::laws::islands_of_vid;
+use mst_vlan::{Carriage, set_of};
 use std::alloc::{AllocError, Global};
 
 /// The parts that both failures of a pair make of a class of VIDs: none where no link between bridges goes of it.

@@ -4,9 +4,9 @@ ghost use Rattle.std.specs.Option.{ForSome, option_copied};
 ghost use Rattle.mst_ids.specs.Vids.{runs_from};
 ghost use Rattle.mst_rows.specs.Rows.{Row};
 ghost use Rattle.mst_net.specs.tables.Tables.{Net, Numbers};
-ghost use Rattle.mst_trees.specs.Agrees.{AreOf, Known};
-ghost use Rattle.mst_trees.specs.Forest.{IsForest};
-ghost use Rattle.mst_classes.specs.AllVids.{NumberEach};
+ghost use Rattle.mst_vlan.specs.trees.Agrees.{AreOf, Known};
+ghost use Rattle.mst_vlan.specs.trees.Forest.{IsForest};
+ghost use Rattle.mst_vlan.specs.classes.AllVids.{NumberEach};
 ghost use Rattle.mst_graph.specs.Lists.{has_any};
 ghost use Rattle.mst_facts.specs.Both.{seen_both};
 ghost use Rattle.mst_sweep.specs.Between.{OfNetworks, OfNumbered};
@@ -27,14 +27,13 @@ use crate::failure::Failure;
 use crate::homes::{homes_by, homes_of};
 use crate::parts::{all_parts, staying};
 use indexmap::IndexMap;
-use mst_classes::{set_of, vids};
 use mst_facts::{Both, Planned};
 use mst_graph::laws::group_lists;
 use mst_graph::{Numbering, groups_by_body};
 use mst_ids::{BridgeNo, Name, Vid, VidSet};
 use mst_kinds::{AdviseLine, Kind, StepLine, SweepLine};
 use mst_rows::{Rows, Value, put};
-use mst_vlan::Carriage;
+use mst_vlan::{Carriage, set_of, vids};
 use std::alloc::{AllocError, Global};
 
 /// What cuts VIDs.

@@ -3,7 +3,7 @@ ghost use Rattle.std.specs.List.{count_by};
 ghost use Rattle.mst_ids.specs.Vids.{runs_from};
 ghost use Rattle.mst_rows.specs.Rows.{Row};
 ghost use Rattle.mst_net.specs.tables.After.{after};
-ghost use Rattle.mst_trees.specs.Agrees.{Known};
+ghost use Rattle.mst_vlan.specs.trees.Agrees.{Known};
 ghost use Rattle.mst_sweep.specs.Between.{OfNetworks};
 ghost use Rattle.mst_sweep.specs.Failures.{edit_of};
 ghost use Rattle.mst_sweep.specs.Baseline.{IsBaseline};
@@ -18,11 +18,11 @@ use crate::pairs::pairs;
 use crate::ports::moved_ports;
 use crate::roots::moved_roots;
 use crate::touched::{places_of, touched};
-use mst_classes::set_of;
 use mst_facts::Planned;
 use mst_ids::{Name, Tree, VidSet};
 use mst_kinds::{Kind, SweepLine};
 use mst_rows::{Rows, Value, put};
+use mst_vlan::set_of;
 use std::alloc::{AllocError, Global};
 
 /// Puts the row of a LAN that fails.

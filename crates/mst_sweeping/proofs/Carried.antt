@@ -8,19 +8,19 @@ use Rattle.mst_net.specs.tables.ByTree.{vlans_in}
 use Rattle.mst_net.specs.tables.Tables.{Net, Numbers}
 use Rattle.mst_lag.specs.View.{LogicalPort}
 use Rattle.mst_lag.specs.Viewed.{Viewed, named_port}
-use Rattle.mst_vlan.specs.Active.{active_ports}
-use Rattle.mst_vlan.specs.Reach.{is_member, vid_links}
-use Rattle.mst_vlan.specs.Seen.{seen_active}
-use Rattle.mst_vlan.proofs.Listed.{active_listed}
-use Rattle.mst_vlan.proofs.LinksAlike.{members_shared, links_shared}
-use Rattle.mst_trees.specs.Agrees.{AreOf}
-use Rattle.mst_trees.specs.Forest.{Forest, IsForest}
-use Rattle.mst_trees.specs.Outcome.{Outcome}
-use Rattle.mst_classes.specs.Alike.{AreAlike}
-use Rattle.mst_trees.proofs.Lists.{filter_mapped}
+use Rattle.mst_sweep.specs.vlan.Active.{active_ports}
+use Rattle.mst_sweep.specs.vlan.Reach.{is_member, vid_links}
+use Rattle.mst_sweep.specs.vlan.Seen.{seen_active}
+use Rattle.mst_sweep.proofs.vlan_lemmas.Listed.{active_listed}
+use Rattle.mst_sweep.proofs.vlan_lemmas.LinksAlike.{members_shared, links_shared}
+use Rattle.mst_plan.specs.trees.Agrees.{AreOf}
+use Rattle.mst_plan.specs.trees.Forest.{Forest, IsForest}
+use Rattle.mst_plan.specs.trees.Outcome.{Outcome}
+use Rattle.mst_sweep.specs.vlan.classes.Alike.{AreAlike}
+use Rattle.mst_plan.proofs.trees_lemmas.Lists.{filter_mapped}
 use Rattle.mst_sweeping.specs.declared.links.Link.{Link}
 use Rattle.mst_sweeping.specs.Links.{link_of, carried}
-use Rattle.mst_classes.specs.Classes.{HasOnly}
+use Rattle.mst_sweep.specs.vlan.classes.Classes.{HasOnly}
 use Rattle.mst_sweeping.specs.Seen.{seen_link_of, seen_carried}
 
 module _ (net : Net) (numbers : Numbers) (v : Viewed) (f : Forest) (of : AreOf net numbers v f.regions) (is : IsForest net numbers f) (vid : ℕ) where

@@ -5,11 +5,11 @@ use Rattle.mst_ids.specs.Vids.{is_vid}
 use Rattle.mst_graph.proofs.Members.{from_filter, here, in_filter, in_none}
 use Rattle.mst_net.specs.tables.Tables.{Net}
 use Rattle.mst_rows.specs.Rows.{Row}
-use Rattle.mst_trees.specs.Outcome.{Outcome}
-use Rattle.mst_classes.specs.AllVids.{all_vids}
+use Rattle.mst_plan.specs.trees.Outcome.{Outcome}
+use Rattle.mst_sweep.specs.vlan.classes.AllVids.{all_vids}
 use Rattle.mst_graph.specs.Lists.{has_any}
-use Rattle.mst_classes.proofs.VidPlaces.{is_vid_there}
-use Rattle.mst_vlan.proofs.OneList.{OneList}
+use Rattle.mst_sweep.proofs.vlan_lemmas.classes_lemmas.VidPlaces.{is_vid_there}
+use Rattle.mst_sweep.proofs.vlan_lemmas.OneList.{OneList}
 use Rattle.mst_sweep.proofs.OneSweep.{one_parts}
 use Rattle.mst_sweeping.specs.declared.step.Deed.{Deed}
 use Rattle.mst_sweeping.specs.declared.step.Stepped.{Stepped}

@@ -4,9 +4,9 @@ use Rattle.std.specs.List.{AllZip}
 use Rattle.std.proofs.lemmas.Bool.{eqb-true}
 use Rattle.mst_ids.specs.Vids.{is_vid}
 use Rattle.mst_graph.specs.Numbers.{AreNumbers}
-use Rattle.mst_classes.specs.Alike.{AreAlike, TellApart}
-use Rattle.mst_classes.proofs.VidPlaces.{zip_at}
-use Rattle.mst_classes.proofs.VidPlaces.{place_of_vid}
+use Rattle.mst_sweep.specs.vlan.classes.Alike.{AreAlike, TellApart}
+use Rattle.mst_sweep.proofs.vlan_lemmas.classes_lemmas.VidPlaces.{zip_at}
+use Rattle.mst_sweep.proofs.vlan_lemmas.classes_lemmas.VidPlaces.{place_of_vid}
 
 module _ {B : Type 0} (R : ℕ → B → Type 0) (none : B) (tables : List (List ℕ)) (sets : List (List Bool)) (moved : (x y : ℕ) → AreAlike tables sets x y → (body : B) → R x body → R y body)
     (told classes firsts : List ℕ) (tell : TellApart tables sets told) (are : AreNumbers nat_eq told classes firsts) (bodies : List B) (at : AllZip (λ place body. R (place + 1) body) firsts bodies) where

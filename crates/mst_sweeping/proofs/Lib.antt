@@ -1,3 +1,5 @@
+pub use Rattle.mst_plan.proofs as plan_lemmas
+pub use Rattle.mst_sweep.proofs as sweep_lemmas
 pub mod Swept
 pub mod SweptParts
 pub mod SweepThere

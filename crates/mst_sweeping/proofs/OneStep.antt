@@ -4,14 +4,14 @@ use Rattle.std.specs.List.{Contains, flat_map}
 use Rattle.std.proofs.lemmas.List.{append-nil}
 use Rattle.mst_net.specs.tables.Tables.{Net}
 use Rattle.mst_rows.specs.Rows.{Row}
-use Rattle.mst_trees.specs.Outcome.{Outcome}
-use Rattle.mst_classes.specs.AllVids.{all_vids}
+use Rattle.mst_plan.specs.trees.Outcome.{Outcome}
+use Rattle.mst_sweep.specs.vlan.classes.AllVids.{all_vids}
 use Rattle.mst_graph.specs.Lists.{has_any}
-use Rattle.mst_trees.proofs.Entries.{all_weaker}
-use Rattle.mst_trees.proofs.Lists.{all_there}
-use Rattle.mst_trees.proofs.Looking.{filter_alike}
-use Rattle.mst_classes.proofs.VidPlaces.{is_vid_there, OneGrouping}
-use Rattle.mst_vlan.proofs.OneList.{OneList}
+use Rattle.mst_plan.proofs.trees_lemmas.Entries.{all_weaker}
+use Rattle.mst_plan.proofs.trees_lemmas.Lists.{all_there}
+use Rattle.mst_plan.proofs.trees_lemmas.Looking.{filter_alike}
+use Rattle.mst_sweep.proofs.vlan_lemmas.classes_lemmas.VidPlaces.{is_vid_there, OneGrouping}
+use Rattle.mst_sweep.proofs.vlan_lemmas.OneList.{OneList}
 use Rattle.mst_sweep.specs.declared.cuts.CutBy.TheVariants as by
 use Rattle.mst_sweep.specs.declared.failure.Failure.{Failure}
 use Rattle.mst_sweep.specs.Cuts.{group_rows, runs_of, AreCutsBy}

@@ -9,18 +9,18 @@ use Rattle.mst_graph.specs.Walks.{bridge_at}
 use Rattle.mst_net.specs.tables.Tables.{Net, Numbers, port_eq}
 use Rattle.mst_lag.specs.Aggregation.{same_name}
 use Rattle.mst_lag.specs.Viewed.{Viewed}
-use Rattle.mst_vlan.specs.Reach.{bridges_on, lans_up, vid_links, AreIslandsOf}
-use Rattle.mst_trees.specs.Agrees.{AreOf}
-use Rattle.mst_trees.specs.Forest.{Forest, IsForest}
-use Rattle.mst_trees.specs.Outcome.{Outcome}
-use Rattle.mst_classes.specs.Alike.{AreAlike}
-use Rattle.mst_vlan.proofs.trees_lemmas.Named.{port_is, port_same}
+use Rattle.mst_sweep.specs.vlan.Reach.{bridges_on, lans_up, vid_links, AreIslandsOf}
+use Rattle.mst_plan.specs.trees.Agrees.{AreOf}
+use Rattle.mst_plan.specs.trees.Forest.{Forest, IsForest}
+use Rattle.mst_plan.specs.trees.Outcome.{Outcome}
+use Rattle.mst_sweep.specs.vlan.classes.Alike.{AreAlike}
+use Rattle.mst_sweep.proofs.vlan_lemmas.trees_lemmas.Named.{port_is, port_same}
 use Rattle.mst_sweep.specs.Parts.{AreParts}
 use Rattle.mst_sweep.proofs.StillJoined.{no_parts}
 use Rattle.mst_sweeping.specs.declared.links.Link.{Link}
 use Rattle.mst_sweeping.specs.Links.{carried, shared, staying, stays, same_link, same_links}
 use Rattle.mst_sweeping.specs.MovedVids.{IsCut, IsJoined, IsMoved, links_differ}
-use Rattle.mst_classes.specs.Classes.{HasOnly}
+use Rattle.mst_sweep.specs.vlan.classes.Classes.{HasOnly}
 use Rattle.mst_sweeping.specs.Seen.{seen_carried, seen_differ}
 use Rattle.mst_sweeping.proofs.Carried.{carried_alike, carried_same, ends_alike, ends_by, links_by}
 use Rattle.mst_sweeping.proofs.OnNamed.{stays_same}

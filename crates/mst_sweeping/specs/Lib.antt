@@ -1,3 +1,5 @@
+pub use Rattle.mst_plan.specs as plan
+pub use Rattle.mst_sweep.specs as sweep
 pub mod Sweeping
 pub mod Pairing
 pub mod Links

@@ -2,8 +2,8 @@
 use Rattle.std.specs.Prelude.{◌≡◌, ℕ, ◌||◌, not, Bool, true, List, filter}
 use Rattle.mst_ids.specs.Vids.{is_vid}
 use Rattle.mst_net.specs.tables.Tables.{Net}
-use Rattle.mst_trees.specs.Outcome.{Outcome}
-use Rattle.mst_classes.specs.AllVids.{all_vids}
+use Rattle.mst_plan.specs.trees.Outcome.{Outcome}
+use Rattle.mst_sweep.specs.vlan.classes.AllVids.{all_vids}
 use Rattle.mst_graph.specs.Lists.{has_any}
 use Rattle.mst_sweep.specs.Parts.{AreParts}
 use Rattle.mst_sweeping.specs.Links.{links_between, same_links, stays}

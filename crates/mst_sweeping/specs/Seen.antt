@@ -11,10 +11,10 @@ use Rattle.mst_net.specs.tables.Tables.{port_eq}
 use Rattle.mst_lag.specs.Aggregation.{same_name}
 use Rattle.mst_lag.specs.Viewed.{Viewed}
 use Rattle.mst_lag.specs.declared.in_view.PortInView.{PortInView}
-use Rattle.mst_vlan.specs.Seen.{seen_active, seen_member}
-use Rattle.mst_trees.specs.Forest.{Forest}
-use Rattle.mst_facts.specs.declared.both.Both.{Both}
-use Rattle.mst_facts.specs.Told.{same_told}
+use Rattle.mst_sweep.specs.vlan.Seen.{seen_active, seen_member}
+use Rattle.mst_plan.specs.trees.Forest.{Forest}
+use Rattle.mst_sweep.specs.facts.declared.both.Both.{Both}
+use Rattle.mst_sweep.specs.facts.Told.{same_told}
 use Rattle.mst_sweep.specs.Seen.{seen_port_moved}
 use Rattle.mst_sweeping.specs.Links.{shared, staying, same_links}
 use Rattle.mst_sweeping.specs.declared.links.Link.{Link}

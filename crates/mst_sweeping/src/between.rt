@@ -1,15 +1,15 @@
 ghost use Rattle.std.specs.Prelude.{List, IfOk};
 ghost use Rattle.mst_net.specs.tables.Tables.{Net, Numbers};
-ghost use Rattle.mst_trees.specs.Agrees.{Known};
+ghost use Rattle.mst_plan.specs.trees.Agrees.{Known};
 ghost use Rattle.mst_plan.specs.Plan.{IsPlan};
 ghost use Rattle.mst_sweeping.specs.Sweeping.{Puts};
 ghost use Rattle.mst_rows.specs.Rows.{Row};
 ghost use Rattle.mst_sweeping.specs.StepText.{AreStepRows};
 
 use crate::step::{Deed, Stepped, put_step};
-use mst_facts::Planned;
 use mst_plan::Plan;
 use mst_rows::Rows;
+use mst_sweep::Planned;
 use std::alloc::{AllocError, Global};
 
 /// Puts what a step does, or edits that are advised, by the plan before it and the one after it.

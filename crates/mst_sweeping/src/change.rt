@@ -1,14 +1,13 @@
 ghost use Rattle.std.specs.Prelude.{◌≡◌, ℕ, List};
 ghost use Rattle.std.specs.HashSet.{contains};
 ghost use Rattle.mst_lag.specs.Aggregation.{same_name};
-ghost use Rattle.mst_facts.specs.Both.{seen_both};
+ghost use Rattle.mst_sweep.specs.facts.Both.{seen_both};
 ghost use Rattle.mst_sweep.specs.Breaking.{IsCarriageOf};
 ghost use Rattle.mst_sweeping.specs.Seen.{seen_on, seen_stays};
 
 use indexmap::IndexSet;
-use mst_facts::{Both, Planned};
 use mst_ids::Name;
-use mst_vlan::Carriage;
+use mst_sweep::{Both, Carriage, Planned};
 
 /// Two settled networks, one before a step and one after it, what carries each VID in them, the bridges that both have, in the order of
 /// the one and in that of the other, and the names of the bridges that are on in each.

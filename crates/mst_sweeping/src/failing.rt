@@ -9,9 +9,8 @@ use mst_config::Regions;
 use mst_config::laws::regions_stay;
 use mst_lag::View;
 use mst_net::{Contents, Network};
-use mst_plan::Plan;
+use mst_plan::{Forest, Plan};
 use mst_sweep::{Failing, Failure};
-use mst_trees::Forest;
 use std::alloc::{AllocError, Global};
 
 /// The trees of a network with a failure, by one repair of those that stand. The view, which is the network's, is that network's

@@ -1,5 +1,5 @@
 ghost use Rattle.std.specs.Prelude.{◌≡◌, ◌||◌, false, map, IfOk};
-ghost use Rattle.mst_vlan.specs.Carried.{CarryAlike};
+ghost use Rattle.mst_sweep.specs.vlan.Carried.{CarryAlike};
 ghost use Rattle.mst_graph.specs.Lists.{has_any};
 ghost use Rattle.mst_sweep.specs.Between.{OfNetworks};
 ghost use Rattle.mst_sweep.specs.Cuts.{names_of};
@@ -12,7 +12,7 @@ use crate::links::{Link, are_same, between, carried};
 use crate::parts::{is_any, parts};
 use mst_ids::{Name, Vid};
 use mst_sweep::homes_by;
-use mst_vlan::laws::islands_of_vid;
+use mst_sweep::vlan_laws::islands_of_vid;
 use std::alloc::{AllocError, Global};
 
 /// What becomes of a VID: the parts that it is cut into, whether it is joined, and whether it moves.

@@ -9,7 +9,7 @@ ghost use Rattle.mst_sweeping.specs.MovedVids.{IsJoined, IsMoved};
 use crate::change::Change;
 use crate::fate::fate_of;
 use mst_ids::{Name, Vid};
-use mst_vlan::differing;
+use mst_sweep::differing;
 use std::alloc::{AllocError, Global};
 
 /// What becomes of the first VID of each class: the parts that it is cut into, whether it is joined, and whether it moves.

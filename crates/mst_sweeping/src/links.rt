@@ -8,7 +8,7 @@ ghost use Rattle.mst_sweeping.specs.Seen.{link_by, seen_carried, seen_stays, is_
 use crate::change::{Change, stays};
 use indexmap::{IndexMap, IndexSet};
 use mst_ids::{Name, PortName, Vid};
-use mst_vlan::Carriage;
+use mst_sweep::Carriage;
 use std::alloc::{AllocError, Global};
 
 /// A logical port that links its bridge to its logical LAN.

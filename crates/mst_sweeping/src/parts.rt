@@ -1,15 +1,14 @@
 ghost use Rattle.std.specs.Prelude.{◌≡◌, map, IfOk};
 ghost use Rattle.mst_graph.specs.Lists.{has_any};
-ghost use Rattle.mst_facts.specs.Both.{seen_both};
+ghost use Rattle.mst_sweep.specs.facts.Both.{seen_both};
 ghost use Rattle.mst_sweep.specs.Between.{OfNumbered};
 ghost use Rattle.mst_sweep.specs.Baseline.{AreHomes};
 ghost use Rattle.mst_sweep.specs.Cuts.{names_of};
 ghost use Rattle.mst_sweep.specs.Parts.{AreParts};
 
 use indexmap::IndexMap;
-use mst_facts::{Both, Planned};
 use mst_ids::{BridgeNo, Name, Vid};
-use mst_sweep::{all_parts, staying};
+use mst_sweep::{Both, Planned, all_parts, staying};
 use std::alloc::{AllocError, Global};
 
 /// The parts into which the islands of a VID come apart, by the places of its islands in two networks. `AllocError`: memory was wanted and

@@ -1,19 +1,17 @@
 ghost use Rattle.std.specs.Prelude.{◌≡◌, ◌≤◌, ◌*◌, IfOk, filter_map, length};
 ghost use Rattle.std.specs.List.{count_by};
-ghost use Rattle.mst_trees.specs.Agrees.{Known};
-ghost use Rattle.mst_trees.specs.InUse.{AreInUse};
+ghost use Rattle.mst_plan.specs.trees.Agrees.{Known};
+ghost use Rattle.mst_plan.specs.trees.InUse.{AreInUse};
 ghost use Rattle.mst_lag.specs.View.{port_names};
 ghost use Rattle.mst_sweep.specs.Between.{OfNetworks};
 ghost use Rattle.mst_sweep.specs.Moved.{port_moved as port_moved_in, moved_ports as all_moved_ports};
 ghost use Rattle.mst_sweeping.specs.Seen.{seen_both_ports, seen_port_in_both, seen_moved, ArePortsByName};
 
 use indexmap::IndexMap;
-use mst_facts::Planned;
 use mst_ids::{PortName, Tree};
 use mst_lag::{PortInView, View};
-use mst_sweep::changes_role;
-use mst_trees::{is_had, trees_in_use};
-use mst_vlan::port_role;
+use mst_plan::{is_had, trees_in_use};
+use mst_sweep::{Planned, changes_role, port_role};
 use std::alloc::{AllocError, Global};
 
 /// A logical port that two networks have, by name.

@@ -5,19 +5,19 @@ ghost use Rattle.std.specs.List.{list_any};
 ghost use Rattle.mst_net.specs.tables.ByTree.{table_in};
 ghost use Rattle.mst_net.specs.tables.Seen.{bridge_row};
 ghost use Rattle.mst_lag.specs.Aggregation.{same_name};
-ghost use Rattle.mst_facts.specs.Told.{same_told};
-ghost use Rattle.mst_facts.specs.Both.{seen_both};
+ghost use Rattle.mst_sweep.specs.facts.Told.{same_told};
+ghost use Rattle.mst_sweep.specs.facts.Both.{seen_both};
 ghost use Rattle.mst_sweep.specs.Between.{OfNetworks};
 ghost use Rattle.mst_sweeping.specs.Restarts.{restarting as all_restarting};
 ghost use Rattle.mst_sweeping.specs.Seen.{seen_anew, seen_as_it_was, seen_both_ports, seen_restarts};
 
 use crate::ports::BothPorts;
 use indexmap::IndexSet;
-use mst_facts::{Both, Planned};
 use mst_ids::{Name, PortName};
 use mst_lag::View;
 use mst_lang::Kind;
 use mst_net::{Bridge, Table};
+use mst_sweep::{Both, Planned};
 use std::alloc::{AllocError, Global};
 
 /// Whether two tables are the same. It goes over the VIDs itself, which takes less time than comparing slices.

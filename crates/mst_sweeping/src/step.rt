@@ -1,10 +1,10 @@
 ghost use Rattle.std.specs.Prelude.{◌≡◌, ◌++◌, ◌∷◌, [], List, true, IfOk, OnOk, None, Some, vec_len};
 ghost use Rattle.mst_ids.specs.Vids.{runs_from};
 ghost use Rattle.mst_rows.specs.Rows.{Row};
-ghost use Rattle.mst_trees.specs.Agrees.{Known};
-ghost use Rattle.mst_classes.specs.AllVids.{NumberEach};
+ghost use Rattle.mst_plan.specs.trees.Agrees.{Known};
+ghost use Rattle.mst_sweep.specs.vlan.classes.AllVids.{NumberEach};
 ghost use Rattle.mst_graph.specs.Lists.{has_any};
-ghost use Rattle.mst_facts.specs.Both.{seen_both};
+ghost use Rattle.mst_sweep.specs.facts.Both.{seen_both};
 ghost use Rattle.mst_sweep.specs.Between.{OfNetworks};
 ghost use Rattle.mst_sweep.specs.declared.cuts.CutBy.{CutBy as CutByOf};
 ghost use Rattle.mst_sweep.specs.Cuts.{rows_of, runs_of, AreCutsBy};
@@ -19,13 +19,10 @@ use crate::on::bridges_on;
 use crate::ports::{moved_ports, ports_of_both};
 use crate::restarts::restarting;
 use crate::told::{Told, told_of};
-use mst_classes::set_of;
-use mst_facts::{Both, Planned, bridges_of_both};
 use mst_ids::{PortName, Tree, VidSet};
 use mst_kinds::{AdviseLine, Kind, StepLine};
 use mst_rows::{Rows, Value, put};
-use mst_sweep::{CutBy, moved_roots, put_cuts};
-use mst_vlan::Carriage;
+use mst_sweep::{Both, Carriage, CutBy, Planned, bridges_of_both, moved_roots, put_cuts, set_of};
 use std::alloc::{AllocError, Global};
 
 /// A step of a change.

@@ -1,8 +1,8 @@
 ghost use Rattle.std.specs.Prelude.{List, IfOk, OnOk};
 ghost use Rattle.std.specs.List.{AllByRecursion};
 ghost use Rattle.mst_rows.specs.Rows.{Row};
-ghost use Rattle.mst_trees.specs.Agrees.{Known};
-ghost use Rattle.mst_trees.specs.Forest.{IsForest};
+ghost use Rattle.mst_plan.specs.trees.Agrees.{Known};
+ghost use Rattle.mst_plan.specs.trees.Forest.{IsForest};
 ghost use Rattle.mst_sweep.specs.Baseline.{IsBaseline};
 ghost use Rattle.mst_sweep.specs.SweepText.{IsTold};
 ghost use Rattle.mst_lag.specs.Viewed.{IsView};
@@ -10,12 +10,11 @@ ghost use Rattle.mst_plan.specs.Plan.{IsPlan};
 ghost use Rattle.mst_sweeping.specs.Sweeping.{SweepsPart, AreTold, CanFail, Puts};
 
 use crate::failing::{trees_failed, without_failure};
-use mst_facts::Planned;
 use mst_lag::{View, view};
 use mst_net::Network;
 use mst_plan::Plan;
 use mst_rows::Rows;
-use mst_sweep::{Baseline, Failure, SweepPart, failures, put_failure, put_last};
+use mst_sweep::{Baseline, Failure, Planned, SweepPart, failures, put_failure, put_last};
 use std::alloc::{AllocError, Global};
 
 /// Puts what each single failure of a part of a network's does, by its plan, each as soon as it is known, and answers how many

@@ -1,5 +1,5 @@
 ghost use Rattle.std.specs.Prelude.{◌≡◌, ◌∷◌, ℕ, IfOk, vec_len};
-ghost use Rattle.mst_classes.specs.AllVids.{NumberEach};
+ghost use Rattle.mst_sweep.specs.vlan.classes.AllVids.{NumberEach};
 ghost use Rattle.mst_sweep.specs.Between.{OfNetworks};
 ghost use Rattle.mst_sweep.specs.declared.cuts.CutBy.{CutBy as CutByOf};
 ghost use Rattle.mst_sweep.specs.Cuts.{rows_of, AreCutsBy};
@@ -8,10 +8,9 @@ ghost use Rattle.mst_sweeping.specs.MovedVids.{AreVidsWhere, IsJoined, IsMoved};
 
 use crate::change::Change;
 use crate::fates::fates_at;
-use mst_classes::{classes_of_both, flagged, vids};
 use mst_graph::Numbering;
 use mst_ids::Vid;
-use mst_sweep::{Cuts, cuts_of};
+use mst_sweep::{Cuts, classes_of_both, cuts_of, flagged, vids};
 use std::alloc::{AllocError, Global};
 
 /// What is told of VIDs: those that are cut, by classes, those that are joined, and those that move.

@@ -9,9 +9,9 @@ use Rattle.mst_engine.specs.declared.engine.Input.{Input}
 use Rattle.mst_engine.specs.declared.engine.Input.TheVariants.{Captures, Network, Script}
 use Rattle.mst_engine.specs.report.State.{State, empty_state}
 use Rattle.mst_io.specs.Devices.{HearsWhere, Seen}
-use Rattle.mst_print.specs.Shape.{of_new, of_old}
-use Rattle.mst_print.specs.declared.form.Form.{Form}
-use Rattle.mst_print.specs.declared.form.Shape.{Shape}
+use Rattle.mst_engine.specs.print.Shape.{of_new, of_old}
+use Rattle.mst_engine.specs.print.declared.form.Form.{Form}
+use Rattle.mst_engine.specs.print.declared.form.Shape.{Shape}
 use Rattle.mst_tool.specs.Check.{ComparesEnded}
 use Rattle.mst_tool.specs.Diff.{LoadsNewEnded}
 use Rattle.mst_tool.specs.Load.{LoadsEnded, LoadsScript, ScriptEnded}

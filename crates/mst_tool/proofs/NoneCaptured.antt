@@ -6,8 +6,8 @@ use Rattle.mst_engine.specs.Engine.{Tally}
 use Rattle.mst_engine.specs.Steps.{Step, answers_of, differing_of, lacks_of, refusals_of}
 use Rattle.mst_engine.specs.report.State.{State}
 use Rattle.mst_engine.proofs.Uncounted.{AreUncounted, all_skipped, none_counted}
-use Rattle.mst_print.specs.Shape.{listed}
-use Rattle.mst_print.specs.declared.form.Form.{Form}
+use Rattle.mst_engine.specs.print.Shape.{listed}
+use Rattle.mst_engine.specs.print.declared.form.Form.{Form}
 use Rattle.mst_tool.specs.Check.{are_skipped, counted_captures, idle_text, is_idle, none_refused, none_row, none_text}
 
 module _ (form : Form) (number : ℕ) (now : State) (lines : List (List ℕ)) (steps : List Step) (u : Tally) (compares : Compares form number now lines steps)

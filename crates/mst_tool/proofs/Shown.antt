@@ -1,7 +1,7 @@
 -- What shows rows.
 use Rattle.std.proofs.Common.{◌≡◌, ℕ, List, None, sym, ap, ◌∙◌}
-use Rattle.mst_print.specs.Shape.{shown}
-use Rattle.mst_print.specs.declared.form.Form.{Form}
+use Rattle.mst_engine.specs.print.Shape.{shown}
+use Rattle.mst_engine.specs.print.declared.form.Form.{Form}
 use Rattle.mst_rows.specs.Rows.{Row}
 use Rattle.mst_tool.specs.Shown.{IsShown}
 

@@ -15,15 +15,15 @@ use Rattle.mst_tool.specs.declared.diffs.Between.{Between}
 use Rattle.mst_tool.specs.declared.diffs.Between.TheVariants.{Plans, Settings}
 use Rattle.mst_engine.specs.Engine.{Tally, outcome_of}
 use Rattle.mst_engine.specs.Script.{LoadsAll}
-use Rattle.mst_print.specs.Shape.{of_old, of_new, shown}
+use Rattle.mst_engine.specs.print.Shape.{of_old, of_new, shown}
 use Rattle.mst_engine.specs.Served.{Served, ServedEnded, Serves}
 use Rattle.mst_engine.specs.Steps.{Step, lacks_of, left_by, texts_of}
 use Rattle.mst_drive.specs.Words.{Inputs, MayTell, Wrote, WroteFront}
 use Rattle.mst_io.specs.declared.outcome.Outcome.{Outcome}
 use Rattle.mst_io.specs.Written.{AppendsFront, Reads}
 use Rattle.mst_engine.specs.declared.engine.Input.TheVariants.{Network}
-use Rattle.mst_print.specs.declared.form.Form.{Form}
-use Rattle.mst_print.specs.declared.form.Shape.{Shape}
+use Rattle.mst_engine.specs.print.declared.form.Form.{Form}
+use Rattle.mst_engine.specs.print.declared.form.Shape.{Shape}
 use Rattle.mst_io.proofs.Known.{AppendsFront-after, AppendsFront-longer}
 use Rattle.mst_rows.specs.Rows.{Row}
 use Rattle.mst_tool.specs.Shown.{diff_row, edits_row}

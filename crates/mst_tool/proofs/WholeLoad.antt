@@ -9,7 +9,7 @@ use Rattle.mst_engine.specs.Script.{LoadsAll, version_of, loading}
 use Rattle.mst_engine.specs.Served.{Served, ServedEnded, Serves}
 use Rattle.mst_engine.specs.Steps.{Step, left_by, lacking_of, differing_of}
 use Rattle.mst_engine.specs.declared.engine.Input.TheVariants.{Network}
-use Rattle.mst_print.specs.declared.form.Shape.{Shape}
+use Rattle.mst_engine.specs.print.declared.form.Shape.{Shape}
 use Rattle.mst_io.specs.declared.outcome.RunFault.{RunFault}
 use Rattle.mst_io.specs.declared.outcome.RunFault.TheVariants.{Read, Memory}
 use Rattle.mst_drive.specs.Words.{Ended, Inputs, MayTell, Telling, Wrote, WroteFront}

@@ -13,10 +13,10 @@ use Rattle.mst_engine.specs.Script.{LoadsAll}
 use Rattle.mst_tool.specs.Shown.{IsShown, diff_row, edits_row}
 use Rattle.mst_tool.specs.declared.diffs.Between.{Between}
 use Rattle.mst_tool.specs.declared.diffs.Between.TheVariants.{Plans, Settings}
-use Rattle.mst_print.specs.Shape.{of_old, of_new}
+use Rattle.mst_engine.specs.print.Shape.{of_old, of_new}
 use Rattle.mst_engine.specs.Steps.{Step, left_by, texts_of, refusals_of, lacks_of, lacking_of}
 use Rattle.mst_io.specs.Written.{Reads}
-use Rattle.mst_print.specs.declared.form.Form.{Form}
+use Rattle.mst_engine.specs.print.declared.form.Form.{Form}
 use Rattle.mst_io.specs.declared.outcome.Outcome.{Outcome}
 
 -- whether nothing differs

@@ -7,7 +7,7 @@ use Rattle.mst_engine.specs.Steps.{Step, texts_of, lacking_of}
 use Rattle.mst_io.specs.Written.{Reads}
 use Rattle.mst_engine.specs.declared.engine.Input.{Input}
 use Rattle.mst_engine.specs.declared.engine.Input.TheVariants.{Captures, Network, Script}
-use Rattle.mst_print.specs.declared.form.Shape.{Shape}
+use Rattle.mst_engine.specs.print.declared.form.Shape.{Shape}
 use Rattle.mst_tool.specs.Run.{PrintsEnded}
 
 -- The reader has given these bytes, as far as it tells, and has these left. The edits of the lines that they complete were

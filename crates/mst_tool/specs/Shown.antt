@@ -3,8 +3,8 @@ use Rattle.std.specs.Prelude.{◌≡◌, ℕ, List, [], None}
 use Rattle.mst_kinds.specs.declared.kind.Kind.TheVariants.{Query as OfQuery}
 use Rattle.mst_kinds.specs.declared.query.Query.{Query}
 use Rattle.mst_kinds.specs.declared.query.Query.TheVariants.{Diff, Verify, Steps, Edits}
-use Rattle.mst_print.specs.Shape.{shown}
-use Rattle.mst_print.specs.declared.form.Form.{Form}
+use Rattle.mst_engine.specs.print.Shape.{shown}
+use Rattle.mst_engine.specs.print.declared.form.Form.{Form}
 use Rattle.mst_rows.specs.Cells.{Cell}
 use Rattle.mst_rows.specs.Rows.{Row, row_of}
 

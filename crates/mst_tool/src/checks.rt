@@ -8,16 +8,15 @@ ghost use Rattle.mst_engine.specs.declared.engine.Input.TheVariants.{Captures};
 ghost use Rattle.mst_engine.specs.report.Planned.{planned_state};
 ghost use Rattle.mst_io.specs.Devices.{HearsWhere, Works, IsStopped, seen_by, stopped_by};
 ghost use Rattle.mst_io.specs.Written.{AppendsFront};
-ghost use Rattle.mst_print.specs.Shape.{listed};
+ghost use Rattle.mst_engine.specs.print.Shape.{listed};
 ghost use Rattle.mst_tool.specs.Run.{PrintsEnded};
 ghost use Rattle.mst_tool.specs.Check.{ComparesEnded, checking, counted_captures, idle_text, is_idle as is_idle_by, none_row};
 
 use crate::served::serve_first;
 use mst_drive::Word;
 use mst_engine::laws::{has_steps, one_comparison, one_run, states};
-use mst_engine::{Engine, Input, Serving, serve_input};
+use mst_engine::{Engine, Form, Input, Serving, serve_input};
 use mst_io::{FromRead, Outcome, RunFault, Sink, Source, TURNS, ToWrite, WriteFailed, put};
-use mst_print::Form;
 use std::alloc::Global;
 use std::io::{Read, Write};
 

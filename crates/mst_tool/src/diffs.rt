@@ -4,7 +4,7 @@ ghost use Rattle.mst_drive.specs.Words.{Ended, HasTold, Inputs, two_inputs};
 ghost use Rattle.mst_engine.specs.Served.{IsFew};
 ghost use Rattle.mst_engine.specs.report.Planned.{planned_state};
 ghost use Rattle.mst_io.specs.Devices.{HearsWhere, seen_by, stopped_by};
-ghost use Rattle.mst_print.specs.Shape.{of_old};
+ghost use Rattle.mst_engine.specs.print.Shape.{of_old};
 ghost use Rattle.mst_tool.specs.Load.{LoadsEnded};
 ghost use Rattle.mst_tool.specs.Diff.{CountsOf, LoadsNewEnded, TellsDifference, counted_both, differing, differs_by};
 
@@ -14,10 +14,9 @@ use mst_between::laws::one_difference;
 use mst_between::{put_difference, put_edits_of};
 use mst_drive::Word;
 use mst_engine::laws::{has_load, one_load, states};
-use mst_engine::{Input, Planner};
+use mst_engine::{Form, Input, Planner, Shape, Side};
 use mst_io::{FromRead, Outcome, RunFault, Sink, Source, TURNS, ToWrite, put};
 use mst_kinds::Query;
-use mst_print::{Form, Shape, Side};
 use std::alloc::{AllocError, Global};
 use std::io::{Read, Write};
 

@@ -14,7 +14,10 @@ mod served;
 
 pub use checks::{CheckWord, check, check_from, check_within};
 pub use diffs::{Between, DiffWord, diff, diff_from, diff_within, edits};
-pub use mst_engine::{Engine, Input, Planner, Reply, laws, print, report_laws, serve};
+pub use mst_engine::{
+    Engine, Form, Input, Planner, Printer, Reply, Shape, Side, laws, print, report_laws, serve,
+};
+pub use mst_print::put_unanswered;
 pub use opened::open_question;
 pub use policies::{read_change, read_policy};
 pub use runs::{RunWord, run, run_from, run_within, status};

@@ -1,9 +1,9 @@
 ghost use Rattle.std.specs.Prelude.{[], None, IfOk};
-ghost use Rattle.mst_print.specs.Shape.{IsOpen};
+ghost use Rattle.mst_engine.specs.print.Shape.{IsOpen};
 ghost use Rattle.mst_tool.specs.Shown.{question_row};
 
+use mst_engine::{Form, Printer};
 use mst_kinds::{Kind, Query};
-use mst_print::{Form, Printer};
 use std::alloc::{AllocError, Global};
 
 /// A printer of what answers a question without words.

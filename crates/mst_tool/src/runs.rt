@@ -6,10 +6,9 @@ ghost use Rattle.mst_tool.specs.Run.{PrintsEnded, running, status_of};
 
 use crate::served::serve_first;
 use mst_drive::Word;
-use mst_engine::Input;
 use mst_engine::laws::one_run;
+use mst_engine::{Form, Input};
 use mst_io::{FromRead, Outcome, RunFault, Sink, Source, TURNS, ToWrite};
-use mst_print::Form;
 use std::alloc::Global;
 use std::io::{Read, Write};
 

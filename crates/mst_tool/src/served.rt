@@ -6,7 +6,7 @@ ghost use Rattle.mst_engine.specs.Served.{IsFew, Served, ServedEnded, Serves};
 ghost use Rattle.mst_engine.specs.declared.engine.Input.TheVariants.{Captures};
 ghost use Rattle.mst_engine.specs.report.State.{empty_state};
 ghost use Rattle.mst_io.specs.Devices.{HearsWhere, seen_by, stopped_by};
-ghost use Rattle.mst_print.specs.declared.form.Form.{Form};
+ghost use Rattle.mst_engine.specs.print.declared.form.Form.{Form};
 ghost use Rattle.mst_tool.specs.Load.{ScriptEnded};
 
 use mst_engine::laws::{one_load, one_run};

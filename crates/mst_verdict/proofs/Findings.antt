@@ -7,8 +7,8 @@ use Rattle.std.proofs.lemmas.List.Elements.{filter-append}
 use Rattle.mst_policy.specs.declared.expectation.Expectation.{Expectation}
 use Rattle.mst_policy.specs.declared.policy.PolicyLine.{PolicyLine}
 use Rattle.mst_graph.specs.Lists.{has_any}
-use Rattle.mst_sweep.specs.declared.failure.Failure.{Failure}
-use Rattle.mst_sweep.proofs.SweptParts.{zip_joined}
+use Rattle.mst_sweeping.specs.sweep.declared.failure.Failure.{Failure}
+use Rattle.mst_sweeping.proofs.sweep_lemmas.SweptParts.{zip_joined}
 use Rattle.mst_verify.specs.Judged.{places}
 use Rattle.mst_verify.specs.Placed.{AreReasonsAt}
 use Rattle.mst_verify.specs.declared.lacking.Missing.{Missing}

@@ -29,18 +29,18 @@ use Rattle.mst_policy.specs.declared.expectation.Expectation.TheVariants as expe
 use Rattle.mst_policy.specs.declared.expectation.Promise.{Promise}
 use Rattle.mst_policy.specs.declared.item.NameItem.TheVariants.{Is}
 use Rattle.mst_policy.specs.declared.policy.PolicyLine.{PolicyLine}
-use Rattle.mst_classes.specs.Classes.{AreClasses}
-use Rattle.mst_trees.specs.Forest.{Forest}
-use Rattle.mst_trees.specs.Outcome.{Outcome, IsOutcome}
-use Rattle.mst_trees.specs.Settled.{SettledNet, settled_net}
-use Rattle.mst_trees.proofs.Lists.{mapped_twice}
-use Rattle.mst_sweep.specs.Failures.{edit_of}
-use Rattle.mst_sweep.specs.Left.{AreLeft}
-use Rattle.mst_sweep.specs.Pairs.{failed}
-use Rattle.mst_sweep.specs.declared.failure.Failure.{Failure}
-use Rattle.mst_sweep.specs.declared.failure.Failure.TheVariants.{Lan, Bridge}
-use Rattle.mst_sweep.proofs.Failed.{are_left}
-use Rattle.mst_sweep.proofs.SweptParts.{zip_joined}
+use Rattle.mst_sweeping.specs.sweep.vlan.classes.Classes.{AreClasses}
+use Rattle.mst_sweeping.specs.plan.trees.Forest.{Forest}
+use Rattle.mst_sweeping.specs.plan.trees.Outcome.{Outcome, IsOutcome}
+use Rattle.mst_sweeping.specs.plan.trees.Settled.{SettledNet, settled_net}
+use Rattle.mst_sweeping.proofs.plan_lemmas.trees_lemmas.Lists.{mapped_twice}
+use Rattle.mst_sweeping.specs.sweep.Failures.{edit_of}
+use Rattle.mst_sweeping.specs.sweep.Left.{AreLeft}
+use Rattle.mst_sweeping.specs.sweep.Pairs.{failed}
+use Rattle.mst_sweeping.specs.sweep.declared.failure.Failure.{Failure}
+use Rattle.mst_sweeping.specs.sweep.declared.failure.Failure.TheVariants.{Lan, Bridge}
+use Rattle.mst_sweeping.proofs.sweep_lemmas.Failed.{are_left}
+use Rattle.mst_sweeping.proofs.sweep_lemmas.SweptParts.{zip_joined}
 use Rattle.mst_verify.specs.Missing.{has_one, lans_of, missing, scope_lans}
 use Rattle.mst_verify.specs.Over.{HasItsLan, is_lan}
 use Rattle.mst_verify.specs.Islands.{IsKeptOf, IsOneOf}
@@ -54,10 +54,10 @@ use Rattle.mst_verify.proofs.JudgedSomewhere.{whole}
 use Rattle.mst_verdict.specs.Told.{expected_at, is_due, is_judged_at, judged_of, lacked, looks_at, where_whole}
 use Rattle.mst_verdict.specs.Verifying.{AreLacking, AreReasonsEach, AreReasonsIf, AreReasonsOf, HaveLans, IsCarriage, IsPrior, IsPriorOf, Sitting, asked_by, expected_by, expected_in, expected_of, lacks_in, plan_outcome, sitting_of}
 use Rattle.mst_verdict.specs.declared.judging.Judging.{Judging}
-use Rattle.mst_vlan.specs.Carried.{ViewWithTrees}
-use Rattle.mst_plan.specs.Plan.{IsPlan}
-use Rattle.mst_plan.specs.declared.plan.Plan.{Plan}
-use Rattle.mst_trees.proofs.SettledNet.{is_settled_net}
+use Rattle.mst_sweeping.specs.sweep.vlan.Carried.{ViewWithTrees}
+use Rattle.mst_sweeping.specs.plan.Plan.{IsPlan}
+use Rattle.mst_sweeping.specs.plan.declared.plan.Plan.{Plan}
+use Rattle.mst_sweeping.proofs.plan_lemmas.trees_lemmas.SettledNet.{is_settled_net}
 use Rattle.mst_sweeping.proofs.SweepThere.{all_joined}
 
 -- ---- lists

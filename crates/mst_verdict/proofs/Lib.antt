@@ -1,4 +1,4 @@
-pub use Rattle.mst_sweep.proofs as sweep_lemmas
+pub use Rattle.mst_sweeping.proofs.sweep_lemmas as sweep_lemmas
 pub mod GoesOn
 pub mod TextLines
 pub mod Only

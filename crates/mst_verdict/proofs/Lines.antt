@@ -11,9 +11,9 @@ use Rattle.mst_policy.specs.declared.policy.PolicyLine.{PolicyLine}
 use Rattle.mst_rows.specs.Cells.{PromiseSaid}
 use Rattle.mst_rows.specs.Rows.{Row}
 use Rattle.mst_net.specs.tables.Tables.{Net}
-use Rattle.mst_trees.specs.Outcome.{Outcome}
-use Rattle.mst_sweep.specs.Failures.{failures}
-use Rattle.mst_sweep.specs.declared.failure.Failure.{Failure}
+use Rattle.mst_sweeping.specs.plan.trees.Outcome.{Outcome}
+use Rattle.mst_sweeping.specs.sweep.Failures.{failures}
+use Rattle.mst_sweeping.specs.sweep.declared.failure.Failure.{Failure}
 use Rattle.mst_verify.specs.Judged.{asks_at, places}
 use Rattle.mst_verify.specs.Missing.{missing}
 use Rattle.mst_verify.specs.Named.{Prior}

@@ -3,7 +3,7 @@ use Rattle.std.proofs.Common.{◌≡◌, true, true≢false, List, [], None, sym
 use Rattle.mst_policy.specs.declared.expectation.Expectation.{Expectation}
 use Rattle.mst_policy.specs.declared.expectation.Expectation.TheVariants as expect
 use Rattle.mst_net.specs.tables.Tables.{Net}
-use Rattle.mst_trees.specs.Outcome.{Outcome}
+use Rattle.mst_sweeping.specs.plan.trees.Outcome.{Outcome}
 use Rattle.mst_verify.specs.Judged.{looks_back}
 use Rattle.mst_verify.specs.Reasons.{AreReasons}
 use Rattle.mst_verify.specs.declared.reason.Reason.{Reason}

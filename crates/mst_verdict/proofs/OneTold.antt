@@ -8,9 +8,9 @@ use Rattle.mst_policy.specs.declared.policy.PolicyLine.{PolicyLine}
 use Rattle.mst_rows.specs.Rows.{Row}
 use Rattle.mst_net.specs.tables.After.{after}
 use Rattle.mst_net.specs.tables.Tables.{Net, IsNetwork}
-use Rattle.mst_trees.specs.Outcome.{Outcome, IsOutcome}
-use Rattle.mst_sweep.specs.Failures.{edit_of, failures}
-use Rattle.mst_sweep.specs.declared.failure.Failure.{Failure}
+use Rattle.mst_sweeping.specs.plan.trees.Outcome.{Outcome, IsOutcome}
+use Rattle.mst_sweeping.specs.sweep.Failures.{edit_of, failures}
+use Rattle.mst_sweeping.specs.sweep.declared.failure.Failure.{Failure}
 use Rattle.mst_verify.specs.Judged.{gone_of, places}
 use Rattle.mst_verify.specs.Named.{Gone, OfNetwork, Prior}
 use Rattle.mst_verify.specs.Placed.{AreReasonsAfter, AreReasonsAt}

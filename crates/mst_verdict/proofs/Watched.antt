@@ -4,9 +4,9 @@ use Rattle.std.specs.Prelude.{if◌then◌else◌}
 use Rattle.std.proofs.lemmas.Bool.{eqb-true, eq-eqb}
 use Rattle.mst_net.specs.tables.Tables.{Net}
 use Rattle.mst_policy.specs.declared.policy.PolicyLine.{PolicyLine}
-use Rattle.mst_vlan.specs.Carried.{ViewWithTrees}
-use Rattle.mst_trees.specs.Outcome.{IsOutcome, Outcome}
-use Rattle.mst_trees.specs.Settled.{outcome_of}
+use Rattle.mst_sweeping.specs.sweep.vlan.Carried.{ViewWithTrees}
+use Rattle.mst_sweeping.specs.plan.trees.Outcome.{IsOutcome, Outcome}
+use Rattle.mst_sweeping.specs.plan.trees.Settled.{outcome_of}
 use Rattle.mst_verify.specs.Named.{Prior}
 use Rattle.mst_verdict.specs.Judged.{told_in}
 use Rattle.mst_verdict.specs.declared.judgement.Judgement.{Judgement}

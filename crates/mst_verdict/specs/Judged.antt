@@ -6,10 +6,10 @@ use Rattle.mst_rows.specs.Lines.{row_line}
 use Rattle.mst_rows.specs.Rows.{Row}
 use Rattle.mst_lang.specs.declared.line.Fault.{Fault}
 use Rattle.mst_policy.specs.declared.expectation.Promise.{Promise}
-use Rattle.mst_sweep.specs.declared.failure.Failure.{Failure}
+use Rattle.mst_sweeping.specs.sweep.declared.failure.Failure.{Failure}
 use Rattle.mst_verify.specs.Judged.{asks_at}
 use Rattle.mst_net.specs.tables.Tables.{Net}
-use Rattle.mst_trees.specs.Outcome.{Outcome}
+use Rattle.mst_sweeping.specs.plan.trees.Outcome.{Outcome}
 use Rattle.mst_policy.specs.declared.policy.PolicyLine.{PolicyLine}
 use Rattle.mst_verify.specs.Named.{Prior}
 use Rattle.mst_verify.specs.declared.lacking.Missing.{Missing}

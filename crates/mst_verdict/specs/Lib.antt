@@ -1,5 +1,5 @@
 pub use Rattle.mst_verify.specs as verify
-pub use Rattle.mst_sweep.specs as sweep
+pub use Rattle.mst_sweeping.specs.sweep as sweep
 pub use Rattle.mst_sweeping.specs as sweeping
 pub mod Rows
 pub mod Texts

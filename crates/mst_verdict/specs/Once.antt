@@ -6,7 +6,7 @@ use Rattle.mst_policy.specs.declared.expectation.Scope.{Scope}
 use Rattle.mst_policy.specs.declared.expectation.Scope.TheVariants as scope
 use Rattle.mst_rows.specs.Rows.{Row}
 use Rattle.mst_graph.specs.Lists.{has_any}
-use Rattle.mst_sweep.specs.declared.failure.Failure.{Failure}
+use Rattle.mst_sweeping.specs.sweep.declared.failure.Failure.{Failure}
 use Rattle.mst_verify.specs.Judged.{has_now, name_of}
 use Rattle.mst_verify.specs.declared.reason.Reason.{Reason}
 use Rattle.mst_verdict.specs.Rows.{reason_row, same_row}

@@ -10,10 +10,10 @@ use Rattle.mst_ids.specs.Vids.{runs_from}
 use Rattle.mst_rows.specs.Cells.{Cell, PromiseSaid, absent, word, number, no_failure}
 use Rattle.mst_rows.specs.Cells as cell
 use Rattle.mst_rows.specs.Rows.{Row, row_of}
-use Rattle.mst_trees.specs.Names.{role_text}
-use Rattle.mst_trees.specs.declared.kind.Role.{Role}
-use Rattle.mst_sweep.specs.Cuts.{failing}
-use Rattle.mst_sweep.specs.declared.failure.Failure.{Failure}
+use Rattle.mst_sweeping.specs.plan.trees.Names.{role_text}
+use Rattle.mst_sweeping.specs.plan.trees.declared.kind.Role.{Role}
+use Rattle.mst_sweeping.specs.sweep.Cuts.{failing}
+use Rattle.mst_sweeping.specs.sweep.declared.failure.Failure.{Failure}
 use Rattle.mst_verify.specs.Missing as lacking
 use Rattle.mst_verify.specs.declared.lacking.Missing.{Missing}
 use Rattle.mst_verify.specs.declared.lacking.Missing.TheVariants as missed

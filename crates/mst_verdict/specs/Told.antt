@@ -7,8 +7,8 @@ use Rattle.mst_lang.specs.declared.line.Fault.{Fault}
 use Rattle.mst_rows.specs.Rows.{Row}
 use Rattle.mst_graph.specs.Lists.{has_any}
 use Rattle.mst_net.specs.tables.Tables.{Net}
-use Rattle.mst_trees.specs.Outcome.{Outcome}
-use Rattle.mst_sweep.specs.declared.failure.Failure.{Failure}
+use Rattle.mst_sweeping.specs.plan.trees.Outcome.{Outcome}
+use Rattle.mst_sweeping.specs.sweep.declared.failure.Failure.{Failure}
 use Rattle.mst_policy.specs.Faults as policies
 use Rattle.mst_policy.specs.declared.expectation.Expectation.{Expectation}
 use Rattle.mst_policy.specs.declared.expectation.Promise.{Promise}

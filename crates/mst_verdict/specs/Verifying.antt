@@ -3,17 +3,17 @@ use Rattle.std.specs.Prelude.{◌≡◌, ◌++◌, ◌&&◌, not, is_some, ℕ, 
 use Rattle.std.specs.Bool.{MatchBool}
 use Rattle.std.specs.List.{AllZip}
 use Rattle.std.specs.Option.{option_map}
-use Rattle.mst_vlan.specs.Carried.{ViewWithTrees}
+use Rattle.mst_sweeping.specs.sweep.vlan.Carried.{ViewWithTrees}
 use Rattle.mst_lang.specs.declared.line.Fault.{Fault}
 use Rattle.mst_net.specs.tables.Tables.{Net, Numbers, IsNetwork}
 use Rattle.mst_rows.specs.Rows.{Row}
 use Rattle.mst_policy.specs.declared.expectation.Expectation.{Expectation}
 use Rattle.mst_policy.specs.declared.expectation.Promise.{Promise}
 use Rattle.mst_policy.specs.declared.policy.PolicyLine.{PolicyLine}
-use Rattle.mst_trees.specs.Outcome.{Outcome, IsOutcome}
-use Rattle.mst_trees.specs.Settled.{SettledNet, outcome_of}
-use Rattle.mst_classes.specs.Classes.{AreClasses}
-use Rattle.mst_sweep.specs.declared.failure.Failure.{Failure}
+use Rattle.mst_sweeping.specs.plan.trees.Outcome.{Outcome, IsOutcome}
+use Rattle.mst_sweeping.specs.plan.trees.Settled.{SettledNet, outcome_of}
+use Rattle.mst_sweeping.specs.sweep.vlan.classes.Classes.{AreClasses}
+use Rattle.mst_sweeping.specs.sweep.declared.failure.Failure.{Failure}
 use Rattle.mst_verify.specs.Islands.{HasIslandsOf, IsOneOf}
 use Rattle.mst_verify.specs.Named.{Gone, Prior}
 use Rattle.mst_verify.specs.Over.{HasItsLan}
@@ -28,7 +28,7 @@ use Rattle.mst_verdict.specs.Verified.{Counts, IsToldWhereBroken, IsVerified}
 use Rattle.mst_verdict.specs.declared.judgement.Finding.{Finding}
 use Rattle.mst_verdict.specs.declared.judging.Judging.{Judging}
 use Rattle.mst_verdict.specs.declared.judging.Opened.{Opened}
-use Rattle.mst_plan.specs.declared.plan.Plan.{Plan}
+use Rattle.mst_sweeping.specs.plan.declared.plan.Plan.{Plan}
 
 -- these are the rows of a policy of the network, and this is counted of it, by a settled outcome of the network: a line has rows just where
 -- its promise isn't kept

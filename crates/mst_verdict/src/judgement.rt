@@ -10,7 +10,7 @@ ghost use Rattle.mst_verdict.specs.Told.{found_rows, reason_rows};
 
 use crate::reason::{At, put_reason};
 use mst_rows::Rows;
-use mst_sweep::Failure;
+use mst_sweeping::Failure;
 use mst_verify::{Missing, Reason};
 use std::alloc::{AllocError, Global};
 

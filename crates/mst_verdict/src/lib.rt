@@ -20,8 +20,7 @@ mod texts;
 mod verified;
 mod verifying;
 
-pub use mst_sweep::SweepPart;
-pub use mst_sweeping::{laws as sweeping_laws, sweep_network, sweep_pairs};
+pub use mst_sweeping::{SweepPart, laws as sweeping_laws, sweep_network, sweep_pairs};
 pub use mst_verify::laws as verify_laws;
 pub use stepping::{Course, step_network};
 pub use verified::Verdict;

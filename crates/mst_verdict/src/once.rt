@@ -15,7 +15,7 @@ use crate::texts::Texts;
 use mst_kinds::{Kind, VerifyLine};
 use mst_policy::{NameItem, NameList, Promise, Scope};
 use mst_rows::{Rows, Value, put};
-use mst_sweep::Failure;
+use mst_sweeping::Failure;
 use mst_verify::{Reason, asks, asks_now, has_now};
 use std::alloc::{AllocError, Global};
 

@@ -9,7 +9,7 @@ use crate::once::is_asked;
 use mst_kinds::{Kind, VerifyLine};
 use mst_policy::{PolicyLine, Promise, Scope};
 use mst_rows::{PromiseScope, PromiseTold, Rows, Value, put};
-use mst_sweep::Failure;
+use mst_sweeping::Failure;
 use mst_verify::asks;
 use std::alloc::{AllocError, Global};
 

@@ -8,8 +8,7 @@ ghost use Rattle.mst_verdict.specs.Rows.{front_cells, kind_at, limit_cells, name
 use mst_ids::{Name, Tree, VidSet};
 use mst_kinds::{Kind, VerifyLine};
 use mst_rows::{Rows, Value, put};
-use mst_sweep::Failure;
-use mst_trees::Role;
+use mst_sweeping::{Failure, Role};
 use mst_verify::{Parts, Reason, Word};
 use std::alloc::{AllocError, Global};
 

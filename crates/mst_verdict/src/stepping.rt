@@ -1,7 +1,7 @@
 ghost use Rattle.std.specs.Prelude.{◌≡◌, ◌+◌, ◌-◌, ◌<◌, ◌≤◌, ◌^◌, ◌++◌, ◌∷◌, [], List, IfOk, OnOk, length, unwrap_or};
 ghost use Rattle.std.specs.Option.{option_map};
 ghost use Rattle.mst_change.specs.Steps.{all_lines};
-ghost use Rattle.mst_plan.specs.Plan.{IsPlan};
+ghost use Rattle.mst_sweeping.specs.plan.Plan.{IsPlan};
 ghost use Rattle.mst_policy.specs.declared.policy.PolicyLine.{PolicyLine as LineOf};
 ghost use Rattle.mst_verdict.specs.Setting.{after_lines, after_steps};
 ghost use Rattle.mst_verdict.specs.Stepping.{AreRowsIn, AreWatched, IsFew, Steps, Watch, course_of, course_row, front_rows_if, lines_of, numbers_of};
@@ -16,11 +16,11 @@ use crate::setting::make_lines;
 use crate::steps::{breaks, put_front, put_judged, put_start, unkept_count};
 use mst_change::{ChangeStep, StepLine};
 use mst_net::Network;
-use mst_plan::{Plan, plan_beside};
 use mst_policy::{Policy, PolicyLine};
 use mst_rows::Rows;
-use mst_sweeping::{Deed, PolicyCounts, Step, Stepped, Walked, put_between, put_last};
-use mst_vlan::Carriage;
+use mst_sweeping::{
+    Carriage, Deed, Plan, PolicyCounts, Step, Stepped, Walked, plan_beside, put_between, put_last,
+};
 use std::alloc::{AllocError, Global};
 
 /// What is counted of the steps of a change.

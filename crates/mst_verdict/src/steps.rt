@@ -16,7 +16,7 @@ use crate::texts::Texts;
 use mst_kinds::{Kind, StepLine};
 use mst_policy::PolicyLine;
 use mst_rows::{Rows, Value, put};
-use mst_sweep::Failure;
+use mst_sweeping::Failure;
 use mst_verify::{Missing, Reason};
 use std::alloc::{AllocError, Global};
 

@@ -1,5 +1,5 @@
 ghost use Rattle.std.specs.Prelude.{◌+◌, ◌≤◌, List, IfOk, length};
-ghost use Rattle.mst_plan.specs.Plan.{IsPlan};
+ghost use Rattle.mst_sweeping.specs.plan.Plan.{IsPlan};
 ghost use Rattle.mst_rows.specs.Rows.{Row};
 ghost use Rattle.mst_verdict.specs.Verifying.{Verifies};
 ghost use Rattle.mst_verdict.specs.Judged.{Puts, counts_of};
@@ -8,10 +8,9 @@ use crate::judging::{Asking, judge_lines};
 use crate::laws::told_where_unkept;
 use crate::verified::{Verdict, put_verdict};
 use mst_net::Network;
-use mst_plan::Plan;
 use mst_policy::PolicyLine;
 use mst_rows::Rows;
-use mst_sweep::failures;
+use mst_sweeping::{Plan, failures};
 use std::alloc::{AllocError, Global};
 
 /// Puts whether a network does what the lines of a policy promise, by its plan. `AllocError`: memory was wanted and refused; some of the

@@ -2,10 +2,10 @@
 use Rattle.std.proofs.Common.{◌≡◌, ℕ, ◌+◌, ◌<◌, Bool, List, [], get_or, Option, Some, None, refl, sym, ap, subst, ◌∙◌}
 use Rattle.std.specs.List.{filter, filter_map}
 use Rattle.std.specs.Option.{option_and_then, option_map}
-use Rattle.mst_vlan.specs.Carried.{CarryAlike, ViewWithTrees}
-use Rattle.mst_classes.specs.Classes.{AreClasses}
-use Rattle.mst_facts.specs.Both.{seen_both}
-use Rattle.mst_facts.specs.declared.both.Both.{Both}
+use Rattle.mst_sweep.specs.vlan.Carried.{CarryAlike, ViewWithTrees}
+use Rattle.mst_sweep.specs.vlan.classes.Classes.{AreClasses}
+use Rattle.mst_sweep.specs.facts.Both.{seen_both}
+use Rattle.mst_sweep.specs.facts.declared.both.Both.{Both}
 use Rattle.mst_graph.specs.Islands.{AreIslands, AreJoined, Island}
 use Rattle.mst_graph.specs.Walks.{bridge_at}
 use Rattle.mst_graph.specs.declared.keys.Numbering.{Numbering}
@@ -13,10 +13,10 @@ use Rattle.mst_lag.specs.Viewed.{Viewed}
 use Rattle.mst_policy.specs.declared.item.NameItem.{NameItem}
 use Rattle.mst_lag.specs.View.{bridge_names}
 use Rattle.mst_net.specs.tables.Tables.{IsNetwork, Net}
-use Rattle.mst_trees.specs.Outcome.{Outcome}
-use Rattle.mst_trees.specs.Settled.{IsSettledNet, outcome_of, SettledNet}
-use Rattle.mst_trees.proofs.Lists.{no_some, some_is}
-use Rattle.mst_vlan.specs.Reach.{AreIslandsOf, bridges_on, lans_up, vid_links}
+use Rattle.mst_sweep.specs.vlan.trees.Outcome.{Outcome}
+use Rattle.mst_sweep.specs.vlan.trees.Settled.{IsSettledNet, outcome_of, SettledNet}
+use Rattle.mst_sweep.proofs.vlan_lemmas.trees_lemmas.Lists.{no_some, some_is}
+use Rattle.mst_sweep.specs.vlan.Reach.{AreIslandsOf, bridges_on, lans_up, vid_links}
 use Rattle.mst_sweep.specs.Baseline.{AreHomes}
 use Rattle.mst_sweep.specs.Parts.{all_parts, ArePartsOf, staying, stays_at}
 use Rattle.mst_sweep.specs.Seen.{seen_stays}

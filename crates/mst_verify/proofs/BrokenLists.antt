@@ -8,11 +8,11 @@ use Rattle.mst_graph.proofs.Members.{in_filter, from_filter}
 use Rattle.mst_net.specs.tables.Tables.{Net}
 use Rattle.mst_lag.specs.Trees.{is_among}
 use Rattle.mst_lag.specs.View.{LogicalPort}
-use Rattle.mst_trees.specs.Outcome.{Outcome}
-use Rattle.mst_vlan.specs.trees.Roles.{role_in}
-use Rattle.mst_vlan.specs.trees.declared.kind.Role.{Role}
-use Rattle.mst_vlan.specs.trees.declared.kind.Role.TheVariants.{Root, Designated, Alternate, Backup, Master, Disabled}
-use Rattle.mst_trees.specs.RoleNumbers.{role_number}
+use Rattle.mst_sweep.specs.vlan.trees.Outcome.{Outcome}
+use Rattle.mst_sweep.specs.vlan.trees.Roles.{role_in}
+use Rattle.mst_sweep.specs.vlan.trees.declared.kind.Role.{Role}
+use Rattle.mst_sweep.specs.vlan.trees.declared.kind.Role.TheVariants.{Root, Designated, Alternate, Backup, Master, Disabled}
+use Rattle.mst_sweep.specs.vlan.trees.RoleNumbers.{role_number}
 use Rattle.mst_graph.specs.Lists.{has_any}
 use Rattle.mst_policy.specs.declared.expectation.Roles.{Roles}
 use Rattle.mst_verify.specs.Named.{vids_in}

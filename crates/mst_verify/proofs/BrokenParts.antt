@@ -10,9 +10,9 @@ use Rattle.mst_net.specs.tables.Tables.{Net}
 use Rattle.mst_config.specs.Regions.{same_region}
 use Rattle.mst_lag.specs.Aggregation.{same_name}
 use Rattle.mst_lag.specs.Trees.{is_among}
-use Rattle.mst_trees.specs.Outcome.{Outcome}
+use Rattle.mst_sweep.specs.vlan.trees.Outcome.{Outcome}
 use Rattle.mst_graph.specs.Lists.{has_any}
-use Rattle.mst_vlan.specs.Reach.{bridges_on}
+use Rattle.mst_sweep.specs.vlan.Reach.{bridges_on}
 use Rattle.mst_verify.specs.Named.{vids_in}
 use Rattle.mst_verify.specs.Holds.{AllReach, AreApart, AreOneRegion, AreTogether, IsReached}
 use Rattle.mst_verify.specs.Reasons.{has_two, AreRegionReasons, Parts, group_reasons, AreVidReasons, reach_reason, AreReachReasons, is_in, either_on, has_both, AreBoth, apart_reason, AreApartReasons}

@@ -10,14 +10,14 @@ use Rattle.mst_graph.proofs.Members.{in_none, in_filter, from_filter}
 use Rattle.mst_net.specs.tables.ByTree.{by_tree}
 use Rattle.mst_net.specs.tables.Tables.{Net, BridgeRow, IsNetwork}
 use Rattle.mst_lag.specs.Aggregation.{same_name}
-use Rattle.mst_trees.specs.InUse.{id_in}
-use Rattle.mst_trees.specs.Outcome.{Outcome}
+use Rattle.mst_sweep.specs.vlan.trees.InUse.{id_in}
+use Rattle.mst_sweep.specs.vlan.trees.Outcome.{Outcome}
 use Rattle.mst_graph.specs.Lists.{has_any}
-use Rattle.mst_facts.specs.Roots.{root_of, root_name, named_by}
+use Rattle.mst_sweep.specs.facts.Roots.{root_of, root_name, named_by}
 use Rattle.mst_config.specs.Regions.{same_region}
-use Rattle.mst_trees.proofs.Lists.{all_contained, no_some, some_is}
-use Rattle.mst_trees.proofs.Looking.{first_found}
-use Rattle.mst_trees.proofs.Views.{bridges_are, entry_there, same_mac}
+use Rattle.mst_sweep.proofs.vlan_lemmas.trees_lemmas.Lists.{all_contained, no_some, some_is}
+use Rattle.mst_sweep.proofs.vlan_lemmas.trees_lemmas.Looking.{first_found}
+use Rattle.mst_sweep.proofs.vlan_lemmas.trees_lemmas.Views.{bridges_are, entry_there, same_mac}
 use Rattle.mst_verify.specs.Holds.{IsOneRoot}
 use Rattle.mst_verify.specs.Reasons.{root_count, other_root, other_next, AreRootReasons}
 use Rattle.mst_verify.specs.Roots.{concerned, is_concerned, is_root_of, identifier, IsNextRoot}

@@ -15,8 +15,8 @@ use Rattle.mst_note_text.proofs.Chains.{one_internal}
 use Rattle.mst_note_text.proofs.Regions.{one_parent_in}
 use Rattle.mst_graph.specs.Lists.{has_any}
 use Rattle.mst_nested.specs.Trees.{HasTree, IsSettled, Trees}
-use Rattle.mst_trees.proofs.Lists.{all_contained}
-use Rattle.mst_vlan.proofs.Names.{tests}
+use Rattle.mst_sweep.proofs.vlan_lemmas.trees_lemmas.Lists.{all_contained}
+use Rattle.mst_sweep.proofs.vlan_lemmas.Names.{tests}
 use Rattle.mst_verify.specs.Reasons.{AreThose}
 use Rattle.mst_verify.specs.Seen.{is_child_of}
 use Rattle.mst_verify.proofs.Things.{there_any}

@@ -1,5 +1,5 @@
 -- Classes of VIDs of two networks are classes of each.
-use Rattle.mst_classes.specs.Classes.{AreClasses, AreClassesOf}
+use Rattle.mst_sweep.specs.vlan.classes.Classes.{AreClasses, AreClassesOf}
 use Rattle.mst_graph.specs.declared.keys.Numbering.{Numbering}
 use Rattle.mst_lag.specs.Viewed.{Viewed}
 

@@ -15,11 +15,11 @@ use Rattle.mst_policy.specs.declared.item.NameItem.TheVariants.{Any}
 use Rattle.mst_rows.specs.Rows.{Row}
 use Rattle.mst_lag.specs.View.{bridge_names}
 use Rattle.mst_graph.specs.Lists.{has_any}
-use Rattle.mst_classes.specs.AllVids.{all_vids}
-use Rattle.mst_trees.specs.Outcome.{Outcome, IsOutcome}
-use Rattle.mst_classes.proofs.VidPlaces.{is_vid_there}
-use Rattle.mst_trees.proofs.Lists.{kept_in, kept_from, some_is}
-use Rattle.mst_vlan.specs.Reach.{AreIslandsOf, bridges_on}
+use Rattle.mst_sweep.specs.vlan.classes.AllVids.{all_vids}
+use Rattle.mst_sweep.specs.vlan.trees.Outcome.{Outcome, IsOutcome}
+use Rattle.mst_sweep.proofs.vlan_lemmas.classes_lemmas.VidPlaces.{is_vid_there}
+use Rattle.mst_sweep.proofs.vlan_lemmas.trees_lemmas.Lists.{kept_in, kept_from, some_is}
+use Rattle.mst_sweep.specs.vlan.Reach.{AreIslandsOf, bridges_on}
 use Rattle.mst_sweep.specs.Cuts.{AreCuts}
 use Rattle.mst_sweep.specs.Failures.{edit_of, failures}
 use Rattle.mst_sweep.specs.Parts.{home, stays_at, staying, all_parts, AreParts}

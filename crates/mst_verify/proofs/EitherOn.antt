@@ -14,11 +14,11 @@ use Rattle.mst_lag.specs.declared.in_view.BridgeInView.{BridgeInView}
 use Rattle.mst_policy.specs.declared.item.NameItem.{NameItem}
 use Rattle.mst_net.specs.tables.Seen.{bridge_row}
 use Rattle.mst_net.specs.tables.Tables.{Net, Numbers, BridgeRow}
-use Rattle.mst_trees.specs.Outcome.{Outcome}
-use Rattle.mst_trees.proofs.Entries.{all_weaker}
-use Rattle.mst_trees.proofs.Lists.{all_there, filter_mapped, mapped_twice}
-use Rattle.mst_trees.proofs.Looking.{filter_alike}
-use Rattle.mst_vlan.specs.Reach.{bridges_on, vid_links}
+use Rattle.mst_sweep.specs.vlan.trees.Outcome.{Outcome}
+use Rattle.mst_sweep.proofs.vlan_lemmas.trees_lemmas.Entries.{all_weaker}
+use Rattle.mst_sweep.proofs.vlan_lemmas.trees_lemmas.Lists.{all_there, filter_mapped, mapped_twice}
+use Rattle.mst_sweep.proofs.vlan_lemmas.trees_lemmas.Looking.{filter_alike}
+use Rattle.mst_sweep.specs.vlan.Reach.{bridges_on, vid_links}
 use Rattle.mst_verify.specs.Holds.{AreTogether, IsReached}
 use Rattle.mst_verify.specs.Islands.{names_in, AreReachParts}
 use Rattle.mst_verify.specs.Named.{Gone, is_named, named}

@@ -18,10 +18,10 @@ use Rattle.mst_net.proofs.tables_lemmas.Changed.{get_changed}
 use Rattle.mst_net.proofs.tables_lemmas.Keys.{names}
 use Rattle.mst_lag.specs.Aggregation.{plugs, same_name}
 use Rattle.mst_lag.specs.View.{LogicalPort, IsUnrestricted, as_port, logical_port, view_ports}
-use Rattle.mst_trees.proofs.Entries.{entries_found}
-use Rattle.mst_trees.proofs.Lists.{all_contained, no_some, some_is}
-use Rattle.mst_trees.proofs.Views.{bridges_are, entry_there}
-use Rattle.mst_vlan.specs.Reach.{bridges_on}
+use Rattle.mst_sweep.proofs.vlan_lemmas.trees_lemmas.Entries.{entries_found}
+use Rattle.mst_sweep.proofs.vlan_lemmas.trees_lemmas.Lists.{all_contained, no_some, some_is}
+use Rattle.mst_sweep.proofs.vlan_lemmas.trees_lemmas.Views.{bridges_are, entry_there}
+use Rattle.mst_sweep.specs.vlan.Reach.{bridges_on}
 use Rattle.mst_sweep.specs.Apart.{AllAreMembers}
 use Rattle.mst_sweep.specs.Failures.{edit_of, failures}
 use Rattle.mst_sweep.specs.declared.failure.Failure.{Failure}

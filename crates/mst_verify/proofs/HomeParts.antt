@@ -13,8 +13,8 @@ use Rattle.mst_graph.proofs.Members.{from_map}
 use Rattle.mst_lag.specs.declared.in_view.BridgeInView.{BridgeInView}
 use Rattle.mst_net.specs.tables.Contents.{IsNumbered}
 use Rattle.mst_net.specs.tables.Tables.{Net, Numbers}
-use Rattle.mst_trees.specs.Outcome.{Outcome}
-use Rattle.mst_trees.proofs.Lists.{some_is}
+use Rattle.mst_sweep.specs.vlan.trees.Outcome.{Outcome}
+use Rattle.mst_sweep.proofs.vlan_lemmas.trees_lemmas.Lists.{some_is}
 use Rattle.mst_sweep.specs.Baseline.{AreHomes}
 use Rattle.mst_sweep.specs.Parts.{home}
 use Rattle.mst_sweep.proofs.Joined.{has_home, home_on, home_joined, joined_home}

@@ -4,14 +4,14 @@ use Rattle.std.specs.Prelude.{⊤}
 use Rattle.std.specs.HashMap.{HashMap}
 use Rattle.std.proofs.lemmas.Slice.Zip.{AllZip-long}
 use Rattle.std.proofs.lemmas.List.{get_or_default}
-use Rattle.mst_vlan.specs.Carried.{ViewWithTrees}
+use Rattle.mst_sweep.specs.vlan.Carried.{ViewWithTrees}
 use Rattle.mst_lag.specs.Viewed.{Viewed}
 use Rattle.mst_net.specs.tables.Tables.{Net, Numbers}
-use Rattle.mst_trees.specs.Agrees.{AreOf, Known}
-use Rattle.mst_trees.specs.Forest.{Forest, IsForest}
-use Rattle.mst_trees.specs.Settled.{SettledNet, IsSettledNet, outcome_of}
-use Rattle.mst_trees.proofs.SettledNet.{forest_of}
-use Rattle.mst_classes.proofs.VidPlaces.{zip_at}
+use Rattle.mst_sweep.specs.vlan.trees.Agrees.{AreOf, Known}
+use Rattle.mst_sweep.specs.vlan.trees.Forest.{Forest, IsForest}
+use Rattle.mst_sweep.specs.vlan.trees.Settled.{SettledNet, IsSettledNet, outcome_of}
+use Rattle.mst_sweep.proofs.vlan_lemmas.trees_lemmas.SettledNet.{forest_of}
+use Rattle.mst_sweep.proofs.vlan_lemmas.classes_lemmas.VidPlaces.{zip_at}
 use Rattle.mst_sweep.specs.Baseline.{AreHomes}
 use Rattle.mst_verify.specs.Islands.{AreMade, HasHomesBy, IsOfPlan}
 

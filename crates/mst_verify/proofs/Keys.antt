@@ -13,18 +13,18 @@ use Rattle.mst_vector.specs.declared.cist.CistBridge.{CistBridge}
 use Rattle.mst_vector.specs.declared.msti.MstiBridge.{MstiBridge}
 use Rattle.mst_topology.specs.Topology.{HasBridge}
 use Rattle.mst_config.specs.Regions.{region_of}
-use Rattle.mst_trees.specs.Apart.{Apart}
-use Rattle.mst_trees.specs.Cist.{cist_bridge, cist_of, cist_sight}
-use Rattle.mst_trees.specs.InUse.{id_in}
-use Rattle.mst_trees.specs.Msti.{has_msti, msti_bridge, msti_of, msti_sight}
-use Rattle.mst_trees.specs.Outcome.{Outcome, IsOutcome, trees_of}
-use Rattle.mst_trees.proofs.CistTopology.{given, cist_is_sight}
-use Rattle.mst_trees.proofs.Lists.{all_contained, apart_filtered, apart_mapped}
-use Rattle.mst_trees.proofs.MstiTopology.{msti_is_sight}
-use Rattle.mst_trees.proofs.Sights.{bridge_from}
-use Rattle.mst_trees.proofs.Views.{bridges_are, bridges_rise, entry_there, names_differ}
+use Rattle.mst_sweep.specs.vlan.trees.Apart.{Apart}
+use Rattle.mst_sweep.specs.vlan.trees.Cist.{cist_bridge, cist_of, cist_sight}
+use Rattle.mst_sweep.specs.vlan.trees.InUse.{id_in}
+use Rattle.mst_sweep.specs.vlan.trees.Msti.{has_msti, msti_bridge, msti_of, msti_sight}
+use Rattle.mst_sweep.specs.vlan.trees.Outcome.{Outcome, IsOutcome, trees_of}
+use Rattle.mst_sweep.proofs.vlan_lemmas.trees_lemmas.CistTopology.{given, cist_is_sight}
+use Rattle.mst_sweep.proofs.vlan_lemmas.trees_lemmas.Lists.{all_contained, apart_filtered, apart_mapped}
+use Rattle.mst_sweep.proofs.vlan_lemmas.trees_lemmas.MstiTopology.{msti_is_sight}
+use Rattle.mst_sweep.proofs.vlan_lemmas.trees_lemmas.Sights.{bridge_from}
+use Rattle.mst_sweep.proofs.vlan_lemmas.trees_lemmas.Views.{bridges_are, bridges_rise, entry_there, names_differ}
 use Rattle.mst_nested.specs.Trees.{HasTree}
-use Rattle.mst_vlan.specs.Reach.{bridges_on}
+use Rattle.mst_sweep.specs.vlan.Reach.{bridges_on}
 use Rattle.mst_note_text.specs.Depths.{ParentIn}
 
 -- ---- names

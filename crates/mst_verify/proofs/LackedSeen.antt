@@ -13,14 +13,14 @@ use Rattle.mst_policy.specs.declared.item.NameItem.{NameItem}
 use Rattle.mst_policy.specs.declared.expectation.Promise.{Promise}
 use Rattle.mst_net.specs.tables.Seen.{bridge_row}
 use Rattle.mst_net.specs.tables.Tables.{Net, Numbers, BridgeRow}
-use Rattle.mst_trees.specs.Msti.{is_had, has_msti}
-use Rattle.mst_trees.specs.Agrees.{AreOf}
-use Rattle.mst_trees.specs.Seen.{trees_at}
+use Rattle.mst_sweep.specs.vlan.trees.Msti.{is_had, has_msti}
+use Rattle.mst_sweep.specs.vlan.trees.Agrees.{AreOf}
+use Rattle.mst_sweep.specs.vlan.trees.Seen.{trees_at}
 use Rattle.mst_summary.proofs.Lists.{any_alike, any_mapped}
-use Rattle.mst_trees.proofs.Entries.{all_weaker}
-use Rattle.mst_trees.proofs.Lists.{mapped_twice}
-use Rattle.mst_trees.proofs.Looking.{has_tree_at}
-use Rattle.mst_trees.proofs.Seen.{SeenBridge, bridges_seen}
+use Rattle.mst_sweep.proofs.vlan_lemmas.trees_lemmas.Entries.{all_weaker}
+use Rattle.mst_sweep.proofs.vlan_lemmas.trees_lemmas.Lists.{mapped_twice}
+use Rattle.mst_sweep.proofs.vlan_lemmas.trees_lemmas.Looking.{has_tree_at}
+use Rattle.mst_sweep.proofs.vlan_lemmas.trees_lemmas.Seen.{SeenBridge, bridges_seen}
 use Rattle.mst_sweep.specs.declared.failure.Failure.{Failure}
 use Rattle.mst_sweep.specs.declared.failure.Failure.TheVariants.{Lan, Bridge}
 use Rattle.mst_sweep.proofs.AllFailures.{failures_seen}

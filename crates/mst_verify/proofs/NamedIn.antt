@@ -13,10 +13,10 @@ use Rattle.mst_policy.specs.Items as policy
 use Rattle.mst_policy.specs.declared.item.NameItem.{NameItem}
 use Rattle.mst_policy.specs.declared.item.PortItem.{PortItem}
 use Rattle.mst_net.specs.tables.Tables.{Net, Numbers, BridgeRow, port_eq}
-use Rattle.mst_trees.proofs.Lists.{all_there, filter_mapped, mapped_twice}
-use Rattle.mst_trees.proofs.Entries.{all_weaker}
-use Rattle.mst_trees.proofs.Looking.{filter_alike}
-use Rattle.mst_trees.proofs.Seen.{bridge_seen}
+use Rattle.mst_sweep.proofs.vlan_lemmas.trees_lemmas.Lists.{all_there, filter_mapped, mapped_twice}
+use Rattle.mst_sweep.proofs.vlan_lemmas.trees_lemmas.Entries.{all_weaker}
+use Rattle.mst_sweep.proofs.vlan_lemmas.trees_lemmas.Looking.{filter_alike}
+use Rattle.mst_sweep.proofs.vlan_lemmas.trees_lemmas.Seen.{bridge_seen}
 use Rattle.mst_verify.specs.Islands.{names_in, HaveNumbers}
 use Rattle.mst_verify.specs.Named.{Gone, is_enabled, is_named, is_port_named, named, ports_named, stopped}
 use Rattle.mst_verify.specs.Seen.{IsBefore, seen_named, seen_ports_named, seen_stopped}

@@ -8,8 +8,8 @@ use Rattle.mst_graph.proofs.Alike.{alike_groups}
 use Rattle.mst_graph.proofs.Exists.{has_groups}
 use Rattle.mst_graph.proofs.Members.{here, in_whole}
 use Rattle.mst_graph.proofs.Unique as unique
-use Rattle.mst_classes.specs.AllVids.{all_vids}
-use Rattle.mst_classes.proofs.VidPlaces.{vids_once}
+use Rattle.mst_sweep.specs.vlan.classes.AllVids.{all_vids}
+use Rattle.mst_sweep.proofs.vlan_lemmas.classes_lemmas.VidPlaces.{vids_once}
 use Rattle.mst_sweep.proofs.SameParts.{parts_decide, same_parts}
 use Rattle.mst_verify.specs.Named.{vids_in}
 use Rattle.mst_verify.specs.Reasons.{AreVidReasons, Parts, group_reasons}

@@ -13,8 +13,8 @@ use Rattle.mst_net.specs.tables.Tables.{Net, IsNetwork}
 use Rattle.mst_config.specs.Regions.{same_region}
 use Rattle.mst_graph.specs.Lists.{has_any}
 use Rattle.mst_nested.specs.Trees.{IsSettled}
-use Rattle.mst_trees.specs.Outcome.{Outcome, trees_of}
-use Rattle.mst_vlan.specs.Reach.{bridges_on}
+use Rattle.mst_sweep.specs.vlan.trees.Outcome.{Outcome, trees_of}
+use Rattle.mst_sweep.specs.vlan.Reach.{bridges_on}
 use Rattle.mst_note_text.specs.Children.{HasSteps}
 use Rattle.mst_note_text.specs.Depths.{ParentIn}
 use Rattle.mst_note_text.specs.NotesText.{AreNoteRows}

@@ -13,12 +13,12 @@ use Rattle.mst_lag.specs.Aggregation.{same_name}
 use Rattle.mst_lag.specs.View.{logical_lan}
 use Rattle.mst_lag.specs.Viewed.{Viewed, member_lan}
 use Rattle.mst_lag.specs.declared.in_view.MemberLan.{MemberLan}
-use Rattle.mst_trees.specs.Settled.{SettledNet, IsSettledNet, outcome_of}
+use Rattle.mst_sweep.specs.vlan.trees.Settled.{SettledNet, IsSettledNet, outcome_of}
 use Rattle.mst_summary.specs.Seen.{seen_on, seen_over}
 use Rattle.mst_summary.proofs.Named.{over_named as logical_over}
-use Rattle.mst_trees.proofs.Lists.{passed}
-use Rattle.mst_trees.proofs.Looking.{first_found}
-use Rattle.mst_trees.proofs.Views.{name_is}
+use Rattle.mst_sweep.proofs.vlan_lemmas.trees_lemmas.Lists.{passed}
+use Rattle.mst_sweep.proofs.vlan_lemmas.trees_lemmas.Looking.{first_found}
+use Rattle.mst_sweep.proofs.vlan_lemmas.trees_lemmas.Views.{name_is}
 use Rattle.mst_verify.specs.Over.{goes_over, is_lan}
 use Rattle.mst_verify.specs.Seen.{seen_logical}
 

@@ -10,8 +10,8 @@ use Rattle.mst_lag.specs.Aggregation.{same_name}
 use Rattle.mst_lag.specs.View.{IsUnrestricted}
 use Rattle.mst_graph.specs.Walks.{Node, Walk, bridge_at}
 use Rattle.mst_policy.specs.declared.item.NameItem.{NameItem}
-use Rattle.mst_trees.specs.Outcome.{Outcome, IsOutcome}
-use Rattle.mst_vlan.specs.Active.{active_ports, port_ends, IsEnabled}
+use Rattle.mst_sweep.specs.vlan.trees.Outcome.{Outcome, IsOutcome}
+use Rattle.mst_sweep.specs.vlan.Active.{active_ports, port_ends, IsEnabled}
 use Rattle.mst_sweep.specs.Failures.{edit_of, failures}
 use Rattle.mst_sweep.specs.declared.failure.Failure.{Failure}
 use Rattle.mst_sweep.specs.declared.failure.Failure.TheVariants.{Lan, Bridge}

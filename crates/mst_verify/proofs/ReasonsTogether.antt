@@ -7,8 +7,8 @@ use Rattle.mst_lag.specs.Trees.{is_among}
 use Rattle.mst_policy.specs.declared.item.NameItem.{NameItem}
 use Rattle.mst_graph.specs.Lists.{has_any}
 use Rattle.mst_net.specs.tables.Tables.{Net}
-use Rattle.mst_trees.specs.Outcome.{Outcome}
-use Rattle.mst_vlan.specs.Reach.{AreIslandsOf}
+use Rattle.mst_sweep.specs.vlan.trees.Outcome.{Outcome}
+use Rattle.mst_sweep.specs.vlan.Reach.{AreIslandsOf}
 use Rattle.mst_sweep.specs.Parts.{all_parts, staying, ArePartsOf}
 use Rattle.mst_verify.specs.Holds.{StayTogether}
 use Rattle.mst_verify.specs.Named.{Gone, Prior, named}

@@ -11,10 +11,10 @@ use Rattle.mst_lag.specs.declared.in_view.BridgeInView.{BridgeInView}
 use Rattle.mst_net.specs.tables.Tables.{Net, Numbers, BridgeRow}
 use Rattle.mst_config.specs.Regions.{same_configuration, same_region}
 use Rattle.mst_config.specs.Shared.{same_in}
-use Rattle.mst_trees.specs.Agrees.{AreOf}
-use Rattle.mst_trees.proofs.Lists.{no_some, some_is}
-use Rattle.mst_trees.proofs.Looking.{first_found}
-use Rattle.mst_trees.proofs.Seen.{bridge_seen}
+use Rattle.mst_sweep.specs.vlan.trees.Agrees.{AreOf}
+use Rattle.mst_sweep.proofs.vlan_lemmas.trees_lemmas.Lists.{no_some, some_is}
+use Rattle.mst_sweep.proofs.vlan_lemmas.trees_lemmas.Looking.{first_found}
+use Rattle.mst_sweep.proofs.vlan_lemmas.trees_lemmas.Seen.{bridge_seen}
 use Rattle.mst_verify.proofs.Keys.{key_there}
 use Rattle.mst_verify.proofs.NamedIn.{names_are}
 

@@ -11,8 +11,8 @@ use Rattle.mst_lag.specs.Viewed.{Viewed}
 use Rattle.mst_lag.specs.declared.in_view.BridgeInView.{BridgeInView}
 use Rattle.mst_net.specs.tables.Tables.{Net, Numbers}
 use Rattle.mst_config.specs.Regions.{region_of, same_region}
-use Rattle.mst_trees.specs.Agrees.{AreOf}
-use Rattle.mst_trees.specs.Forest.{Forest}
+use Rattle.mst_sweep.specs.vlan.trees.Agrees.{AreOf}
+use Rattle.mst_sweep.specs.vlan.trees.Forest.{Forest}
 use Rattle.mst_config.proofs.SameRegion.{told}
 use Rattle.mst_verify.specs.Islands.{names_in}
 use Rattle.mst_verify.specs.Reasons.{Parts}

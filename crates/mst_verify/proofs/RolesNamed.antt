@@ -8,16 +8,16 @@ use Rattle.mst_lag.specs.Viewed.{named_port}
 use Rattle.mst_lag.specs.declared.in_view.PortInView.{PortInView}
 use Rattle.mst_policy.specs.declared.expectation.Roles.{Roles}
 use Rattle.mst_graph.specs.Lists.{has_any}
-use Rattle.mst_vlan.specs.trees.Roles.{role_in}
-use Rattle.mst_vlan.specs.trees.SeenRoles.{seen_role}
-use Rattle.mst_vlan.specs.trees.declared.kind.Role.{Role}
-use Rattle.mst_trees.specs.Settled.{SettledNet, IsSettledNet, outcome_of}
-use Rattle.mst_vlan.proofs.trees_lemmas.Named.{each_same}
-use Rattle.mst_trees.proofs.Entries.{all_weaker}
-use Rattle.mst_trees.proofs.Lists.{all_there, filter_mapped, mapped_twice}
-use Rattle.mst_trees.proofs.Looking.{filter_alike}
-use Rattle.mst_trees.proofs.Seen.{port_seen}
-use Rattle.mst_trees.proofs.SettledNet.{forest_of}
+use Rattle.mst_sweep.specs.vlan.trees.Roles.{role_in}
+use Rattle.mst_sweep.specs.vlan.trees.SeenRoles.{seen_role}
+use Rattle.mst_sweep.specs.vlan.trees.declared.kind.Role.{Role}
+use Rattle.mst_sweep.specs.vlan.trees.Settled.{SettledNet, IsSettledNet, outcome_of}
+use Rattle.mst_sweep.proofs.vlan_lemmas.trees_lemmas.Named.{each_same}
+use Rattle.mst_sweep.proofs.vlan_lemmas.trees_lemmas.Entries.{all_weaker}
+use Rattle.mst_sweep.proofs.vlan_lemmas.trees_lemmas.Lists.{all_there, filter_mapped, mapped_twice}
+use Rattle.mst_sweep.proofs.vlan_lemmas.trees_lemmas.Looking.{filter_alike}
+use Rattle.mst_sweep.proofs.vlan_lemmas.trees_lemmas.Seen.{port_seen}
+use Rattle.mst_sweep.proofs.vlan_lemmas.trees_lemmas.SettledNet.{forest_of}
 use Rattle.mst_verify.specs.Holds.{is_wanted}
 use Rattle.mst_verify.specs.Reasons.{all_roles, ports_of_role, role_reason, role_reasons, same_role}
 use Rattle.mst_verify.specs.Seen.{seen_role_reason, seen_with_role}

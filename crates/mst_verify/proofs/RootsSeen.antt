@@ -9,13 +9,13 @@ use Rattle.std.proofs.lemmas.List.{length-take, length_push}
 use Rattle.mst_lag.specs.Viewed.{named_bridge}
 use Rattle.mst_lag.specs.declared.in_view.BridgeInView.{BridgeInView}
 use Rattle.mst_net.specs.tables.Tables.{Net, IsNetwork}
-use Rattle.mst_trees.specs.Outcome.{Outcome}
+use Rattle.mst_sweep.specs.vlan.trees.Outcome.{Outcome}
 use Rattle.mst_graph.specs.Lists.{has_any}
-use Rattle.mst_facts.specs.Roots.{root_of}
+use Rattle.mst_sweep.specs.facts.Roots.{root_of}
 use Rattle.mst_summary.specs.Roots.{least}
 use Rattle.mst_summary.specs.declared.roots.Follower.{Follower}
 use Rattle.mst_summary.proofs.Lists.{passed_more}
-use Rattle.mst_trees.proofs.Lists.{length_filtered}
+use Rattle.mst_sweep.proofs.vlan_lemmas.trees_lemmas.Lists.{length_filtered}
 use Rattle.mst_verify.specs.Reasons.{AreRootReasons, other_next}
 use Rattle.mst_verify.specs.Seen.{concerned_followers, seen_other_root}
 use Rattle.mst_verify.specs.declared.reason.Reason.{Reason}

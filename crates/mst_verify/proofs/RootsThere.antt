@@ -8,11 +8,11 @@ use Rattle.mst_net.specs.tables.Tables.{Net, IsNetwork}
 use Rattle.mst_vector.specs.declared.cist.CistVector.{CistVector}
 use Rattle.mst_vector.specs.declared.msti.MstiVector.{MstiVector}
 use Rattle.mst_nested.specs.Trees.{IsSettled}
-use Rattle.mst_trees.specs.Msti.{has_msti}
-use Rattle.mst_trees.specs.Outcome.{Outcome, trees_of}
-use Rattle.mst_facts.specs.Roots.{root_of}
-use Rattle.mst_trees.proofs.Lists.{no_some, some_is}
-use Rattle.mst_vlan.proofs.Names.{tests}
+use Rattle.mst_sweep.specs.vlan.trees.Msti.{has_msti}
+use Rattle.mst_sweep.specs.vlan.trees.Outcome.{Outcome, trees_of}
+use Rattle.mst_sweep.specs.facts.Roots.{root_of}
+use Rattle.mst_sweep.proofs.vlan_lemmas.trees_lemmas.Lists.{no_some, some_is}
+use Rattle.mst_sweep.proofs.vlan_lemmas.Names.{tests}
 use Rattle.mst_note_text.proofs.Tops.{internal_depth, external_depth, ends_cist, ends_msti}
 use Rattle.mst_verify.proofs.Keys.{InNet, cist_there, msti_there}
 

@@ -11,17 +11,17 @@ use Rattle.mst_graph.proofs.Members.{in_none, in_filter, from_filter, in_map, fr
 use Rattle.mst_lag.specs.Aggregation.{same_name}
 use Rattle.mst_net.specs.tables.ByTree.{by_tree}
 use Rattle.mst_net.specs.tables.Tables.{Net, BridgeRow, IsNetwork}
-use Rattle.mst_trees.specs.InUse.{id_in}
-use Rattle.mst_trees.specs.Outcome.{Outcome}
+use Rattle.mst_sweep.specs.vlan.trees.InUse.{id_in}
+use Rattle.mst_sweep.specs.vlan.trees.Outcome.{Outcome}
 use Rattle.mst_graph.specs.Lists.{has_any}
-use Rattle.mst_facts.specs.Roots.{root_of}
+use Rattle.mst_sweep.specs.facts.Roots.{root_of}
 use Rattle.mst_config.specs.Regions.{same_region}
 use Rattle.mst_summary.specs.Roots.{least, with_lesser}
 use Rattle.mst_summary.specs.declared.roots.Follower.{Follower}
 use Rattle.mst_summary.proofs.Next.{least_of}
-use Rattle.mst_trees.proofs.Entries.{all_weaker}
-use Rattle.mst_trees.proofs.Lists.{all_contained, all_there, filter_mapped, kept_from, no_some, some_is}
-use Rattle.mst_trees.proofs.Looking.{filter_alike}
+use Rattle.mst_sweep.proofs.vlan_lemmas.trees_lemmas.Entries.{all_weaker}
+use Rattle.mst_sweep.proofs.vlan_lemmas.trees_lemmas.Lists.{all_contained, all_there, filter_mapped, kept_from, no_some, some_is}
+use Rattle.mst_sweep.proofs.vlan_lemmas.trees_lemmas.Looking.{filter_alike}
 use Rattle.mst_verify.specs.Reasons.{other_root, root_count}
 use Rattle.mst_verify.specs.Roots.{concerned, identifier, is_concerned, is_root_of, IsNextRoot}
 use Rattle.mst_verify.specs.Seen.{concerned_follower, concerned_followers, seen_other_root}

@@ -13,11 +13,11 @@ use Rattle.mst_note_text.proofs.Regions.{msti_region, parent_sides}
 use Rattle.mst_note_text.proofs.Tops.{external_depth, internal_depth}
 use Rattle.mst_net.specs.tables.Tables.{Net, IsNetwork}
 use Rattle.mst_nested.specs.Trees.{HasTree, IsSettled, Trees}
-use Rattle.mst_trees.specs.Outcome.{Outcome, trees_of}
+use Rattle.mst_sweep.specs.vlan.trees.Outcome.{Outcome, trees_of}
 use Rattle.mst_vector.specs.declared.cist.CistVector.{CistVector}
 use Rattle.mst_vector.specs.declared.msti.MstiVector.{MstiVector}
-use Rattle.mst_trees.proofs.Lists.{no_some}
-use Rattle.mst_vlan.proofs.Names.{tests}
+use Rattle.mst_sweep.proofs.vlan_lemmas.trees_lemmas.Lists.{no_some}
+use Rattle.mst_sweep.proofs.vlan_lemmas.Names.{tests}
 use Rattle.mst_verify.proofs.Keys.{tree_there}
 
 module _ (net : Net) (ok : IsNetwork net) (o : Outcome) (settled : IsSettled (trees_of net o)) where

@@ -21,8 +21,8 @@ use Rattle.mst_rows.specs.Rows.{Row}
 use Rattle.mst_net.specs.tables.Tables.{Net, IsNetwork}
 use Rattle.mst_config.specs.Regions.{same_region}
 use Rattle.mst_nested.specs.Trees.{IsSettled}
-use Rattle.mst_trees.specs.Outcome.{Outcome, trees_of}
-use Rattle.mst_vlan.specs.Reach.{AreIslandsOf, bridges_on, vid_links}
+use Rattle.mst_sweep.specs.vlan.trees.Outcome.{Outcome, trees_of}
+use Rattle.mst_sweep.specs.vlan.Reach.{AreIslandsOf, bridges_on, vid_links}
 use Rattle.mst_sweep.specs.Parts.{home}
 use Rattle.mst_sweep.proofs.Joined.{has_home, home_joined, home_on, joined_home}
 use Rattle.mst_verify.specs.Named.{Gone, Prior, named, ports_named}

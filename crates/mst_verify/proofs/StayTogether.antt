@@ -6,9 +6,9 @@ use Rattle.std.proofs.lemmas.Bool.{eqb-true, eq-eqb}
 use Rattle.mst_graph.specs.Islands.{Island}
 use Rattle.mst_graph.specs.Lists.{has_any}
 use Rattle.mst_net.specs.tables.Tables.{Net}
-use Rattle.mst_trees.specs.Outcome.{Outcome}
-use Rattle.mst_trees.proofs.Lists.{kept_in, kept_from, some_is}
-use Rattle.mst_vlan.specs.Reach.{AreIslandsOf, bridges_on}
+use Rattle.mst_sweep.specs.vlan.trees.Outcome.{Outcome}
+use Rattle.mst_sweep.proofs.vlan_lemmas.trees_lemmas.Lists.{kept_in, kept_from, some_is}
+use Rattle.mst_sweep.specs.vlan.Reach.{AreIslandsOf, bridges_on}
 use Rattle.mst_sweep.specs.Parts.{all_parts, home, staying, stays_at}
 use Rattle.mst_sweep.specs.declared.parts.Stays.{Stays}
 use Rattle.mst_sweep.proofs.CutApart.{both_true, have_parts, not_true, stays_is, two_apart}

@@ -3,10 +3,10 @@ use Rattle.std.proofs.Common.{◌≡◌, ◌+◌, ◌<◌, ℕ, Bool, true, fals
 use Rattle.std.specs.HashMap.{HashMap}
 use Rattle.std.specs.Option.{option_map}
 use Rattle.std.proofs.lemmas.List.{get_or_default}
-use Rattle.mst_vlan.specs.Carried.{ViewWithTrees, AreFlags, CarryAlike}
-use Rattle.mst_trees.specs.Settled.{SettledNet, IsSettledNet, outcome_of}
-use Rattle.mst_classes.proofs.VidPlaces.{zip_at}
-use Rattle.mst_trees.proofs.Lists.{some_is}
+use Rattle.mst_sweep.specs.vlan.Carried.{ViewWithTrees, AreFlags, CarryAlike}
+use Rattle.mst_sweep.specs.vlan.trees.Settled.{SettledNet, IsSettledNet, outcome_of}
+use Rattle.mst_sweep.proofs.vlan_lemmas.classes_lemmas.VidPlaces.{zip_at}
+use Rattle.mst_sweep.proofs.vlan_lemmas.trees_lemmas.Lists.{some_is}
 use Rattle.mst_sweep.specs.Baseline.{AreHomes}
 use Rattle.mst_verify.specs.Islands.{AreAlike, AreMade, AreStill, HasIslandsOf, IsOfPlan}
 use Rattle.mst_verify.specs.declared.before.Before.{Before}

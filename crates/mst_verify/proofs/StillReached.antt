@@ -3,7 +3,7 @@ use Rattle.std.proofs.Common.{◌≡◌, ◌⊎◌, ℕ, List, map, Some, inl, i
 use Rattle.std.specs.List.{Contains, filter}
 use Rattle.std.specs.FinMap as fin
 use Rattle.std.proofs.lemmas.List.Elements.{All-contains}
-use Rattle.mst_vlan.specs.Carried.{names_of, seen_carried}
+use Rattle.mst_sweep.specs.vlan.Carried.{names_of, seen_carried}
 use Rattle.mst_graph.specs.Islands.{Link, AreJoined, link_ends}
 use Rattle.mst_graph.specs.Walks.{Links, Node, Walk, bridge_at, lan_at, stay, along}
 use Rattle.mst_graph.proofs.Splits.{map_of_map}
@@ -14,17 +14,17 @@ use Rattle.mst_lag.specs.Viewed.{Viewed, named_port}
 use Rattle.mst_lag.specs.declared.in_view.PortInView.{PortInView}
 use Rattle.mst_net.specs.tables.ByTree.{vlans_in}
 use Rattle.mst_net.specs.tables.Tables.{IsNetwork, Net, Numbers}
-use Rattle.mst_trees.specs.Agrees.{AreOf}
-use Rattle.mst_trees.specs.Forest.{Forest, IsForest}
-use Rattle.mst_trees.specs.Outcome.{Outcome}
-use Rattle.mst_trees.specs.Settled.{SettledNet, IsSettledNet, outcome_of}
-use Rattle.mst_trees.proofs.Lists.{filter_mapped}
-use Rattle.mst_trees.proofs.SettledNet.{forest_of}
-use Rattle.mst_vlan.specs.Active.{active_ports}
-use Rattle.mst_vlan.specs.Reach.{bridges_on, lans_up, is_member, link_of, vid_links}
-use Rattle.mst_vlan.specs.Seen.{seen_active, seen_member}
-use Rattle.mst_vlan.proofs.Listed.{active_listed}
-use Rattle.mst_vlan.proofs.Reached.{links_have}
+use Rattle.mst_sweep.specs.vlan.trees.Agrees.{AreOf}
+use Rattle.mst_sweep.specs.vlan.trees.Forest.{Forest, IsForest}
+use Rattle.mst_sweep.specs.vlan.trees.Outcome.{Outcome}
+use Rattle.mst_sweep.specs.vlan.trees.Settled.{SettledNet, IsSettledNet, outcome_of}
+use Rattle.mst_sweep.proofs.vlan_lemmas.trees_lemmas.Lists.{filter_mapped}
+use Rattle.mst_sweep.proofs.vlan_lemmas.trees_lemmas.SettledNet.{forest_of}
+use Rattle.mst_sweep.specs.vlan.Active.{active_ports}
+use Rattle.mst_sweep.specs.vlan.Reach.{bridges_on, lans_up, is_member, link_of, vid_links}
+use Rattle.mst_sweep.specs.vlan.Seen.{seen_active, seen_member}
+use Rattle.mst_sweep.proofs.vlan_lemmas.Listed.{active_listed}
+use Rattle.mst_sweep.proofs.vlan_lemmas.Reached.{links_have}
 use Rattle.mst_verify.specs.Holds.{IsReached}
 use Rattle.mst_verify.specs.Islands.{TellReached}
 

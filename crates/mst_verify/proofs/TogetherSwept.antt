@@ -14,13 +14,13 @@ use Rattle.mst_net.specs.tables.After.{after}
 use Rattle.mst_net.specs.tables.Tables.{IsNetwork, Net}
 use Rattle.mst_policy.specs.declared.item.NameItem.TheVariants.{Any}
 use Rattle.mst_rows.specs.Rows.{Row}
-use Rattle.mst_trees.proofs.Pieces.{flat_map-flat_map}
+use Rattle.mst_sweep.proofs.vlan_lemmas.trees_lemmas.Pieces.{flat_map-flat_map}
 use Rattle.mst_lag.specs.View.{bridge_names}
 use Rattle.mst_graph.specs.Lists.{has_any}
-use Rattle.mst_classes.specs.AllVids.{all_vids}
-use Rattle.mst_trees.specs.Outcome.{IsOutcome, Outcome}
-use Rattle.mst_classes.proofs.VidPlaces.{is_vid_there}
-use Rattle.mst_vlan.specs.Reach.{AreIslandsOf}
+use Rattle.mst_sweep.specs.vlan.classes.AllVids.{all_vids}
+use Rattle.mst_sweep.specs.vlan.trees.Outcome.{IsOutcome, Outcome}
+use Rattle.mst_sweep.proofs.vlan_lemmas.classes_lemmas.VidPlaces.{is_vid_there}
+use Rattle.mst_sweep.specs.vlan.Reach.{AreIslandsOf}
 use Rattle.mst_sweep.specs.Cuts.{AreCuts, cut_row, group_rows, runs_of}
 use Rattle.mst_sweep.specs.Failures.{edit_of, failures}
 use Rattle.mst_sweep.specs.Parts.{all_parts, AreParts, ArePartsOf, home, staying, stays_at}

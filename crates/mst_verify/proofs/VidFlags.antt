@@ -3,7 +3,7 @@ use Rattle.std.proofs.Common.{◌≡◌, inl, inr, ℕ, zero, suc, ◌+◌, ◌-
 use Rattle.std.specs.List.{Contains}
 use Rattle.std.proofs.lemmas.List.{take_all, take_more}
 use Rattle.std.proofs.lemmas.List.Elements.{Contains-push_cases}
-use Rattle.mst_classes.specs.Flags.{flag_at}
+use Rattle.mst_sweep.specs.vlan.classes.Flags.{flag_at}
 
 kept : (flags : List Bool) (class n : ℕ) → get_or flags n false ≡ true → get_or (set flags class true) n false ≡ true
 kept [] class n e = e

@@ -6,9 +6,9 @@ use Rattle.std.proofs.lemmas.List.Elements.{All-contains_itself}
 use Rattle.mst_graph.specs.Groups.{AreGroups}
 use Rattle.mst_graph.specs.Numbers.{HaveBodies}
 use Rattle.mst_graph.proofs.Alike.{alike_groups}
-use Rattle.mst_classes.specs.AllVids.{NumberEach}
-use Rattle.mst_classes.specs.AllVids.{all_vids}
-use Rattle.mst_classes.proofs.VidPlaces.{vid_place}
+use Rattle.mst_sweep.specs.vlan.classes.AllVids.{NumberEach}
+use Rattle.mst_sweep.specs.vlan.classes.AllVids.{all_vids}
+use Rattle.mst_sweep.proofs.vlan_lemmas.classes_lemmas.VidPlaces.{vid_place}
 use Rattle.mst_sweep.specs.Cuts.{parts_at}
 use Rattle.mst_sweep.proofs.SameParts.{same_parts, parts_decide}
 use Rattle.mst_verify.specs.Reasons.{Parts}

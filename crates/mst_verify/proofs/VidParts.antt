@@ -8,18 +8,18 @@ use Rattle.mst_graph.specs.declared.keys.Numbering.{Numbering}
 use Rattle.mst_graph.proofs.Alike.{alike_groups}
 use Rattle.mst_lag.specs.Viewed.{Viewed}
 use Rattle.mst_net.specs.tables.Tables.{Net}
-use Rattle.mst_classes.specs.Alike.{AreAlike}
-use Rattle.mst_classes.specs.AllVids.{NumberEach}
-use Rattle.mst_classes.specs.AllVids.{all_vids}
-use Rattle.mst_trees.specs.Outcome.{Outcome}
-use Rattle.mst_trees.specs.Settled.{SettledNet, IsSettledNet, outcome_of}
-use Rattle.mst_classes.specs.Classes.{AreClasses}
-use Rattle.mst_classes.specs.Flags.{flag_at}
-use Rattle.mst_vlan.proofs.LinksAlike.{links_shared}
-use Rattle.mst_classes.proofs.VidPlaces.{numbers_below}
-use Rattle.mst_classes.proofs.VidPlaces.{vid_place}
+use Rattle.mst_sweep.specs.vlan.classes.Alike.{AreAlike}
+use Rattle.mst_sweep.specs.vlan.classes.AllVids.{NumberEach}
+use Rattle.mst_sweep.specs.vlan.classes.AllVids.{all_vids}
+use Rattle.mst_sweep.specs.vlan.trees.Outcome.{Outcome}
+use Rattle.mst_sweep.specs.vlan.trees.Settled.{SettledNet, IsSettledNet, outcome_of}
+use Rattle.mst_sweep.specs.vlan.classes.Classes.{AreClasses}
+use Rattle.mst_sweep.specs.vlan.classes.Flags.{flag_at}
+use Rattle.mst_sweep.proofs.vlan_lemmas.LinksAlike.{links_shared}
+use Rattle.mst_sweep.proofs.vlan_lemmas.classes_lemmas.VidPlaces.{numbers_below}
+use Rattle.mst_sweep.proofs.vlan_lemmas.classes_lemmas.VidPlaces.{vid_place}
 use Rattle.mst_sweep.specs.Cuts.{parts_at}
-use Rattle.mst_vlan.specs.Reach.{vid_links}
+use Rattle.mst_sweep.specs.vlan.Reach.{vid_links}
 use Rattle.mst_verify.specs.Holds.{AreTogether, IsReached}
 use Rattle.mst_verify.specs.Islands.{AreOfClasses, AreReachParts}
 use Rattle.mst_verify.specs.Reasons.{AreBoth, Parts, either_on}

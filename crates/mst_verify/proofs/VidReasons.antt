@@ -6,10 +6,10 @@ use Rattle.mst_ids.specs.Vids.{has}
 use Rattle.mst_graph.specs.declared.keys.Numbering.{Numbering}
 use Rattle.mst_graph.proofs.Members.{from_filter}
 use Rattle.mst_lag.specs.Viewed.{Viewed}
-use Rattle.mst_classes.specs.AllVids.{NumberEach}
-use Rattle.mst_classes.specs.AllVids.{all_vids}
-use Rattle.mst_classes.specs.Classes.{AreClasses}
-use Rattle.mst_classes.specs.Flags.{flag_at}
+use Rattle.mst_sweep.specs.vlan.classes.AllVids.{NumberEach}
+use Rattle.mst_sweep.specs.vlan.classes.AllVids.{all_vids}
+use Rattle.mst_sweep.specs.vlan.classes.Classes.{AreClasses}
+use Rattle.mst_sweep.specs.vlan.classes.Flags.{flag_at}
 use Rattle.mst_sweep.specs.Cuts.{names_of, parts_at}
 use Rattle.mst_verify.specs.Grouping.{HasBody}
 use Rattle.mst_verify.specs.Islands.{AreOfClasses}

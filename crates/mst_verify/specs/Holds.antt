@@ -14,13 +14,13 @@ use Rattle.mst_lag.specs.View.{LogicalPort}
 use Rattle.mst_note_text.specs.Children.{HasSteps}
 use Rattle.mst_note_text.specs.Depths.{ParentIn}
 use Rattle.mst_note_text.specs.NotesText.{AreNoteRows}
-use Rattle.mst_trees.specs.Outcome.{Outcome, trees_of}
-use Rattle.mst_vlan.specs.trees.Roles.{role_in}
-use Rattle.mst_vlan.specs.trees.declared.kind.Role.{Role}
-use Rattle.mst_vlan.specs.trees.declared.kind.Role.TheVariants.{Root, Designated, Alternate, Backup, Master, Disabled}
-use Rattle.mst_vlan.specs.Reach.{bridges_on, vid_links}
+use Rattle.mst_sweep.specs.vlan.trees.Outcome.{Outcome, trees_of}
+use Rattle.mst_sweep.specs.vlan.trees.Roles.{role_in}
+use Rattle.mst_sweep.specs.vlan.trees.declared.kind.Role.{Role}
+use Rattle.mst_sweep.specs.vlan.trees.declared.kind.Role.TheVariants.{Root, Designated, Alternate, Backup, Master, Disabled}
+use Rattle.mst_sweep.specs.vlan.Reach.{bridges_on, vid_links}
 use Rattle.mst_graph.specs.Lists.{has_any}
-use Rattle.mst_facts.specs.Roots.{root_name}
+use Rattle.mst_sweep.specs.facts.Roots.{root_name}
 use Rattle.mst_policy.specs.declared.expectation.Expectation.{Expectation}
 use Rattle.mst_policy.specs.declared.expectation.Expectation.TheVariants as expect
 use Rattle.mst_policy.specs.declared.expectation.Roles.{Roles}

@@ -5,16 +5,16 @@ use Rattle.std.specs.Map.{lookup}
 use Rattle.std.specs.Option.{option_map, option_map_or}
 use Rattle.std.specs.FinMap as fin
 use Rattle.std.specs.HashMap.{HashMap}
-use Rattle.mst_vlan.specs.Carried.{ViewWithTrees, CarryAlike}
+use Rattle.mst_sweep.specs.vlan.Carried.{ViewWithTrees, CarryAlike}
 use Rattle.mst_graph.specs.Groups.{AreGroups}
 use Rattle.mst_lag.specs.declared.in_view.BridgeInView.{BridgeInView}
 use Rattle.mst_net.specs.tables.Tables.{Net, Numbers}
-use Rattle.mst_trees.specs.Outcome.{Outcome}
-use Rattle.mst_trees.specs.Settled.{SettledNet, IsSettledNet, outcome_of}
+use Rattle.mst_sweep.specs.vlan.trees.Outcome.{Outcome}
+use Rattle.mst_sweep.specs.vlan.trees.Settled.{SettledNet, IsSettledNet, outcome_of}
 use Rattle.mst_policy.specs.declared.item.NameItem.{NameItem}
 use Rattle.mst_sweep.specs.Baseline.{AreHomes}
 use Rattle.mst_sweep.specs.Parts.{ArePartsOf}
-use Rattle.mst_classes.specs.Classes.{AreClasses}
+use Rattle.mst_sweep.specs.vlan.classes.Classes.{AreClasses}
 use Rattle.mst_verify.specs.Holds.{IsReached}
 use Rattle.mst_verify.specs.Named.{Gone, Prior, named}
 use Rattle.mst_verify.specs.Reasons.{Parts}

@@ -9,7 +9,7 @@ use Rattle.mst_policy.specs.declared.item.NameItem.{NameItem}
 use Rattle.mst_graph.specs.Lists.{has_any}
 use Rattle.mst_net.specs.tables.After.{after}
 use Rattle.mst_net.specs.tables.Tables.{Net}
-use Rattle.mst_vlan.specs.Reach.{bridges_on}
+use Rattle.mst_sweep.specs.vlan.Reach.{bridges_on}
 use Rattle.mst_sweep.specs.Apart.{AllAreMembers, AreLinked}
 use Rattle.mst_sweep.specs.Failures.{edit_of, failures}
 use Rattle.mst_sweep.specs.declared.failure.Failure.{Failure}

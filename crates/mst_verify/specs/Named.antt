@@ -6,10 +6,10 @@ use Rattle.std.specs.FinMap as fin
 use Rattle.mst_ids.specs.Vids.{has}
 use Rattle.mst_ids.specs.declared.name.PortName.{PortName}
 use Rattle.mst_net.specs.tables.Tables.{IsNetwork, Net, port_eq}
-use Rattle.mst_trees.specs.Outcome.{Outcome}
+use Rattle.mst_sweep.specs.vlan.trees.Outcome.{Outcome}
 use Rattle.mst_lag.specs.Aggregation.{same_name}
 use Rattle.mst_lag.specs.View.{LogicalPort, view_ports}
-use Rattle.mst_classes.specs.AllVids.{all_vids}
+use Rattle.mst_sweep.specs.vlan.classes.AllVids.{all_vids}
 use Rattle.mst_policy.specs.Items as policy
 use Rattle.mst_policy.specs.declared.item.NameItem.{NameItem}
 use Rattle.mst_policy.specs.declared.item.PortItem.{PortItem}

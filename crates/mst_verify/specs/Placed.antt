@@ -2,7 +2,7 @@
 use Rattle.std.specs.Prelude.{◌≡◌, List, Option, None, Some, Ok}
 use Rattle.mst_net.specs.tables.After.{after}
 use Rattle.mst_net.specs.tables.Tables.{Net}
-use Rattle.mst_trees.specs.Outcome.{Outcome, IsOutcome}
+use Rattle.mst_sweep.specs.vlan.trees.Outcome.{Outcome, IsOutcome}
 use Rattle.mst_sweep.specs.Failures.{edit_of}
 use Rattle.mst_sweep.specs.declared.failure.Failure.{Failure}
 use Rattle.mst_policy.specs.declared.expectation.Expectation.{Expectation}

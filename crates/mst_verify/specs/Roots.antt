@@ -7,9 +7,9 @@ use Rattle.mst_net.specs.tables.ByTree.{by_tree}
 use Rattle.mst_net.specs.tables.Tables.{Net}
 use Rattle.mst_config.specs.Regions.{same_region}
 use Rattle.mst_lag.specs.Aggregation.{same_name}
-use Rattle.mst_trees.specs.InUse.{id_in}
-use Rattle.mst_trees.specs.Outcome.{Outcome}
-use Rattle.mst_facts.specs.Roots.{root_of, root_name}
+use Rattle.mst_sweep.specs.vlan.trees.InUse.{id_in}
+use Rattle.mst_sweep.specs.vlan.trees.Outcome.{Outcome}
+use Rattle.mst_sweep.specs.facts.Roots.{root_of, root_name}
 
 -- a bridge has a root in the tree, and in a tree other than 0 it is of B's region. One that is off or hasn't the tree has no root
 abbrev pub is_concerned : Net → Outcome → ℕ → List ℕ → List ℕ → Bool

@@ -17,11 +17,11 @@ use Rattle.mst_lag.specs.declared.in_view.BridgeInView.{BridgeInView}
 use Rattle.mst_lag.specs.declared.in_view.MemberLan.{MemberLan}
 use Rattle.mst_lag.specs.declared.in_view.PortInView.{PortInView}
 use Rattle.mst_note_text.specs.declared.children.Child.{Child}
-use Rattle.mst_trees.specs.Forest.{Forest}
-use Rattle.mst_trees.specs.InUse.{id_in}
-use Rattle.mst_trees.specs.Outcome.{Outcome}
-use Rattle.mst_vlan.specs.trees.SeenRoles.{seen_role}
-use Rattle.mst_vlan.specs.trees.declared.kind.Role.{Role}
+use Rattle.mst_sweep.specs.vlan.trees.Forest.{Forest}
+use Rattle.mst_sweep.specs.vlan.trees.InUse.{id_in}
+use Rattle.mst_sweep.specs.vlan.trees.Outcome.{Outcome}
+use Rattle.mst_sweep.specs.vlan.trees.SeenRoles.{seen_role}
+use Rattle.mst_sweep.specs.vlan.trees.declared.kind.Role.{Role}
 use Rattle.mst_graph.specs.Lists.{has_any}
 use Rattle.mst_summary.specs.Roots.{follower}
 use Rattle.mst_summary.specs.declared.roots.Follower.{Follower}

@@ -9,8 +9,8 @@ use Rattle.mst_policy.specs.declared.expectation.Expectation.TheVariants as expe
 use Rattle.mst_policy.specs.declared.item.NameItem.TheVariants.{Any}
 use Rattle.mst_net.specs.tables.After.{after}
 use Rattle.mst_net.specs.tables.Tables.{Net, IsNetwork}
-use Rattle.mst_classes.specs.AllVids.{all_vids}
-use Rattle.mst_trees.specs.Outcome.{Outcome, IsOutcome}
+use Rattle.mst_sweep.specs.vlan.classes.AllVids.{all_vids}
+use Rattle.mst_sweep.specs.vlan.trees.Outcome.{Outcome, IsOutcome}
 use Rattle.mst_sweep.specs.Cuts.{cut_row}
 use Rattle.mst_sweep.specs.declared.cuts.CutBy.TheVariants.{One}
 use Rattle.mst_sweep.specs.Failures.{edit_of, failures}

@@ -1,6 +1,6 @@
 ghost use Rattle.std.specs.Prelude.{◌≡◌, ◌+◌, ◌<◌, IfOk, filter, length, map, slice_index, true, vec_len};
 ghost use Rattle.std.specs.List.{list_any};
-ghost use Rattle.mst_trees.specs.Settled.{outcome_of};
+ghost use Rattle.mst_sweep.specs.vlan.trees.Settled.{outcome_of};
 ghost use Rattle.mst_sweep.specs.Cuts.{names_of};
 ghost use Rattle.mst_verify.specs.Named.{named as named_in, is_named as is_named_of};
 ghost use Rattle.mst_verify.specs.Islands.{AreKept, AreOfClasses};

@@ -3,19 +3,17 @@ ghost use Rattle.std.specs.List.{list_any};
 ghost use Rattle.std.specs.HashSet.{contains};
 ghost use Rattle.mst_ids.specs.declared.name.PortName.{PortName as PortNameOf};
 ghost use Rattle.mst_net.specs.tables.Tables.{port_eq};
-ghost use Rattle.mst_classes.specs.Classes.{AreClasses};
+ghost use Rattle.mst_sweep.specs.vlan.classes.Classes.{AreClasses};
 ghost use Rattle.mst_verify.specs.Islands.{HasIslandsOf, IsOfPlan};
 ghost use Rattle.mst_verify.specs.Seen.{IsBefore};
 
 use crate::homes::made_at;
 use crate::vids::classes_asked;
 use indexmap::{IndexMap, IndexSet};
-use mst_classes::classes_of_vids;
 use mst_graph::Numbering;
 use mst_ids::{BridgeNo, PortName, VidSet};
 use mst_lag::View;
-use mst_trees::Settled;
-use mst_vlan::Carriage;
+use mst_sweep::{Carriage, Settled, classes_of_vids};
 use std::alloc::{AllocError, Global};
 
 /// What is kept of a network for all its failures: the classes of its VIDs that no table and no set of VLANs tells apart, which no failure

@@ -4,11 +4,9 @@ ghost use Rattle.mst_verify.specs.Islands.{AreBeside, IsOfPlan};
 use crate::homes::{made_at, with_both};
 use crate::vids::classes_asked;
 use indexmap::IndexMap;
-use mst_classes::classes_of_both;
 use mst_graph::Numbering;
 use mst_ids::{BridgeNo, VidSet};
-use mst_trees::Settled;
-use mst_vlan::{Carriage, differing};
+use mst_sweep::{Carriage, Settled, classes_of_both, differing};
 use std::alloc::{AllocError, Global};
 
 /// What is kept of two networks of which the one came from the other: classes of VIDs that nothing tells apart in either, and the islands of some

@@ -1,11 +1,11 @@
 ghost use Rattle.std.specs.Prelude.{◌≡◌, filter};
-ghost use Rattle.mst_facts.specs.Both.{seen_both};
+ghost use Rattle.mst_sweep.specs.facts.Both.{seen_both};
 ghost use Rattle.mst_verify.specs.Named.{is_named};
 
 use crate::judged::Judged;
 use crate::prior::Prior;
-use mst_facts::Both;
 use mst_policy::NameList;
+use mst_sweep::Both;
 
 /// The network that is judged and the one that is prior to it, with the bridges of some names that both have.
 #[derive(Clone, Copy)]

@@ -1,5 +1,5 @@
 ghost use Rattle.std.specs.Prelude.{◌≡◌, ◌==◌, ◌∷◌, [], nat_lt, max, IfOk, fold, map, filter, if◌then◌else◌};
-ghost use Rattle.mst_trees.specs.Settled.{outcome_of};
+ghost use Rattle.mst_sweep.specs.vlan.trees.Settled.{outcome_of};
 ghost use Rattle.mst_verify.specs.Reasons.{AreDepthReasons};
 
 use crate::judged::Judged;
@@ -7,7 +7,7 @@ use crate::lists::BridgeNames;
 use crate::reason::Reason;
 use mst_ids::{Name, Tree};
 use mst_note_text::{Child, children_of};
-use mst_trees::laws::nested;
+use mst_sweep::trees_laws::nested;
 use std::alloc::{AllocError, Global};
 
 /// The most steps of any of these bridges, and 0 where there is none.

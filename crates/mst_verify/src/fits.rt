@@ -1,6 +1,6 @@
 ghost use Rattle.std.specs.Prelude.{◌≡◌, ◌++◌, IfOk, OnOk, filter_map, map};
 ghost use Rattle.mst_rows.specs.Rows.{cell};
-ghost use Rattle.mst_trees.specs.Settled.{outcome_of};
+ghost use Rattle.mst_sweep.specs.vlan.trees.Settled.{outcome_of};
 ghost use Rattle.mst_verify.specs.Reasons.{AreFitsReasons, limit_in, limit_of, some_of, number_in as number_of, word_in as word_of};
 
 use crate::judged::Judged;

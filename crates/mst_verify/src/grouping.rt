@@ -1,7 +1,7 @@
 ghost use Rattle.std.specs.Prelude.{◌≡◌, ◌++◌, IfOk, OnOk, length, map};
 ghost use Rattle.std.specs.List.{flat_map};
 ghost use Rattle.mst_graph.specs.Lists.{has_any};
-ghost use Rattle.mst_classes.specs.AllVids.{NumberEach};
+ghost use Rattle.mst_sweep.specs.vlan.classes.AllVids.{NumberEach};
 ghost use Rattle.mst_sweep.specs.Cuts.{names_of, parts_at as parts_at_vid};
 ghost use Rattle.mst_verify.specs.Grouping.{HasBody, reason_of as reason_of_parts, tells, tells_of};
 ghost use Rattle.mst_verify.specs.Reasons.{AreVidReasons, group_reasons};
@@ -11,8 +11,8 @@ use crate::parting::{copy, grouped};
 use crate::reason::Reason;
 use crate::regions::has_two;
 use crate::vids::class_of;
-use mst_classes::set_of;
 use mst_ids::{Name, Vid, VidSet};
+use mst_sweep::set_of;
 use std::alloc::{AllocError, Global};
 
 /// What is told of VIDs that have parts.

@@ -1,18 +1,15 @@
 ghost use Rattle.std.specs.Prelude.{◌≡◌, ◌<◌, ◌+◌, IfOk, MatchOption, [], length, ⊤};
 ghost use Rattle.std.specs.List.{All};
-ghost use Rattle.mst_trees.specs.Settled.{outcome_of, SettledNet};
-ghost use Rattle.mst_classes.specs.Classes.{AreClasses};
+ghost use Rattle.mst_sweep.specs.vlan.trees.Settled.{outcome_of, SettledNet};
+ghost use Rattle.mst_sweep.specs.vlan.classes.Classes.{AreClasses};
 ghost use Rattle.mst_sweep.specs.Baseline.{AreHomes};
 ghost use Rattle.mst_verify.specs.Islands.{AreAlike, AreKept, AreMade, AreMadeBy, HasHomesBy, HasIslandsOf};
 
 use crate::before::Before;
 use crate::vids::classes_asked;
 use indexmap::IndexMap;
-use mst_facts::Planned;
 use mst_ids::{BridgeNo, Vid, VidSet};
-use mst_sweep::{homes_by, homes_of};
-use mst_trees::Settled;
-use mst_vlan::{Carriage, differing};
+use mst_sweep::{Carriage, Planned, Settled, differing, homes_by, homes_of};
 use std::alloc::{AllocError, Global};
 
 /// The islands of some classes of VIDs in a network, made once for all expectations that ask for them.

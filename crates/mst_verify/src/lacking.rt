@@ -2,7 +2,7 @@ ghost use Rattle.std.specs.Prelude.{◌≡◌, ◌&&◌, ◌||◌, ◌++◌, map
 ghost use Rattle.std.specs.List.{list_all, list_any};
 ghost use Rattle.mst_policy.specs.Items.{item_has, port_item_has};
 ghost use Rattle.mst_graph.specs.Lists.{has_any};
-ghost use Rattle.mst_trees.specs.InUse.{is_in_use};
+ghost use Rattle.mst_sweep.specs.vlan.trees.InUse.{is_in_use};
 ghost use Rattle.mst_verify.specs.Missing.{bridges_of, code_of, has_failure as has_failure_of, has_one as has_one_of, has_port as has_port_of, have_failures as have_failures_of, is_tree as is_tree_of, lacks_bridge as lacks_bridge_of, lacks_failure as lacks_failure_of, lacks_lan as lacks_lan_of, lacks_port as lacks_port_of, lacks_tree as lacks_tree_of, lans_of, missing as missing_of, next_item, scope_bridges, scope_lans, text_of};
 ghost use Rattle.mst_verify.specs.Seen.{seen_bridge_fails, seen_lan_fails};
 
@@ -10,8 +10,7 @@ use crate::asking::asks;
 use mst_ids::{Name, Tree};
 use mst_lag::{BridgeInView, MemberLan, PortInView, View};
 use mst_policy::{Expectation, NameItem, PortItem, Promise, Scope};
-use mst_sweep::Failure;
-use mst_trees::Settled;
+use mst_sweep::{Failure, Settled};
 
 /// What a promise names and the network hasn't, or that nothing is judged of it there.
 #[derive(Clone, Copy)]

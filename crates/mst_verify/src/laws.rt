@@ -6,7 +6,7 @@ ghost use Rattle.mst_policy.specs.declared.expectation.Promise.{Promise as Promi
 ghost use Rattle.mst_policy.specs.declared.item.NameItem.{NameItem as ItemOf};
 ghost use Rattle.mst_rows.specs.Rows.{Row};
 ghost use Rattle.mst_net.specs.tables.Tables.{Net, IsNetwork};
-ghost use Rattle.mst_trees.specs.Outcome.{Outcome, IsOutcome};
+ghost use Rattle.mst_sweep.specs.vlan.trees.Outcome.{Outcome, IsOutcome};
 ghost use Rattle.mst_sweep.specs.Cuts.{AreCuts};
 ghost use Rattle.mst_sweep.specs.Failures.{failures};
 ghost use Rattle.mst_sweep.specs.SweepText.{Told, IsTold};
@@ -22,8 +22,8 @@ ghost use Rattle.mst_verify.specs.declared.reason.Reason.{Reason as ReasonOf};
 
 use mst_net::laws::networks;
 use mst_note_text::laws::notes;
-use mst_trees::laws::{has_outcome, nested, one_outcome};
-use mst_vlan::laws::{islands_of_vid, joined_without_loop};
+use mst_sweep::trees_laws::{has_outcome, nested, one_outcome};
+use mst_sweep::vlan_laws::{islands_of_vid, joined_without_loop};
 
 /// A reason is told exactly where an expectation doesn't hold.
 pub fn told_where_broken()

@@ -2,7 +2,7 @@ ghost use Rattle.std.specs.Prelude.{◌≡◌, ◌++◌, ◌∷◌, [], ℕ, Lis
 ghost use Rattle.std.specs.List.{flat_map};
 ghost use Rattle.indexmap.specs.IndexMap.{get};
 ghost use Rattle.mst_lag.specs.Aggregation.{same_name};
-ghost use Rattle.mst_trees.specs.Settled.{outcome_of};
+ghost use Rattle.mst_sweep.specs.vlan.trees.Settled.{outcome_of};
 ghost use Rattle.mst_verify.specs.Named.{named as named_in};
 ghost use Rattle.mst_verify.specs.Reasons.{AreLeafReasons, leaf_reason};
 ghost use Rattle.mst_verify.specs.Seen.{names_at, is_child_of};
@@ -16,7 +16,7 @@ use mst_ids::{Name, Tree};
 use mst_lag::BridgeInView;
 use mst_note_text::{Child, children_of};
 use mst_policy::NameList;
-use mst_trees::laws::nested;
+use mst_sweep::trees_laws::nested;
 use std::alloc::{AllocError, Global};
 
 /// The names of the children of each bridge that has some, by the names of the parents. It takes about one step for each child.

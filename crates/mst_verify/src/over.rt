@@ -1,7 +1,7 @@
 ghost use Rattle.std.specs.Prelude.{◌≡◌, ◌+◌, ◌<◌, true, false, IfOk, filter, length, option_copied, vec_len};
 ghost use Rattle.std.specs.List.{All, AllZip, find};
 ghost use Rattle.mst_lag.specs.Aggregation.{same_name};
-ghost use Rattle.mst_trees.specs.Settled.{outcome_of};
+ghost use Rattle.mst_sweep.specs.vlan.trees.Settled.{outcome_of};
 ghost use Rattle.mst_summary.specs.Seen.{seen_on, seen_over};
 ghost use Rattle.mst_verify.specs.Islands.{AreKept};
 ghost use Rattle.mst_verify.specs.Over.{is_lan, is_wrong as wrong_of, not_as_wanted};
@@ -11,11 +11,10 @@ ghost use Rattle.mst_verify.specs.Seen.{seen_logical};
 use crate::judged::Judged;
 use crate::reason::Reason;
 use crate::vids::vids_of;
-use mst_classes::{flagged, set_of};
 use mst_ids::{Name, Vid, VidSet};
 use mst_lag::{MemberLan, PortInView, View};
 use mst_summary::goes_over;
-use mst_trees::Settled;
+use mst_sweep::{Settled, flagged, set_of};
 use std::alloc::{AllocError, Global};
 
 /// The LAN of a name.

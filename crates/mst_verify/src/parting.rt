@@ -1,7 +1,7 @@
 ghost use Rattle.std.specs.Prelude.{◌≡◌, ◌+◌, ◌<◌, IfOk, MatchOption, length, map, slice_index, ⊤};
 ghost use Rattle.mst_graph.specs.Groups.{AreGroups};
-ghost use Rattle.mst_trees.specs.Settled.{outcome_of};
-ghost use Rattle.mst_classes.specs.AllVids.{NumberEach};
+ghost use Rattle.mst_sweep.specs.vlan.trees.Settled.{outcome_of};
+ghost use Rattle.mst_sweep.specs.vlan.classes.AllVids.{NumberEach};
 ghost use Rattle.mst_sweep.specs.Cuts.{names_of, parts_at as parts_at_vid};
 ghost use Rattle.mst_verify.specs.Named.{vids_in};
 ghost use Rattle.mst_verify.specs.Islands.{home_of, with_homes, names_in, AreKept, ArePartsBy, AreReachParts, HaveNumbers, StillTells};

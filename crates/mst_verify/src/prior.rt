@@ -1,5 +1,5 @@
 ghost use Rattle.std.specs.Prelude.{◌≡◌};
-ghost use Rattle.mst_classes.specs.Classes.{AreClasses};
+ghost use Rattle.mst_sweep.specs.vlan.classes.Classes.{AreClasses};
 ghost use Rattle.mst_verify.specs.Islands.{AreAlike, AreBeside, AreKept, HasIslandsOf, IsBeside};
 
 use crate::before::Before;
@@ -8,8 +8,7 @@ use crate::homes::Homes;
 use indexmap::IndexMap;
 use mst_graph::Numbering;
 use mst_ids::BridgeNo;
-use mst_trees::Settled;
-use mst_vlan::Carriage;
+use mst_sweep::{Carriage, Settled};
 
 /// What is kept of the network that is prior to the one which is judged: what carries its VIDs, the classes of VIDs that nothing tells apart in
 /// either network, and islands of both.

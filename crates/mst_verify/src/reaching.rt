@@ -1,5 +1,5 @@
 ghost use Rattle.std.specs.Prelude.{◌≡◌, ◌+◌, ◌<◌, IfOk, length, map, slice_index, true, vec_len};
-ghost use Rattle.mst_trees.specs.Settled.{outcome_of};
+ghost use Rattle.mst_sweep.specs.vlan.trees.Settled.{outcome_of};
 ghost use Rattle.mst_sweep.specs.Cuts.{names_of};
 ghost use Rattle.mst_verify.specs.Named.{named as named_in};
 ghost use Rattle.mst_verify.specs.Islands.{names_in, AreKept, AreOfClasses, AreReachParts, HaveNumbers};

@@ -13,7 +13,7 @@ use mst_graph::groups;
 use mst_ids::Name;
 use mst_lag::BridgeInView;
 use mst_policy::NameList;
-use mst_trees::Settled;
+use mst_sweep::Settled;
 use std::alloc::{AllocError, Global};
 
 /// The number of the identifier of a bridge's region.

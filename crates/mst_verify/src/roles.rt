@@ -2,7 +2,7 @@ ghost use Rattle.std.specs.Prelude.{◌≡◌, ◌++◌, not, ◌||◌, IfOk, On
 ghost use Rattle.mst_ids.specs.declared.name.PortName.{PortName as PortNameOf};
 ghost use Rattle.mst_lag.specs.Viewed.{named_port};
 ghost use Rattle.mst_net.specs.tables.Tables.{Net, port_eq};
-ghost use Rattle.mst_trees.specs.Settled.{outcome_of};
+ghost use Rattle.mst_sweep.specs.vlan.trees.Settled.{outcome_of};
 ghost use Rattle.mst_verify.specs.Named.{ports_named as ports_named_in};
 ghost use Rattle.mst_verify.specs.Holds.{is_wanted as is_wanted_of};
 ghost use Rattle.mst_verify.specs.Reasons.{same_role, all_roles as all_the_roles, role_reasons as reasons_of_roles};
@@ -15,8 +15,7 @@ use crate::reason::Reason;
 use mst_ids::{PortName, Tree};
 use mst_lag::PortInView;
 use mst_policy::{PortList, Roles};
-use mst_trees::Settled;
-use mst_vlan::{Role, port_role};
+use mst_sweep::{Role, Settled, port_role};
 use std::alloc::{AllocError, Global};
 
 /// All roles in their order, and none.

@@ -5,7 +5,7 @@ ghost use Rattle.indexmap.specs.IndexMap.{get};
 ghost use Rattle.mst_lag.specs.Aggregation.{same_name};
 ghost use Rattle.mst_lag.specs.Viewed.{named_bridge};
 ghost use Rattle.mst_config.specs.Regions.{same_region};
-ghost use Rattle.mst_trees.specs.Settled.{outcome_of};
+ghost use Rattle.mst_sweep.specs.vlan.trees.Settled.{outcome_of};
 ghost use Rattle.mst_graph.specs.Lists.{has_any};
 ghost use Rattle.mst_summary.specs.Roots.{least as least_of};
 ghost use Rattle.mst_summary.specs.declared.roots.Follower.{Follower as FollowerOf};
@@ -18,8 +18,8 @@ use indexmap::IndexMap;
 use mst_ids::{Name, Tree};
 use mst_lag::BridgeInView;
 use mst_summary::{Follower, as_follower, least};
-use mst_trees::laws::nested;
-use mst_trees::{Settled, bridge_id};
+use mst_sweep::trees_laws::nested;
+use mst_sweep::{Settled, bridge_id};
 use std::alloc::{AllocError, Global};
 
 /// The bridge of a name.

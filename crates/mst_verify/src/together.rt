@@ -1,6 +1,6 @@
 ghost use Rattle.std.specs.Prelude.{◌≡◌, ◌+◌, ◌<◌, IfOk, MatchOption, Some, false, filter, filter_map, length, map, slice_index, slice_index_or, true, vec_len, ⊤};
-ghost use Rattle.mst_facts.specs.Both.{seen_both};
-ghost use Rattle.mst_trees.specs.Settled.{outcome_of};
+ghost use Rattle.mst_sweep.specs.facts.Both.{seen_both};
+ghost use Rattle.mst_sweep.specs.vlan.trees.Settled.{outcome_of};
 ghost use Rattle.mst_sweep.specs.Cuts.{names_of};
 ghost use Rattle.mst_sweep.specs.Parts.{all_parts as all_parts_of};
 ghost use Rattle.mst_sweep.specs.Seen.{seen_stays};
@@ -18,11 +18,10 @@ use crate::prior::Prior;
 use crate::reason::Reason;
 use crate::vids::classes_asked;
 use indexmap::IndexMap;
-use mst_facts::{Both, bridges_of_both};
 use mst_ids::{BridgeNo, Name, Vid, VidSet};
 use mst_policy::NameList;
-use mst_sweep::{all_parts, homes_by, staying};
-use mst_vlan::laws::islands_of_vid;
+use mst_sweep::vlan_laws::islands_of_vid;
+use mst_sweep::{Both, all_parts, bridges_of_both, homes_by, staying};
 use std::alloc::{AllocError, Global};
 
 /// The bridges of these names that both networks have.

@@ -1,12 +1,12 @@
 ghost use Rattle.std.specs.Prelude.{◌≡◌, ◌-◌, ◌<◌, ℕ, IfOk, length, map, slice_index, true};
 ghost use Rattle.std.specs.List.{All, Contains};
-ghost use Rattle.mst_classes.specs.Flags.{flag_at};
-ghost use Rattle.mst_classes.specs.AllVids.{NumberEach};
+ghost use Rattle.mst_sweep.specs.vlan.classes.Flags.{flag_at};
+ghost use Rattle.mst_sweep.specs.vlan.classes.AllVids.{NumberEach};
 ghost use Rattle.mst_verify.specs.Named.{vids_in};
 
-use mst_classes::vids;
 use mst_graph::Numbering;
 use mst_ids::{Vid, VidSet};
+use mst_sweep::vids;
 use std::alloc::{AllocError, Global};
 
 /// The VIDs of a set, rising. `AllocError`: memory was wanted and refused.

@@ -1,6 +1,6 @@
 ghost use Rattle.std.specs.Prelude.{IfOk, MatchOption, ⊤};
 ghost use Rattle.mst_net.specs.tables.Tables.{Net};
-ghost use Rattle.mst_trees.specs.Settled.{outcome_of};
+ghost use Rattle.mst_sweep.specs.vlan.trees.Settled.{outcome_of};
 ghost use Rattle.mst_verify.specs.Islands.{AreKept, IsBeside, IsKeptOf};
 ghost use Rattle.mst_verify.specs.Named.{Prior};
 ghost use Rattle.mst_verify.specs.Over.{HasItsLan};

@@ -13,19 +13,19 @@ use Rattle.mst_lag.specs.Trees.{mstis_of, is_among}
 use Rattle.mst_lag.specs.View.{LogicalPort, view_ports}
 use Rattle.mst_lag.specs.Viewed.{Viewed, named_port}
 use Rattle.mst_lag.specs.declared.in_view.PortInView.{PortInView}
-use Rattle.mst_trees.specs.Agrees.{AreOf}
-use Rattle.mst_trees.specs.InUse.{seen_has}
-use Rattle.mst_trees.specs.Msti.{has_msti}
-use Rattle.mst_trees.specs.Outcome.{Outcome, IsOutcome}
-use Rattle.mst_trees.specs.Settled.{SettledNet, outcome_of, IsSettledNet}
-use Rattle.mst_trees.proofs.Entries.{all_weaker}
-use Rattle.mst_trees.specs.Seen.{trees_at}
-use Rattle.mst_trees.proofs.Lists.{some_is, no_some, passed, all_there, there_first, there_later}
-use Rattle.mst_trees.proofs.Seen.{port_seen}
-use Rattle.mst_trees.proofs.Looking.{has_tree_at}
-use Rattle.mst_trees.proofs.Named.{port_is, port_found, found_in}
-use Rattle.mst_explain.specs.Explained.{IsExplained, AreExplained, trees_of_bridge}
-use Rattle.mst_explain.proofs.Texts.{tree_there as among_trees}
+use Rattle.mst_advise.specs.explain.trees.Agrees.{AreOf}
+use Rattle.mst_advise.specs.explain.trees.InUse.{seen_has}
+use Rattle.mst_advise.specs.explain.trees.Msti.{has_msti}
+use Rattle.mst_advise.specs.explain.trees.Outcome.{Outcome, IsOutcome}
+use Rattle.mst_advise.specs.explain.trees.Settled.{SettledNet, outcome_of, IsSettledNet}
+use Rattle.mst_advise.proofs.explain_lemmas.trees_lemmas.Entries.{all_weaker}
+use Rattle.mst_advise.specs.explain.trees.Seen.{trees_at}
+use Rattle.mst_advise.proofs.explain_lemmas.trees_lemmas.Lists.{some_is, no_some, passed, all_there, there_first, there_later}
+use Rattle.mst_advise.proofs.explain_lemmas.trees_lemmas.Seen.{port_seen}
+use Rattle.mst_advise.proofs.explain_lemmas.trees_lemmas.Looking.{has_tree_at}
+use Rattle.mst_advise.proofs.explain_lemmas.trees_lemmas.Named.{port_is, port_found, found_in}
+use Rattle.mst_advise.specs.explain.Explained.{IsExplained, AreExplained, trees_of_bridge}
+use Rattle.mst_advise.proofs.explain_lemmas.Texts.{tree_there as among_trees}
 use Rattle.mst_words.specs.Unadvised.{unrooted_of}
 use Rattle.mst_words.specs.Explaining.{logical_port_of, has_tree, has_asked, unexplained_of, asked_trees, Explains}
 use Rattle.mst_words.specs.declared.explaining.Unexplained.{Unexplained}

@@ -4,15 +4,13 @@ ghost use Rattle.mst_tables.specs.After.{has_bridge};
 ghost use Rattle.mst_rows.specs.Rows.{Row};
 ghost use Rattle.mst_words.specs.Explaining.{Explains, has_tree as has_tree_in, has_asked, unexplained_of, code_of, text_of};
 
-use mst_advise::port_named;
-use mst_explain::laws::some_explained;
-use mst_explain::{put_explanation, put_explanations};
+use mst_advise::explain_laws::some_explained;
+use mst_advise::{Settled, port_named, put_explanation, put_explanations};
 use mst_ids::{PortName, Tree};
 use mst_lag::PortInView;
 use mst_report::Planner;
 use mst_rows::Rows;
 use mst_tables::Contents;
-use mst_trees::Settled;
 use std::alloc::{AllocError, Global};
 use thiserror::Error;
 
@@ -113,7 +111,7 @@ fn has_tree(plan: &Settled, port: &PortInView, tree: Tree) -> bool
     ensures { result ≡ has_tree_in plan.now.net port.now.name.bridge tree }
 {
     plan.known();
-    mst_trees::has_tree(plan.view(), port.bridge, tree)
+    mst_advise::has_tree(plan.view(), port.bridge, tree)
 }
 
 /// Puts the rows of a port that is explained.

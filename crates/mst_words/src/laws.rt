@@ -6,8 +6,8 @@ ghost use Rattle.mst_words.specs.Explaining.{Explains, unexplained_of};
 ghost use Rattle.mst_words.specs.Picturing.{Depicts, DepictsVlan};
 ghost use Rattle.mst_words.specs.Summarizing.{Summarizes};
 
-use mst_explain::laws::{one_explained, some_explained};
-use mst_trees::laws::has_outcome;
+use mst_advise::explain_laws::{one_explained, some_explained};
+use mst_advise::trees_laws::has_outcome;
 
 /// A port that isn't refused has rows that explain it, in the tree that is asked or in each of its bridge, and these alone: the
 /// network settles it.

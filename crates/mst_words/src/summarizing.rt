@@ -2,10 +2,10 @@ ghost use Rattle.std.specs.Prelude.{◌≡◌, ◌++◌, true, List, OnOk};
 ghost use Rattle.mst_rows.specs.Rows.{Row};
 ghost use Rattle.mst_words.specs.Summarizing.{Summarizes};
 
+use mst_advise::Settled;
 use mst_picture::put_summary;
 use mst_report::Planner;
 use mst_rows::Rows;
-use mst_trees::Settled;
 use std::alloc::AllocError;
 
 /// Puts the summary of the network: how much there is, the roots and the ports that block in each tree, how many islands

@@ -4,11 +4,11 @@ use Rattle.mst_io.specs.declared.outcome.Outcome.{Outcome}
 use Rattle.mst_io.specs.declared.outcome.RunFault.{RunFault}
 use Rattle.mst_io.specs.declared.outcome.RunFault.TheVariants.{Read, Write, Memory}
 use Rattle.mst_ask.specs.questions.tool.Run.{status_of}
-use Rattle.mst_frame.specs.Framed.{is_broken}
-use Rattle.mst_frame.specs.declared.inputs.Unserved.{Unserved}
-use Rattle.mst_frame.specs.declared.inputs.Unserved.TheVariants.{Unopened as not_opened, Starved}
-use Rattle.mst_frame.specs.declared.sources.Unopened.{Unopened as Why}
-use Rattle.mst_frame.specs.declared.sources.Unopened.TheVariants.{Missing, Denied, Folder, Other}
+use Rattle.mst_command.specs.frame.Framed.{is_broken}
+use Rattle.mst_command.specs.frame.declared.inputs.Unserved.{Unserved}
+use Rattle.mst_command.specs.frame.declared.inputs.Unserved.TheVariants.{Unopened as not_opened, Starved}
+use Rattle.mst_command.specs.frame.declared.sources.Unopened.{Unopened as Why}
+use Rattle.mst_command.specs.frame.declared.sources.Unopened.TheVariants.{Missing, Denied, Folder, Other}
 use Rattle.mstplan.specs.Said.{shown}
 use Rattle.mst_command.specs.declared.stop.Stop.{Stop}
 use Rattle.mst_command.specs.declared.stop.Stop.TheVariants.{Told, NoWord, Unopened, Fault}

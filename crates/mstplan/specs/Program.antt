@@ -9,7 +9,7 @@ use Rattle.mst_ask.specs.questions.tool.Diff.{differing}
 use Rattle.mst_ask.specs.questions.tool.Run.{running}
 use Rattle.mst_ask.specs.alters.Verify.{verifying}
 use Rattle.mst_ask.specs.questions.declared.asked.Question.{Question}
-use Rattle.mst_print.specs.declared.form.Form.{Form}
+use Rattle.mst_ask.specs.questions.tool.engine.print.declared.form.Form.{Form}
 use Rattle.mst_io.specs.Devices.{Seen}
 use Rattle.mst_io.specs.declared.outcome.Outcome.{Outcome}
 use Rattle.mst_io.specs.declared.outcome.RunFault.{RunFault}
@@ -21,9 +21,9 @@ use Rattle.mst_command.specs.declared.table.Verb.TheVariants.{Run, Check, Explai
 use Rattle.mst_ask.specs.questions.tool.declared.diffs.Between.TheVariants.{Plans, Settings}
 use Rattle.mst_command.specs.declared.flags.Flags.{Flags}
 use Rattle.mstplan.specs.declared.piped.Piped.{Piped}
-use Rattle.mst_frame.specs.declared.sources.Unopened.{Unopened as Why}
-use Rattle.mst_frame.specs.Served.{Outputs}
-use Rattle.mst_hints.specs.declared.whose.Script.TheVariants as kind
+use Rattle.mst_command.specs.frame.declared.sources.Unopened.{Unopened as Why}
+use Rattle.mst_command.specs.frame.Served.{Outputs}
+use Rattle.mst_command.specs.frame.hints.declared.whose.Script.TheVariants as kind
 use Rattle.mstplan.specs.Endings.{told_of, told_of_hints, said_of, line_of, status_after, status_of_stop, status_with}
 use Rattle.mst_command.specs.Flags.{form_of}
 use Rattle.mstplan.specs.Flags.{asked_with}

@@ -1,16 +1,16 @@
 -- What serving a word on the inputs of some names promises, and why it may not be served.
 use Rattle.std.specs.Prelude.{◌≡◌, ℕ, List, Option, Some, None, Result, codes}
 use Rattle.std.specs.Borrow.{Bor}
-use Rattle.mst_hints.specs.declared.whose.Script.{Script}
-use Rattle.mst_hints.specs.declared.whose.Script.TheVariants.{Policy}
+use Rattle.mst_command.specs.frame.hints.declared.whose.Script.{Script}
+use Rattle.mst_command.specs.frame.hints.declared.whose.Script.TheVariants.{Policy}
 use Rattle.mst_io.specs.declared.outcome.Outcome.{Outcome}
 use Rattle.mst_io.specs.declared.outcome.RunFault.{RunFault}
 use Rattle.mst_drive.specs.Words.{Inputs, Telling}
-use Rattle.mst_frame.specs.Named.{AreNamed, IsWhyNone, word_of}
-use Rattle.mst_frame.specs.Served.{EndsHinted, Outputs}
-use Rattle.mst_frame.specs.declared.hinting.Scripts.{Scripts}
-use Rattle.mst_frame.specs.declared.inputs.Unserved.{Unserved}
-use Rattle.mst_frame.specs.declared.sources.Unopened.{Unopened as Why}
+use Rattle.mst_command.specs.frame.Named.{AreNamed, IsWhyNone, word_of}
+use Rattle.mst_command.specs.frame.Served.{EndsHinted, Outputs}
+use Rattle.mst_command.specs.frame.declared.hinting.Scripts.{Scripts}
+use Rattle.mst_command.specs.frame.declared.inputs.Unserved.{Unserved}
+use Rattle.mst_command.specs.frame.declared.sources.Unopened.{Unopened as Why}
 use Rattle.mstplan.specs.Endings.{stop_by}
 use Rattle.mst_command.specs.declared.stop.Stop.{Stop}
 use Rattle.mst_command.specs.declared.stop.Stop.TheVariants.{Told}

@@ -6,8 +6,7 @@ ghost use Rattle.mstplan.specs.Said.{IsSaid, shown};
 use crate::piped::Piped;
 use crate::said::{Part, say};
 use mst_ask::status;
-use mst_command::{Meant, Stop};
-use mst_frame::{Ran, Unopened, Unserved, is_write_fault};
+use mst_command::{Meant, Ran, Stop, Unopened, Unserved, is_write_fault};
 use mst_io::{Outcome, RunFault, Sink};
 
 /// Why nothing was run, where a word wasn't served.

@@ -1,6 +1,6 @@
 ghost use Rattle.std.specs.Prelude.{◌≡◌, map, Err, IfOk, IfErr, OnErr, option_map, string_bytes};
 ghost use Rattle.mst_io.specs.Devices.{seen_by};
-ghost use Rattle.mst_frame.specs.Served.{outputs};
+ghost use Rattle.mst_command.specs.frame.Served.{outputs};
 ghost use Rattle.mst_command.specs.Flags.{flags_in, form_of, no_flags, without_flags_behind};
 ghost use Rattle.mstplan.specs.Program.{Serves, IsWhyUnserved, IsCarriedOut, IsProgram, asking_of, output_of};
 ghost use Rattle.mstplan.specs.Serving.{IsWhyUndone, ServesTask};
@@ -15,8 +15,7 @@ use crate::serving::{
 };
 use crate::words::{asked_for, question_of};
 use mst_ask::{Between, Question};
-use mst_command::{Asked, Flags, Parted, Stop, Verb};
-use mst_frame::{Ran, Sources};
+use mst_command::{Asked, Flags, Parted, Ran, Sources, Stop, Verb};
 use mst_io::Sink;
 use std::alloc::Global;
 use std::io::Write;

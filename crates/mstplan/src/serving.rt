@@ -1,8 +1,8 @@
 ghost use Rattle.std.specs.Prelude.{◌≡◌, None, Some, codes, is_some, IfErr, IfOk, OnErr};
 ghost use Rattle.mst_io.specs.Devices.{seen_by};
-ghost use Rattle.mst_frame.specs.Hinted.{Fit};
-ghost use Rattle.mst_frame.specs.Named.{word_of};
-ghost use Rattle.mst_frame.specs.Served.{outputs};
+ghost use Rattle.mst_command.specs.frame.Hinted.{Fit};
+ghost use Rattle.mst_command.specs.frame.Named.{word_of};
+ghost use Rattle.mst_command.specs.frame.Served.{outputs};
 ghost use Rattle.mst_ask.specs.alters.Alter.{altering};
 ghost use Rattle.mst_ask.specs.questions.Ask.{asking};
 ghost use Rattle.mst_ask.specs.questions.tool.Check.{checking};
@@ -17,10 +17,8 @@ use crate::endings::stop_unserved;
 use mst_ask::{
     AskWord, Between, CheckWord, DiffWord, Question, QuestionWord, RunWord, StepsWord, VerifyWord,
 };
-use mst_command::{Flags, Stop};
+use mst_command::{Flags, Names, Ran, Script, Scripts, Sources, Stop, serve_named};
 use mst_drive::Word;
-use mst_frame::{Names, Ran, Scripts, Sources, serve_named};
-use mst_hints::Script;
 use mst_io::Sink;
 use std::alloc::Global;
 use std::io::Write;

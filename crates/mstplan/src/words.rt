@@ -4,8 +4,7 @@ ghost use Rattle.mst_command.specs.Words.{words_of, texts_of, wanted, are_plain,
 ghost use Rattle.mstplan.specs.Words.{question_by, are_worded as words_asking};
 
 use mst_ask::Question;
-use mst_command::{Asked, Flags, Stop, VERBS, Verb, asked_by_words};
-use mst_frame::Sources;
+use mst_command::{Asked, Flags, Sources, Stop, VERBS, Verb, asked_by_words};
 
 /// What the network of a script is asked, where what is to be done asks it something: nothing, where the words are none that do.
 pub(crate) fn question_of(asked: Asked<'_>) -> Option<Question>

@@ -11,12 +11,10 @@ use mst_ids::{BridgeId, BridgeNo, Tree, Vid};
 use mst_kinds::{Kind, TreeLine};
 use mst_lag::{View, view};
 use mst_net::{Contents, Network, laws as net_laws};
+use mst_report::{Forest, Role, Settler, active, forwards, role};
 use mst_rows::{Counts, Value, put};
-use mst_settle::Settler;
 use mst_topology::{Bridges, ByNumber, Topology, Wiring};
-use mst_trees::{Forest, Role, forwards, role};
 use mst_vector::{CistBridge, CistMetric};
-use mst_vlan::active;
 use std::alloc::{AllocError, Global};
 use std::test::Fail;
 

@@ -5,7 +5,7 @@ use super::refused::SCRIPT;
 use mst_ids::push_decimal;
 use mst_lang::{Edit, Line, parse_line};
 use mst_net::{Contents, Network, Refusal};
-use mst_save::put_saved;
+use mst_report::put_saved;
 use std::alloc::{AllocError, Global};
 use std::test::Fail;
 

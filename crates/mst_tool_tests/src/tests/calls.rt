@@ -1,9 +1,8 @@
 //! Each call once, and with devices that fail at each byte.
 
 use super::counts;
-use mst_ask::{Question, ask, ask_within, check, diff, edits, run, steps, verify};
+use mst_ask::{Form, Question, ask, ask_within, check, diff, edits, run, steps, verify};
 use mst_io::{FromRead, Outcome, RunFault, TURNS, ToWrite};
-use mst_print::Form;
 use mst_trials::{Sink, Source};
 use std::alloc::Global;
 use std::test::Fail;

@@ -1,7 +1,6 @@
 //! Texts that are cut off or damaged.
 
-use mst_ask::check;
-use mst_print::Form;
+use mst_ask::{Form, check};
 use std::alloc::Global;
 use std::test::Fail;
 

@@ -1,9 +1,8 @@
 //! How often devices are called.
 
 use super::counts;
-use mst_ask::{check_within, run_from};
+use mst_ask::{Form, check_within, run_from};
 use mst_io::{FromRead, Outcome, RunFault, ToWrite};
-use mst_print::Form;
 use mst_trials::{Sink, Source};
 
 /// Two lines that are refused, and a part of one.

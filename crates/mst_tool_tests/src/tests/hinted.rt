@@ -3,11 +3,9 @@
 ghost use Rattle.std.specs.Prelude.{◌≡◌, false};
 
 use super::counts;
-use mst_ask::run_within;
-use mst_hinting::{Hinting, Telling};
-use mst_hints::Script;
+use mst_ask::{Form, run_within};
+use mst_hinting::{Hinting, Script, Telling};
 use mst_io::{FromRead, Outcome, RunFault, TURNS, ToWrite};
-use mst_print::Form;
 use mst_trials::{Sink, Source};
 use std::alloc::Global;
 use std::io::{Read, Write};

@@ -1,12 +1,13 @@
 //! How errors are displayed, exit statuses, and the laws.
 
 use super::counts;
-use mst_ask::{engine_laws as laws, laws as standing, report_laws as answers, status};
+use mst_ask::{
+    engine_laws as laws, laws as standing, report_laws as answers, status, trees_laws as outcomes,
+};
 use mst_ids::BadText;
 use mst_io::RunFault;
 use mst_lang::Fault;
 use mst_tables::Refusal;
-use mst_trees::laws as outcomes;
 use std::alloc::Global;
 use std::fmt::Display;
 

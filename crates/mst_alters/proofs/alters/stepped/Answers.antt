@@ -1,7 +1,7 @@
 use Rattle.std.proofs.Common.{◌≡◌, ◌+◌, ◌≤◌, ℕ, Bool, true, false, List, [], Option, None, length, arith, ap, subst}
 use Rattle.mst_tables.specs.Contents.{Contents}
 use Rattle.mst_policy.specs.declared.policy.PolicyLine.{PolicyLine}
-use Rattle.mst_print.proofs.Shown.{grew_none}
+use Rattle.mst_tool.proofs.engine_lemmas.print_lemmas.Shown.{grew_none}
 use Rattle.mst_words.specs.verdict.Stepping.{lines_of}
 use Rattle.mst_alters.specs.Alter.{policy_if}
 use Rattle.mst_tool.specs.Shown.{steps_row}

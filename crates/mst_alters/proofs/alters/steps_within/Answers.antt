@@ -5,7 +5,7 @@ use Rattle.mst_io.specs.Devices.{seen_by}
 use Rattle.mst_io.specs.Written.{AppendsFront}
 use Rattle.mst_io.specs.declared.outcome.Outcome.{Outcome}
 use Rattle.mst_io.proofs.Chains.{Hears-none}
-use Rattle.mst_print.specs.Shape.{of_script}
+use Rattle.mst_tool.specs.engine.print.Shape.{of_script}
 use Rattle.mst_drive.specs.Words.{Wrote, inputs}
 use Rattle.mst_drive.proofs.Turned.{turned_broken, turned_lacking, turned_on, turned_stopped, turned_then}
 use Rattle.mst_drive.proofs.Words.{front_of_all, front_then, wrote_still, wrote_then}

@@ -1,4 +1,4 @@
-use Rattle.mst_print.specs.Shape.{of_script}
+use Rattle.mst_questions.specs.tool.engine.print.Shape.{of_script}
 use Rattle.mst_ask.proofs.Asked.{left_kept}
 use Rattle.mst_ask.proofs.laws.standings.Goals as goal
 

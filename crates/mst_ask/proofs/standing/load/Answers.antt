@@ -6,7 +6,7 @@ use Rattle.mst_questions.specs.tool.engine.Engine.{Tally, begun, does, tally_of,
 use Rattle.mst_questions.specs.tool.engine.Script.{version_of}
 use Rattle.mst_questions.specs.tool.engine.Steps.{texts_of}
 use Rattle.mst_questions.specs.tool.engine.declared.engine.Input.TheVariants.{Network}
-use Rattle.mst_print.specs.Shape.{of_script}
+use Rattle.mst_questions.specs.tool.engine.print.Shape.{of_script}
 use Rattle.mst_ask.specs.Lines.{lines_in}
 use Rattle.mst_ask.proofs.Loading.{Loading, loading_begins, loading_breaks, loading_ends, loading_on, texts_on}
 use Rattle.mst_ask.proofs.standing.load.Goals as goal

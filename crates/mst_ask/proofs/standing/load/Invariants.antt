@@ -3,7 +3,7 @@ use Rattle.std.specs.Io.KnownBytes.{Appends}
 use Rattle.mst_io.specs.Devices.{Works}
 use Rattle.mst_questions.specs.tool.engine.Engine.{tally_of}
 use Rattle.mst_questions.specs.tool.engine.Steps.{Step, texts_of}
-use Rattle.mst_print.specs.Shape.{of_script}
+use Rattle.mst_questions.specs.tool.engine.print.Shape.{of_script}
 use Rattle.mst_ask.specs.Lines.{lines_in}
 use Rattle.mst_ask.proofs.Loading.{Loading}
 use Rattle.mst_ask.proofs.standing.load.Given as goal

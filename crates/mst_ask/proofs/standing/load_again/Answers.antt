@@ -4,7 +4,7 @@ use Rattle.mst_questions.specs.tool.engine.declared.engine.Input.TheVariants.{Ne
 use Rattle.mst_questions.specs.tool.engine.report.Planned.{planned_state}
 use Rattle.mst_questions.specs.tool.engine.report.State.{State}
 use Rattle.mst_lang.specs.Lines.{lines_of}
-use Rattle.mst_print.specs.Shape.{of_script}
+use Rattle.mst_questions.specs.tool.engine.print.Shape.{of_script}
 use Rattle.mst_ask.proofs.Kept.{script_loaded}
 use Rattle.mst_ask.proofs.Loading.{loading_begins, loading_ends, loading_on}
 use Rattle.mst_ask.proofs.standing.load_again.Goals as goal

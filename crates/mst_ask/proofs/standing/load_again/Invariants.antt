@@ -2,7 +2,7 @@ use Rattle.std.proofs.Common.{◌<◌, ◌+◌, ◌^◌, List, length}
 use Rattle.mst_questions.specs.tool.engine.Engine.{tally_of}
 use Rattle.mst_questions.specs.tool.engine.Steps.{Step}
 use Rattle.mst_lang.specs.Lines.{lines_of}
-use Rattle.mst_print.specs.Shape.{of_script}
+use Rattle.mst_questions.specs.tool.engine.print.Shape.{of_script}
 use Rattle.mst_ask.proofs.Loading.{Loading}
 use Rattle.mst_ask.proofs.standing.load_again.Given as goal
 

@@ -3,7 +3,7 @@ use Rattle.std.specs.List.{flat_map}
 use Rattle.mst_rows.specs.Answers.{record_line}
 use Rattle.mst_rows.specs.Lines.{row_line}
 use Rattle.mst_rows.proofs.Printers.{nothing_yet}
-use Rattle.mst_print.specs.Shape.{listed}
+use Rattle.mst_questions.specs.tool.engine.print.Shape.{listed}
 use Rattle.mst_ask.specs.Kept.{rows_of}
 use Rattle.mst_ask.proofs.undone.undone_text.Goals as goal
 

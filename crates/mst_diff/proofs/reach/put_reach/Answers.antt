@@ -2,12 +2,12 @@ use Rattle.std.proofs.Common.{Vec, Global, ◌≡◌, ℕ, ◌++◌, List, lengt
 use Rattle.std.specs.List.{flat_map, count_by}
 use Rattle.std.proofs.lemmas.List.{length-map}
 use Rattle.std.proofs.lemmas.List.Folds.{flat_map-map}
-use Rattle.mst_classes.specs.AllVids.{NumberEach}
-use Rattle.mst_classes.specs.AllVids.{all_vids}
-use Rattle.mst_classes.proofs.VidPlaces.{vids_long}
-use Rattle.mst_classes.proofs.VidPlaces.{numbers_below, each_below}
+use Rattle.mst_vlan.specs.classes.AllVids.{NumberEach}
+use Rattle.mst_vlan.specs.classes.AllVids.{all_vids}
+use Rattle.mst_vlan.proofs.classes_lemmas.VidPlaces.{vids_long}
+use Rattle.mst_vlan.proofs.classes_lemmas.VidPlaces.{numbers_below, each_below}
 use Rattle.mst_rows.specs.Rows.{Row}
-use Rattle.mst_classes.specs.Classes.{HasOnly}
+use Rattle.mst_vlan.specs.classes.Classes.{HasOnly}
 use Rattle.mst_diff.specs.Reach.{Sides, differ, group_rows}
 use Rattle.mst_diff.specs.Seen.{AreSidesOf, seen_sides, sides_at}
 use Rattle.mst_diff.specs.declared.sides.Sides.{Sides as KeptSides}

@@ -1,5 +1,5 @@
 use Rattle.mst_edits.specs.Edits.{edits, going, coming}
-use Rattle.mst_save.specs.Saved.{joined}
+use Rattle.mst_edits.specs.save.Saved.{joined}
 use Rattle.mst_edit_laws.proofs.Accepting.{accepted_append}
 use Rattle.mst_edit_laws.proofs.NoDefaults.{seen_alike, after_edits, network_has_none}
 use Rattle.mst_edit_laws.proofs.BridgeMade.{bridge_changed}

@@ -1,6 +1,6 @@
 use Rattle.std.proofs.Common.{Option, sym, subst}
-use Rattle.mst_hints.specs.declared.whose.Script.{Script}
-use Rattle.mst_hints.specs.declared.whose.Script.TheVariants.{Run}
+use Rattle.mst_hinting.specs.hints.declared.whose.Script.{Script}
+use Rattle.mst_hinting.specs.hints.declared.whose.Script.TheVariants.{Run}
 use Rattle.mst_hinting.specs.Listening.{IsFirst}
 use Rattle.mst_frame.specs.Hinted.{are_told, script_of}
 use Rattle.mst_frame.proofs.Hinted.{told_none, told_some}

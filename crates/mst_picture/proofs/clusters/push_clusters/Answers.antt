@@ -2,7 +2,7 @@ use Rattle.std.proofs.Common.{◌≡◌, ℕ, ◌+◌, ◌++◌, Bool, List, tak
 use Rattle.std.specs.List.{filter}
 use Rattle.std.proofs.lemmas.List.{take_all}
 use Rattle.mst_graph.specs.Lists.{has_any}
-use Rattle.mst_vlan.specs.declared.island.Island.{Island}
+use Rattle.mst_summary.specs.vlan.declared.island.Island.{Island}
 use Rattle.mst_picture.specs.InView.{cluster_of}
 use Rattle.mst_picture.specs.VlanPicture.{numbered}
 use Rattle.mst_picture.proofs.Numbered.{AreDrawn, one_drawn, none_drawn}

@@ -7,10 +7,10 @@ use Rattle.mst_ids.specs.declared.name.PortName.{PortName}
 use Rattle.mst_text.specs.trees.Agrees.{AreOf}
 use Rattle.mst_text.specs.trees.Settled.{outcome_of}
 use Rattle.mst_text.specs.VlanText.{ports_of_vid}
-use Rattle.mst_classes.proofs.Firsts.{firsts_below}
+use Rattle.mst_text.proofs.vlan_lemmas.classes_lemmas.Firsts.{firsts_below}
 use Rattle.mst_plan_text.specs.Bodies.{pair_of, pairs_at, pairs_of}
-use Rattle.mst_classes.specs.AllVids.{all_vids, NumberEach}
-use Rattle.mst_classes.proofs.VidPlaces.{vids_long, is_vid_there, numbers_below, each_below}
+use Rattle.mst_text.specs.vlan.classes.AllVids.{all_vids, NumberEach}
+use Rattle.mst_text.proofs.vlan_lemmas.classes_lemmas.VidPlaces.{vids_long, is_vid_there, numbers_below, each_below}
 use Rattle.mst_plan_text.proofs.Classes.{are_pairs}
 use Rattle.mst_plan_text.proofs.Grouped.{groups_given}
 use Rattle.mst_plan_text.proofs.Pairs.{same_pairs, pairs_decide, ports_from_pairs}

@@ -6,7 +6,7 @@ use Rattle.mst_graph.proofs.Alike.{alike_groups}
 use Rattle.mst_rows.specs.Rows.{Row}
 use Rattle.mst_text.specs.trees.Settled.{outcome_of}
 use Rattle.mst_text.specs.VlanText.{ports_of_vid}
-use Rattle.mst_classes.specs.AllVids.{all_vids}
+use Rattle.mst_text.specs.vlan.classes.AllVids.{all_vids}
 use Rattle.mst_plan_text.specs.PlanText.{group_rows, AreIslandsOfEach, HaveOneBody, Islands}
 use Rattle.mst_plan_text.proofs.PortLinks.{one_body}
 use Rattle.mst_plan_text.proofs.plan.put_vids.Goals as goal

@@ -1,6 +1,6 @@
 use Rattle.std.proofs.Common.{[], None, ap, sym, ◌∙◌}
 use Rattle.mst_net.specs.tables.Contents.{Contents}
-use Rattle.mst_print.proofs.Shown.{grew_none}
+use Rattle.mst_tool.proofs.engine_lemmas.print_lemmas.Shown.{grew_none}
 use Rattle.mst_questions.specs.Shown.{advice_row}
 use Rattle.mst_questions.proofs.WholeAsk.{advice_shown, unadvised_told}
 use Rattle.mst_questions.proofs.asks.advise_by_plan.Goals as goal

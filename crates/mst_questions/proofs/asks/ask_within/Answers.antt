@@ -1,7 +1,7 @@
 use Rattle.std.proofs.Common.{sym, subst, ◌∙◌}
 use Rattle.mst_tool.specs.engine.Engine.{outcome_of, tally_of}
 use Rattle.mst_io.specs.declared.outcome.Outcome.{Outcome}
-use Rattle.mst_print.specs.Shape.{of_script}
+use Rattle.mst_tool.specs.engine.print.Shape.{of_script}
 use Rattle.mst_drive.specs.Words.{Wrote, one_input}
 use Rattle.mst_drive.proofs.Turned.{turned_broken, turned_lacking, turned_on}
 use Rattle.mst_drive.proofs.Words.{front_of_all, front_then, wrote_then}

@@ -1,5 +1,5 @@
 use Rattle.std.proofs.Common.{sym, subst}
-use Rattle.mst_print.proofs.Plain.{plain_code, plain_text}
+use Rattle.mst_tool.proofs.engine_lemmas.print_lemmas.Plain.{plain_code, plain_text}
 use Rattle.mst_rows.specs.Answers.{IsPlain}
 use Rattle.mst_questions.proofs.Plain.{why_code, why_text}
 use Rattle.mst_questions.proofs.asks.put_answer.Goals as goal

@@ -1,6 +1,6 @@
 use Rattle.std.proofs.Common.{[], None, ap}
 use Rattle.mst_net.specs.tables.Contents.{Contents}
-use Rattle.mst_print.proofs.Shown.{grew_none}
+use Rattle.mst_tool.proofs.engine_lemmas.print_lemmas.Shown.{grew_none}
 use Rattle.mst_questions.specs.Shown.{summary_row}
 use Rattle.mst_questions.proofs.WholeAsk.{summary_shown}
 use Rattle.mst_questions.proofs.asks.summarized.Goals as goal

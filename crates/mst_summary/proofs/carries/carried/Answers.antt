@@ -1,16 +1,16 @@
 use Rattle.std.proofs.Common.{◌≡◌, ◌<◌, ℕ, ◌+◌, Bool, false, List, filter, length, sym, ap, subst, ◌∙◌}
 use Rattle.std.specs.List.{All, AllZip, Contains}
 use Rattle.std.proofs.lemmas.Result.{IfOk-weaker}
-use Rattle.mst_trees.proofs.Entries.{all_weaker}
-use Rattle.mst_trees.proofs.Lists.{all_contained, all_there}
-use Rattle.mst_trees.proofs.Looking.{filter_alike}
-use Rattle.mst_trees.specs.Settled.{outcome_of}
-use Rattle.mst_classes.specs.AllVids.{all_vids}
-use Rattle.mst_classes.proofs.VidPlaces.{is_vid_there}
+use Rattle.mst_vlan.proofs.trees_lemmas.Entries.{all_weaker}
+use Rattle.mst_vlan.proofs.trees_lemmas.Lists.{all_contained, all_there}
+use Rattle.mst_vlan.proofs.trees_lemmas.Looking.{filter_alike}
+use Rattle.mst_vlan.specs.trees.Settled.{outcome_of}
+use Rattle.mst_vlan.specs.classes.AllVids.{all_vids}
+use Rattle.mst_vlan.proofs.classes_lemmas.VidPlaces.{is_vid_there}
 use Rattle.mst_vlan.proofs.Renumbered.{all_members}
 use Rattle.mst_vlan.specs.Carried.{ViewWithTrees}
 use Rattle.mst_summary.specs.Carries.{goes_over, carried}
-use Rattle.mst_classes.specs.Flags.{flag_at}
+use Rattle.mst_vlan.specs.classes.Flags.{flag_at}
 use Rattle.mst_summary.specs.Places.{places_on, with_places}
 use Rattle.mst_summary.specs.Seen.{seen_on, seen_over}
 use Rattle.mst_summary.proofs.Named.{over_named}

@@ -1,5 +1,5 @@
 use Rattle.std.proofs.Common.{◌∙◌}
-use Rattle.mst_trees.proofs.SettledNet.{forest_of}
+use Rattle.mst_vlan.proofs.trees_lemmas.SettledNet.{forest_of}
 use Rattle.mst_vlan.specs.trees.SeenRoles.{seen_role}
 use Rattle.mst_vlan.proofs.trees_lemmas.Named.{own_role}
 use Rattle.mst_summary.proofs.looked_up.role.Goals as goal

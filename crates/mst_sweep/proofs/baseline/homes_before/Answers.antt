@@ -1,6 +1,6 @@
 use Rattle.std.proofs.Common.{◌≡◌, ◌+◌, ◌<◌, ℕ, List, [], get_or, length, map, sym, ap, subst, ◌∙◌, arith}
 use Rattle.std.proofs.lemmas.List.{get_or-map}
-use Rattle.mst_classes.proofs.VidPlaces.{zip_at}
+use Rattle.mst_vlan.proofs.classes_lemmas.VidPlaces.{zip_at}
 use Rattle.mst_sweep.specs.Baseline.{AreHomes}
 use Rattle.mst_sweep.proofs.baseline.homes_before.Goals as goal
 

@@ -3,8 +3,8 @@ use Rattle.std.specs.List.{filter_map}
 use Rattle.std.specs.Option.{option_map}
 use Rattle.std.proofs.lemmas.List.{get_or-map}
 use Rattle.std.proofs.lemmas.Result.{IfOk-weaker}
-use Rattle.mst_classes.specs.Alike.{AreAlike}
-use Rattle.mst_classes.specs.Classes.{HasOnly}
+use Rattle.mst_vlan.specs.classes.Alike.{AreAlike}
+use Rattle.mst_vlan.specs.classes.Classes.{HasOnly}
 use Rattle.mst_sweep.specs.Baseline.{AreHomes}
 use Rattle.mst_sweep.specs.CutClasses.{IsKeptAlone, kept_of}
 use Rattle.mst_sweep.specs.Cuts.{names_of}

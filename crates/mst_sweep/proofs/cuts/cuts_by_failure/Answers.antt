@@ -1,6 +1,6 @@
 use Rattle.std.proofs.Common.{◌≡◌, ℕ, List, map, sym, subst}
 use Rattle.std.proofs.lemmas.Result.{IfOk-weaker}
-use Rattle.mst_classes.specs.Classes.{HasOnly}
+use Rattle.mst_vlan.specs.classes.Classes.{HasOnly}
 use Rattle.mst_sweep.specs.declared.cuts.CutBy.TheVariants.{One}
 use Rattle.mst_sweep.specs.Cuts.{names_of, parts_at, rows_of}
 use Rattle.mst_sweep.specs.Parts.{AreParts}

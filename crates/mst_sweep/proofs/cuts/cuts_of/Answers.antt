@@ -2,10 +2,10 @@ use Rattle.std.proofs.Common.{Vec, Global, ◌≡◌, ℕ, ◌-◌, ◌++◌, na
 use Rattle.std.specs.Cmp.Lexicographic.{pointwise}
 use Rattle.std.specs.List.{filter, flat_map, list_any}
 use Rattle.std.proofs.lemmas.List.{length-map}
-use Rattle.mst_classes.specs.AllVids.{NumberEach}
-use Rattle.mst_classes.specs.AllVids.{all_vids}
-use Rattle.mst_classes.proofs.VidPlaces.{vids_long}
-use Rattle.mst_classes.proofs.VidPlaces.{numbers_below, each_below}
+use Rattle.mst_vlan.specs.classes.AllVids.{NumberEach}
+use Rattle.mst_vlan.specs.classes.AllVids.{all_vids}
+use Rattle.mst_vlan.proofs.classes_lemmas.VidPlaces.{vids_long}
+use Rattle.mst_vlan.proofs.classes_lemmas.VidPlaces.{numbers_below, each_below}
 use Rattle.mst_graph.specs.Lists.{has_any}
 use Rattle.mst_rows.specs.Rows.{Row}
 use Rattle.mst_sweep.specs.Cuts.{group_rows, names_of, parts_at, AreCutsBy}

@@ -1,8 +1,8 @@
 use Rattle.std.proofs.Common.{◌≡◌, ◌+◌, ◌-◌, ◌<◌, ℕ, Bool, List, None, false, true, get_or, length, map, sym, subst, ap, ◌∙◌}
 use Rattle.std.specs.Option.{ForSome, option_map}
 use Rattle.std.proofs.lemmas.List.{length-map}
-use Rattle.mst_classes.specs.Classes.{HasOnly}
-use Rattle.mst_classes.proofs.VidPlaces.{zip_at}
+use Rattle.mst_vlan.specs.classes.Classes.{HasOnly}
+use Rattle.mst_vlan.proofs.classes_lemmas.VidPlaces.{zip_at}
 use Rattle.mst_sweep.specs.Breaking.{HasNoParts, IsCarriageOf}
 use Rattle.mst_sweep.specs.CutClasses.{IsKeptAlone}
 use Rattle.mst_sweep.specs.Touched.{AreWhereTouched}

@@ -1,6 +1,6 @@
 use Rattle.std.proofs.Common.{◌≡◌, ◌||◌, false, [], refl, sym, ap, subst, ◌∙◌, map}
 use Rattle.mst_sweep.specs.Parts.{AreParts}
-use Rattle.mst_vlan.specs.Carried.{ViewWithTrees}
+use Rattle.mst_sweep.specs.vlan.Carried.{ViewWithTrees}
 use Rattle.mst_sweeping.specs.Links.{carried}
 use Rattle.mst_sweeping.specs.Seen.{seen_carried}
 use Rattle.mst_sweeping.proofs.Carried.{carried_same}

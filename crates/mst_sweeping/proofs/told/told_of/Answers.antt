@@ -1,13 +1,13 @@
 use Rattle.std.proofs.Common.{◌≡◌, ◌+◌, ℕ, Bool, false, List, length, map, filter, sym, ap, subst, ◌∙◌}
 use Rattle.std.specs.List.{AllZip}
-use Rattle.mst_classes.specs.AllVids.{NumberEach}
-use Rattle.mst_classes.proofs.VidPlaces.{numbers_below}
+use Rattle.mst_sweep.specs.vlan.classes.AllVids.{NumberEach}
+use Rattle.mst_sweep.proofs.vlan_lemmas.classes_lemmas.VidPlaces.{numbers_below}
 use Rattle.mst_sweep.specs.Cuts.{names_of, parts_at, rows_of}
 use Rattle.mst_sweep.specs.Parts.{AreParts}
 use Rattle.mst_sweep.proofs.CutsBy.{cuts_too}
 use Rattle.mst_sweep.proofs.PairParts.{have_parts}
 use Rattle.mst_sweeping.specs.MovedVids.{IsJoined, IsMoved}
-use Rattle.mst_classes.specs.Flags.{flag_at}
+use Rattle.mst_sweep.specs.vlan.classes.Flags.{flag_at}
 use Rattle.mst_sweeping.proofs.SameFate.{parts_alike, joined_alike, moved_alike}
 use Rattle.mst_sweeping.proofs.Flagged.{class_has}
 use Rattle.mst_sweeping.proofs.told.told_of.Goals as goal

@@ -1,8 +1,8 @@
 use Rattle.std.proofs.Common.{◌≡◌, ◌∷◌, [], ◌∙◌, codes, refl, sym, ap}
 use Rattle.std.specs.Fmt.{digits}
 use Rattle.json.specs.Print.{escape_byte}
-use Rattle.mst_print.specs.Shape.{listed}
-use Rattle.mst_print.specs.declared.form.Form.TheVariants.{Text, Json}
+use Rattle.mst_engine.specs.print.Shape.{listed}
+use Rattle.mst_engine.specs.print.declared.form.Form.TheVariants.{Text, Json}
 use Rattle.mst_rows.specs.Answers.{named}
 use Rattle.mst_tool.specs.Check.{none_row}
 use Rattle.mst_tool.proofs.checks.none_said.Goals as goal

@@ -8,7 +8,7 @@ use Rattle.mst_io.proofs.Chains.{Hears-none}
 use Rattle.mst_drive.specs.Words.{Wrote, two_inputs}
 use Rattle.mst_drive.proofs.Turned.{turned_broken, turned_lacking, turned_on, turned_stopped, turned_then}
 use Rattle.mst_drive.proofs.Words.{ended_fault, wrote_as}
-use Rattle.mst_print.specs.Shape.{of_old}
+use Rattle.mst_engine.specs.print.Shape.{of_old}
 use Rattle.mst_tool.specs.Diff.{Diffs, counted_both, differing}
 use Rattle.mst_tool.proofs.Faults.{err_of}
 use Rattle.mst_tool.proofs.HasTold.{new_behind}

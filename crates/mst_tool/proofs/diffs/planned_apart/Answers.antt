@@ -1,7 +1,7 @@
 use Rattle.std.proofs.Common.{[], None, ap}
 use Rattle.std.specs.Prelude.{not}
 use Rattle.mst_tables.specs.Contents.{Contents}
-use Rattle.mst_print.proofs.Shown.{grew_none}
+use Rattle.mst_engine.proofs.print_lemmas.Shown.{grew_none}
 use Rattle.mst_tool.specs.Shown.{diff_row}
 use Rattle.mst_tool.proofs.WholeDiff.{difference_shown}
 use Rattle.mst_tool.proofs.diffs.planned_apart.Goals as goal

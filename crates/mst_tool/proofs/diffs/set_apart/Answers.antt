@@ -1,5 +1,5 @@
 use Rattle.std.proofs.Common.{[], None, refl}
-use Rattle.mst_print.proofs.Shown.{grew_none}
+use Rattle.mst_engine.proofs.print_lemmas.Shown.{grew_none}
 use Rattle.mst_tool.specs.Shown.{edits_row}
 use Rattle.mst_tool.proofs.diffs.set_apart.Goals as goal
 

@@ -2,9 +2,9 @@ use Rattle.std.proofs.Common.{◌≡◌, ◌+◌, ◌∷◌, [], ◌++◌, List,
 use Rattle.std.specs.List.{AllByRecursion}
 use Rattle.std.proofs.lemmas.List.{map-append, take_all, take_more}
 use Rattle.mst_net.specs.tables.After.{after}
-use Rattle.mst_sweep.specs.Failures.{edit_of}
-use Rattle.mst_sweep.specs.Pairs.{failed}
-use Rattle.mst_sweep.specs.declared.failure.Failure.{Failure}
+use Rattle.mst_sweeping.specs.sweep.Failures.{edit_of}
+use Rattle.mst_sweeping.specs.sweep.Pairs.{failed}
+use Rattle.mst_sweeping.specs.sweep.declared.failure.Failure.{Failure}
 use Rattle.mst_sweeping.proofs.SweepThere.{can_fail}
 use Rattle.mst_verdict.specs.declared.judgement.Finding.{Finding}
 use Rattle.mst_verdict.specs.Verifying.{FindsAt, FoundIn, sitting_of}

@@ -1,7 +1,7 @@
 use Rattle.std.proofs.Common.{take}
 use Rattle.std.specs.List.{AllZip}
 use Rattle.mst_net.specs.tables.Tables.{Net}
-use Rattle.mst_trees.specs.Settled.{outcome_of}
+use Rattle.mst_sweeping.specs.plan.trees.Settled.{outcome_of}
 use Rattle.mst_verdict.specs.Judged.{reasons_in}
 use Rattle.mst_verify.specs.Islands.{IsKeptOf}
 use Rattle.mst_verify.specs.Named.{Prior}

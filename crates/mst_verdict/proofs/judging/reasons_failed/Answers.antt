@@ -1,15 +1,15 @@
 use Rattle.std.proofs.Common.{◌≡◌, ◌∷◌, [], Ok, Some, subst, sym}
 use Rattle.std.specs.List.{AllZip}
 use Rattle.std.proofs.lemmas.Result.{IfOk-weaker}
-use Rattle.mst_vlan.specs.Carried.{ViewWithTrees}
-use Rattle.mst_classes.specs.Classes.{AreClasses}
+use Rattle.mst_sweeping.specs.sweep.vlan.Carried.{ViewWithTrees}
+use Rattle.mst_sweeping.specs.sweep.vlan.classes.Classes.{AreClasses}
 use Rattle.mst_net.specs.tables.After.{after}
 use Rattle.mst_net.specs.tables.Contents.{Tables}
-use Rattle.mst_sweep.specs.Failures.{edit_of}
-use Rattle.mst_sweep.specs.Pairs.{failed}
-use Rattle.mst_trees.specs.Agrees.{AreOf}
-use Rattle.mst_trees.specs.Forest.{IsForest}
-use Rattle.mst_trees.specs.Settled.{SettledNet, outcome_of}
+use Rattle.mst_sweeping.specs.sweep.Failures.{edit_of}
+use Rattle.mst_sweeping.specs.sweep.Pairs.{failed}
+use Rattle.mst_sweeping.specs.plan.trees.Agrees.{AreOf}
+use Rattle.mst_sweeping.specs.plan.trees.Forest.{IsForest}
+use Rattle.mst_sweeping.specs.plan.trees.Settled.{SettledNet, outcome_of}
 use Rattle.mst_verdict.specs.Judged.{reasons_in}
 use Rattle.mst_verify.specs.Islands.{HasIslandsOf, IsOneOf}
 use Rattle.mst_verdict.specs.Verifying.{AreReasonsIf, HaveLans, expected_in, plan_outcome}

@@ -3,7 +3,7 @@ use Rattle.std.specs.Result.{OnOk}
 use Rattle.mst_kinds.specs.declared.kind.Kind.{Kind}
 use Rattle.mst_rows.specs.Cells.{Cell}
 use Rattle.mst_rows.specs.Rows.{Row, cell, row_of}
-use Rattle.mst_sweep.specs.declared.failure.Failure.{Failure}
+use Rattle.mst_sweeping.specs.sweep.declared.failure.Failure.{Failure}
 use Rattle.mst_verify.specs.declared.reason.Reason.{Reason}
 use Rattle.mst_verdict.specs.Rows.{front_cells, kind_at, reason_cells, reason_line, reason_row, row_at}
 use Rattle.mst_verdict.proofs.reason.put_reason.Goals as goal

@@ -1,5 +1,5 @@
 use Rattle.std.proofs.Common.{◌≡◌, take, unwrap_or}
-use Rattle.mst_plan.specs.Plan.{IsPlan}
+use Rattle.mst_sweeping.specs.plan.Plan.{IsPlan}
 use Rattle.mst_verdict.specs.Setting.{after_steps}
 use Rattle.mst_verdict.specs.Stepping.{AreRowsIn, IsFew, Watch}
 use Rattle.mst_verdict.specs.Taking.{IsWatching, TakesSteps}

@@ -1,6 +1,6 @@
 use Rattle.std.proofs.Common.{Vec, Global, ◌≡◌, ◌+◌, ℕ, Bool, List, length, map, ap, subst, ◌∙◌, arith}
 use Rattle.std.proofs.lemmas.Result.{IfOk-weaker}
-use Rattle.mst_trees.specs.Settled.{outcome_of}
+use Rattle.mst_sweep.specs.vlan.trees.Settled.{outcome_of}
 use Rattle.mst_sweep.specs.Cuts.{names_of}
 use Rattle.mst_verify.specs.Islands.{AreOfClasses}
 use Rattle.mst_verify.specs.Named.{named}

@@ -3,8 +3,8 @@ use Rattle.std.specs.Prelude.{if◌then◌else◌}
 use Rattle.std.specs.FinMap as fin
 use Rattle.std.proofs.lemmas.Result.{IfOk-weaker}
 use Rattle.mst_note_text.specs.declared.children.Child.{Child}
-use Rattle.mst_trees.specs.Outcome.{trees_of}
-use Rattle.mst_trees.specs.Settled.{outcome_of}
+use Rattle.mst_sweep.specs.vlan.trees.Outcome.{trees_of}
+use Rattle.mst_sweep.specs.vlan.trees.Settled.{outcome_of}
 use Rattle.mst_verify.specs.declared.reason.Reason.TheVariants as why
 use Rattle.mst_verify.proofs.ChildrenTold.{are_deepest, deepest, greatest, most_of, none_deeper, some_deepest}
 use Rattle.mst_verify.proofs.depth.depth_reasons.Goals as goal

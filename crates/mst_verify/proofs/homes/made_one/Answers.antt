@@ -1,8 +1,8 @@
 use Rattle.std.proofs.Common.{◌≡◌, ◌+◌, ap, subst, arith, rules}
 use Rattle.std.proofs.lemmas.Grind.{common_steps}
 use Rattle.std.proofs.lemmas.Result.{IfOk-weaker}
-use Rattle.mst_vlan.specs.Carried.{ViewWithTrees}
-use Rattle.mst_trees.specs.Settled.{outcome_of}
+use Rattle.mst_sweep.specs.vlan.Carried.{ViewWithTrees}
+use Rattle.mst_sweep.specs.vlan.trees.Settled.{outcome_of}
 use Rattle.mst_sweep.specs.Baseline.{AreHomes}
 use Rattle.mst_verify.proofs.HomesMade.{homes_told}
 use Rattle.mst_verify.proofs.homes.made_one.Goals as goal

@@ -1,5 +1,5 @@
 use Rattle.std.proofs.Common.{◌≡◌, length, take}
-use Rattle.mst_trees.specs.Settled.{SettledNet}
+use Rattle.mst_sweep.specs.vlan.trees.Settled.{SettledNet}
 use Rattle.mst_verify.specs.Islands.{AreMade}
 use Rattle.mst_verify.proofs.homes.none_at.Given as goal
 

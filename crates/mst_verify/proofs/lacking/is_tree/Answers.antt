@@ -1,7 +1,7 @@
 use Rattle.std.proofs.Common.{◌≡◌, ◌==◌, ◌||◌, false, sym, ap, ◌∙◌}
 use Rattle.std.proofs.lemmas.Bool.{ne_eqb}
-use Rattle.mst_trees.specs.Msti.{is_had}
-use Rattle.mst_trees.specs.InUse.{is_in_use}
+use Rattle.mst_sweep.specs.vlan.trees.Msti.{is_had}
+use Rattle.mst_sweep.specs.vlan.trees.InUse.{is_in_use}
 use Rattle.mst_verify.proofs.LackedSeen.{tree_seen}
 use Rattle.mst_verify.proofs.lacking.is_tree.Goals as goal
 

@@ -4,8 +4,8 @@ use Rattle.std.specs.FinMap as fin
 use Rattle.std.proofs.lemmas.Result.{IfOk-weaker}
 use Rattle.mst_lag.specs.declared.in_view.BridgeInView.{BridgeInView}
 use Rattle.mst_note_text.specs.declared.children.Child.{Child}
-use Rattle.mst_trees.specs.Outcome.{trees_of}
-use Rattle.mst_trees.specs.Settled.{outcome_of}
+use Rattle.mst_sweep.specs.vlan.trees.Outcome.{trees_of}
+use Rattle.mst_sweep.specs.vlan.trees.Settled.{outcome_of}
 use Rattle.mst_verify.specs.Reasons.{leaf_reason}
 use Rattle.mst_verify.specs.Seen.{is_child_of, names_at}
 use Rattle.mst_verify.proofs.ChildrenTold.{of_bridge}

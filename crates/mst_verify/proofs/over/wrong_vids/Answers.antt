@@ -3,13 +3,13 @@ use Rattle.std.specs.List.{AllZip, Contains}
 use Rattle.std.proofs.lemmas.Result.{IfOk-weaker}
 use Rattle.mst_graph.proofs.Members.{from_filter}
 use Rattle.mst_ids.specs.Vids.{has}
-use Rattle.mst_trees.proofs.Entries.{all_weaker}
-use Rattle.mst_trees.proofs.Lists.{all_there}
-use Rattle.mst_trees.proofs.Looking.{filter_alike}
-use Rattle.mst_trees.specs.Settled.{outcome_of}
-use Rattle.mst_classes.specs.AllVids.{all_vids}
-use Rattle.mst_classes.proofs.VidPlaces.{is_vid_there}
-use Rattle.mst_classes.specs.Flags.{flag_at}
+use Rattle.mst_sweep.proofs.vlan_lemmas.trees_lemmas.Entries.{all_weaker}
+use Rattle.mst_sweep.proofs.vlan_lemmas.trees_lemmas.Lists.{all_there}
+use Rattle.mst_sweep.proofs.vlan_lemmas.trees_lemmas.Looking.{filter_alike}
+use Rattle.mst_sweep.specs.vlan.trees.Settled.{outcome_of}
+use Rattle.mst_sweep.specs.vlan.classes.AllVids.{all_vids}
+use Rattle.mst_sweep.proofs.vlan_lemmas.classes_lemmas.VidPlaces.{is_vid_there}
+use Rattle.mst_sweep.specs.vlan.classes.Flags.{flag_at}
 use Rattle.mst_summary.specs.Seen.{seen_on, seen_over}
 use Rattle.mst_summary.proofs.VidClasses.{AtPlaces, things_have, over_alike}
 use Rattle.mst_verify.specs.Named.{vids_in}

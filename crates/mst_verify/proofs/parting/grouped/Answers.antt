@@ -6,8 +6,8 @@ use Rattle.mst_graph.specs.Groups.{AreGroups}
 use Rattle.mst_graph.proofs.Members.{from_filter}
 use Rattle.mst_graph.proofs.Splits.{map_of_map}
 use Rattle.mst_ids.specs.Vids.{has}
-use Rattle.mst_classes.specs.AllVids.{NumberEach}
-use Rattle.mst_classes.specs.AllVids.{all_vids}
+use Rattle.mst_sweep.specs.vlan.classes.AllVids.{NumberEach}
+use Rattle.mst_sweep.specs.vlan.classes.AllVids.{all_vids}
 use Rattle.mst_sweep.specs.Cuts.{names_of, parts_at}
 use Rattle.mst_sweep.proofs.SameParts.{same_parts, by_view}
 use Rattle.mst_verify.specs.Named.{vids_in}

@@ -1,7 +1,7 @@
 use Rattle.std.proofs.Common.{Vec, Global, ◌+◌, ◌<◌, ◌≤◌, ℕ, List, [], ◌∷◌, length, map, take, sym, ap, subst, ◌∙◌, arith}
 use Rattle.std.proofs.lemmas.Grind.{common_steps}
 use Rattle.std.proofs.lemmas.List.{length-map, map-append}
-use Rattle.mst_trees.specs.Settled.{outcome_of}
+use Rattle.mst_sweep.specs.vlan.trees.Settled.{outcome_of}
 use Rattle.mst_sweep.specs.Cuts.{names_of}
 use Rattle.mst_verify.specs.Islands.{AreOfClasses, AreReachParts, names_in}
 use Rattle.mst_verify.specs.Reasons.{Parts}

@@ -1,6 +1,6 @@
 use Rattle.std.proofs.Common.{◌≡◌, length, map, take}
 use Rattle.mst_sweep.specs.Cuts.{names_of}
-use Rattle.mst_trees.specs.Settled.{outcome_of}
+use Rattle.mst_sweep.specs.vlan.trees.Settled.{outcome_of}
 use Rattle.mst_verify.specs.Islands.{names_in, AreReachParts, AreOfClasses}
 use Rattle.mst_verify.proofs.reaching.bodies.Given as goal
 

@@ -4,8 +4,8 @@ use Rattle.std.specs.List.{flat_map}
 use Rattle.mst_graph.proofs.Members.{from_filter}
 use Rattle.mst_lag.specs.declared.in_view.PortInView.{PortInView}
 use Rattle.mst_policy.specs.Items as policy
-use Rattle.mst_vlan.specs.trees.declared.kind.Role.{Role}
-use Rattle.mst_trees.specs.Settled.{outcome_of}
+use Rattle.mst_sweep.specs.vlan.trees.declared.kind.Role.{Role}
+use Rattle.mst_sweep.specs.vlan.trees.Settled.{outcome_of}
 use Rattle.mst_verify.specs.Reasons.{all_roles, role_reasons}
 use Rattle.mst_verify.specs.Seen.{seen_ports_named, seen_role_reason, seen_stopped}
 use Rattle.mst_verify.proofs.FlatMore.{flat_all, flat_more}

@@ -2,7 +2,7 @@ use Rattle.std.proofs.Common.{ap, ◌∙◌}
 use Rattle.std.specs.List.{filter_map}
 use Rattle.std.proofs.lemmas.Result.{IfOk-weaker}
 use Rattle.mst_lag.specs.Viewed.{named_bridge}
-use Rattle.mst_trees.specs.Settled.{outcome_of}
+use Rattle.mst_sweep.specs.vlan.trees.Settled.{outcome_of}
 use Rattle.mst_verify.specs.Seen.{concerned_follower}
 use Rattle.mst_verify.proofs.RootsSeen.{kept_named}
 use Rattle.mst_verify.proofs.roots.followers.Goals as goal

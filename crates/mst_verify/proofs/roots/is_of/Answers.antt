@@ -3,7 +3,7 @@ use Rattle.std.specs.Prelude.{option_copied}
 use Rattle.std.proofs.lemmas.Bool.{ne_eqb}
 use Rattle.mst_config.specs.Regions.{same_region}
 use Rattle.mst_config.specs.Shared.{same_in}
-use Rattle.mst_trees.specs.Forest.{Forest}
+use Rattle.mst_sweep.specs.vlan.trees.Forest.{Forest}
 use Rattle.mst_verify.proofs.RegionOf.{none_same, some_same}
 use Rattle.mst_verify.proofs.roots.is_of.Goals as goal
 

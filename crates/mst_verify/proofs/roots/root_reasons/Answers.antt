@@ -5,7 +5,7 @@ use Rattle.std.specs.Option.{option_map}
 use Rattle.mst_lag.specs.Aggregation.{same_name}
 use Rattle.mst_graph.specs.Lists.{has_any}
 use Rattle.mst_summary.specs.Roots.{least}
-use Rattle.mst_trees.specs.Settled.{outcome_of}
+use Rattle.mst_sweep.specs.vlan.trees.Settled.{outcome_of}
 use Rattle.mst_verify.specs.Reasons.{other_next}
 use Rattle.mst_verify.specs.declared.reason.Reason.{Reason}
 use Rattle.mst_verify.proofs.RootsSeen.{chosen, others_seen, root_told, seen_others}

@@ -1,8 +1,8 @@
 use Rattle.std.proofs.Common.{Vec, Global, ◌≡◌, ◌+◌, ◌<◌, ℕ, List, get_or, map, Some, sym, ap, subst, ◌∙◌, arith, rules}
 use Rattle.std.specs.Prelude.{MatchOption, ⊤}
 use Rattle.std.proofs.lemmas.Grind.{common_steps}
-use Rattle.mst_vlan.specs.Carried.{ViewWithTrees}
-use Rattle.mst_trees.specs.Settled.{outcome_of}
+use Rattle.mst_sweep.specs.vlan.Carried.{ViewWithTrees}
+use Rattle.mst_sweep.specs.vlan.trees.Settled.{outcome_of}
 use Rattle.mst_sweep.specs.Baseline.{AreHomes}
 use Rattle.mst_verify.specs.Compared.{HaveParts}
 use Rattle.mst_verify.specs.Islands.{kept_in}

@@ -1,6 +1,6 @@
 use Rattle.std.proofs.Common.{◌≡◌, ℕ, true, length, take}
 use Rattle.std.specs.List.{Contains}
-use Rattle.mst_classes.specs.Flags.{flag_at}
+use Rattle.mst_sweep.specs.vlan.classes.Flags.{flag_at}
 use Rattle.mst_verify.proofs.vids.classes_asked.Given as goal
 
 -- the VIDs so far have their flags

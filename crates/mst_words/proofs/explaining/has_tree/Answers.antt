@@ -1,5 +1,5 @@
 use Rattle.std.proofs.Common.{◌∙◌, ap}
-use Rattle.mst_trees.specs.InUse.{seen_has}
+use Rattle.mst_advise.specs.explain.trees.InUse.{seen_has}
 use Rattle.mst_words.proofs.Explained.{has_tree_by_number}
 use Rattle.mst_words.proofs.explaining.has_tree.Goals as goal
 

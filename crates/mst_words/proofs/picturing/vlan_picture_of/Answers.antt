@@ -1,6 +1,6 @@
 use Rattle.std.proofs.Common.{ℕ, List, ap, subst, sym, ◌∙◌, ◌++◌}
 use Rattle.mst_tables.specs.Tables.{Net}
-use Rattle.mst_trees.specs.Settled.{outcome_of}
+use Rattle.mst_advise.specs.explain.trees.Settled.{outcome_of}
 use Rattle.mst_picture.specs.VlanPicture.{IsVlanPicture}
 use Rattle.mst_words.specs.Picturing.{DepictsVlan}
 use Rattle.mst_words.proofs.picturing.vlan_picture_of.Goals as goal

@@ -3,8 +3,8 @@ use Rattle.mst_questions.specs.tool.engine.Engine.{replied as served}
 use Rattle.mst_questions.specs.tool.engine.Script.{ServesRead}
 use Rattle.mst_questions.specs.tool.engine.report.Planned.{planned_state}
 use Rattle.mst_lang.specs.declared.line.Line.{Line as What}
-use Rattle.mst_print.specs.Shape.{of_script}
-use Rattle.mst_print.specs.declared.form.Shape.{Shape}
+use Rattle.mst_questions.specs.tool.engine.print.Shape.{of_script}
+use Rattle.mst_questions.specs.tool.engine.print.declared.form.Shape.{Shape}
 use Rattle.mst_ask.specs.Kept.{standing_of}
 use Rattle.mst_ask.specs.Replies.{replied}
 use Rattle.mst_ask.specs.Standing.{Asks}

@@ -1,6 +1,6 @@
 use Rattle.std.proofs.Common.{[], subst, ◌++◌}
 use Rattle.std.specs.Prelude.{unwrap_or}
-use Rattle.mst_text.specs.ConfigurationText.{configuration_rows}
+use Rattle.mst_plan_text.specs.text.ConfigurationText.{configuration_rows}
 use Rattle.mst_report.specs.Planned.{planned_state}
 use Rattle.mst_report.proofs.Answering.{configuration_is}
 use Rattle.mst_report.proofs.planner.Planner.configuration.Goals as goal

@@ -1,6 +1,6 @@
 use Rattle.std.proofs.Common.{refl}
 use Rattle.std.proofs.lemmas.Result.{on_ok_weaker}
-use Rattle.mst_text.specs.RegionsText.{regions_rows}
+use Rattle.mst_plan_text.specs.text.RegionsText.{regions_rows}
 use Rattle.mst_report.proofs.planner.Planner.regions.Goals as goal
 
 pub returns : goal.returns

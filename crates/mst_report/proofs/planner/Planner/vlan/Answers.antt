@@ -1,5 +1,5 @@
 use Rattle.std.proofs.lemmas.Result.{on_ok_weaker}
-use Rattle.mst_text.specs.VlanText.{AreVlanRows}
+use Rattle.mst_plan_text.specs.text.VlanText.{AreVlanRows}
 use Rattle.mst_report.proofs.Told.{tells}
 use Rattle.mst_report.proofs.planner.Planner.vlan.Goals as goal
 

@@ -1,7 +1,7 @@
 use Rattle.std.proofs.Common.{◌≡◌, ◌<◌, length, sym, ap, subst}
 use Rattle.std.specs.List.{All}
-use Rattle.mst_vlan.specs.Carried.{AreFlags}
-use Rattle.mst_classes.specs.Classes.{AreClasses}
+use Rattle.mst_sweep.specs.vlan.Carried.{AreFlags}
+use Rattle.mst_sweep.specs.vlan.classes.Classes.{AreClasses}
 use Rattle.mst_verify.specs.Islands.{AreMade}
 use Rattle.mst_verify.proofs.ClassesOfBoth.{of_new, of_old}
 use Rattle.mst_verify.proofs.StillMade.{all_alike}

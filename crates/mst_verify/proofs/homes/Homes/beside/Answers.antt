@@ -1,7 +1,7 @@
 use Rattle.std.proofs.Common.{◌≡◌, ◌<◌, length, sym, ap, subst}
 use Rattle.std.specs.List.{All}
 use Rattle.std.proofs.lemmas.Result.{IfOk-weaker}
-use Rattle.mst_vlan.specs.Carried.{ViewWithTrees, AreFlags}
+use Rattle.mst_sweep.specs.vlan.Carried.{ViewWithTrees, AreFlags}
 use Rattle.mst_verify.specs.Islands.{AreMade}
 use Rattle.mst_verify.proofs.HomesMade.{is_of_plan, known_of}
 use Rattle.mst_verify.proofs.StillMade.{all_alike, all_still, none_alike}
