@@ -9,7 +9,7 @@ use Rattle.mst_net.specs.tables.Seen.{bridge_row}
 use Rattle.mst_net.specs.tables.Tables.{BridgeRow}
 use Rattle.mst_sweeping.specs.plan.trees.Settled.{SettledNet, IsSettledNet}
 use Rattle.mst_sweeping.proofs.plan_lemmas.trees_lemmas.Seen.{bridge_seen, bridge_there}
-use Rattle.mst_verify.proofs.RegionOf.{found_there, none_found}
+use Rattle.mst_verify.proofs.tree_judges_lemmas.RegionOf.{found_there, none_found}
 
 module _ (s : SettledNet) (is : IsSettledNet s) (name : List ℕ) where
   pub not_there : find (λ (b : BridgeInView). same_name b.name name) s.view.bridges ≡ None → fin.get s.net.bridges name ≡ None

@@ -17,9 +17,9 @@ use Rattle.mst_sweeping.proofs.plan_lemmas.trees_lemmas.Named.{port_found, port_
 use Rattle.mst_sweeping.proofs.plan_lemmas.trees_lemmas.Lists.{no_some, some_is}
 use Rattle.mst_sweeping.proofs.plan_lemmas.trees_lemmas.Looking.{first_found}
 use Rattle.mst_sweeping.proofs.plan_lemmas.trees_lemmas.Seen.{port_there}
-use Rattle.mst_verify.specs.Holds.{Holds, is_wanted}
-use Rattle.mst_verify.specs.Named.{is_enabled, is_port_named, stopped}
-use Rattle.mst_verify.proofs.RegionOf.{found_there}
+use Rattle.mst_verify.specs.tree_judges.judged.reasons.Holds.{Holds, is_wanted}
+use Rattle.mst_verify.specs.tree_judges.judged.reasons.Named.{is_enabled, is_port_named, stopped}
+use Rattle.mst_verify.proofs.tree_judges_lemmas.RegionOf.{found_there}
 use Rattle.mst_advise.specs.Costs.{port_named}
 use Rattle.mst_advise.specs.Goals.{forwarding, this_port}
 

@@ -17,9 +17,9 @@ use Rattle.mst_sweeping.proofs.plan_lemmas.trees_lemmas.Looking.{filter_alike}
 use Rattle.mst_sweeping.proofs.plan_lemmas.trees_lemmas.Views.{bridges_are}
 use Rattle.mst_verify.specs.summary.declared.roots.Follower.{Follower}
 use Rattle.mst_verify.proofs.summary_lemmas.Lists.{all_mapped}
-use Rattle.mst_verify.specs.Roots.{identifier}
-use Rattle.mst_verify.specs.Seen.{concerned_followers}
-use Rattle.mst_verify.proofs.RootsTold.{follows, names_are}
+use Rattle.mst_verify.specs.tree_judges.judged.reasons.Roots.{identifier}
+use Rattle.mst_verify.specs.tree_judges.Seen.{concerned_followers}
+use Rattle.mst_verify.proofs.tree_judges_lemmas.RootsTold.{follows, names_are}
 use Rattle.mst_advise.specs.Hindrances.{apart_by, names_root}
 use Rattle.mst_advise.specs.Priorities.{before_best, comes_first, greatest_priority, greatest_upto, others}
 use Rattle.mst_advise.specs.Seen.{ids_of, seen_apart, seen_first, seen_next, seen_others}

@@ -8,7 +8,7 @@ use Rattle.mst_net.specs.tables.Tables.{Net}
 use Rattle.mst_sweeping.specs.plan.trees.InUse.{id_in}
 use Rattle.mst_sweeping.specs.plan.trees.Outcome.{Outcome}
 use Rattle.mst_sweeping.specs.sweep.facts.Roots.{root_of}
-use Rattle.mst_verify.specs.Roots.{concerned}
+use Rattle.mst_verify.specs.tree_judges.judged.reasons.Roots.{concerned}
 use Rattle.mst_advise.specs.Costs.{port_named}
 use Rattle.mst_advise.specs.declared.goal.Goal.{Goal}
 use Rattle.mst_advise.specs.declared.goal.Goal.TheVariants.{Root, Forward}

@@ -6,11 +6,11 @@ ghost use Rattle.mst_sweeping.specs.plan.trees.Roles.{role_in};
 ghost use Rattle.mst_net.specs.tables.Tables.{Net};
 ghost use Rattle.mst_sweeping.specs.plan.trees.Settled.{outcome_of};
 ghost use Rattle.mst_graph.specs.Lists.{has_any};
-ghost use Rattle.mst_verify.specs.Holds.{Holds, is_wanted};
-ghost use Rattle.mst_verify.specs.Islands.{AreKept};
-ghost use Rattle.mst_verify.specs.Over.{HasItsLan};
-ghost use Rattle.mst_verify.specs.Reasons.{AreReasons};
-ghost use Rattle.mst_verify.specs.Seen.{IsBefore};
+ghost use Rattle.mst_verify.specs.tree_judges.judged.reasons.Holds.{Holds, is_wanted};
+ghost use Rattle.mst_verify.specs.tree_judges.judged.Islands.{AreKept};
+ghost use Rattle.mst_verify.specs.tree_judges.judged.reasons.Over.{HasItsLan};
+ghost use Rattle.mst_verify.specs.tree_judges.judged.reasons.Reasons.{AreReasons};
+ghost use Rattle.mst_verify.specs.tree_judges.judged.Seen.{IsBefore};
 ghost use Rattle.mst_advise.specs.Goals.{expectation_of, forwarding, this_port};
 
 use crate::goal::Goal;

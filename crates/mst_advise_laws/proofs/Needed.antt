@@ -15,9 +15,9 @@ use Rattle.mst_rows.specs.Rows.{Row}
 use Rattle.mst_advise.specs.verify.summary.facts.trees.Outcome.{Outcome, IsOutcome}
 use Rattle.mst_advise.proofs.facts_lemmas.trees_lemmas.Lists.{no_some}
 use Rattle.mst_advise.proofs.facts_lemmas.trees_lemmas.Views.{same_mac}
-use Rattle.mst_advise.specs.verify.Holds.{IsOneRoot}
-use Rattle.mst_advise.specs.verify.Roots.{concerned, identifier, is_concerned}
-use Rattle.mst_advise.proofs.verify_lemmas.Keys.{keys_once}
+use Rattle.mst_advise.specs.verify.tree_judges.judged.reasons.Holds.{IsOneRoot}
+use Rattle.mst_advise.specs.verify.tree_judges.judged.reasons.Roots.{concerned, identifier, is_concerned}
+use Rattle.mst_advise.proofs.tree_judges_lemmas.Keys.{keys_once}
 use Rattle.mst_advise.specs.Candidates.{AreCandidates}
 use Rattle.mst_advise.specs.Made.{Has, Make}
 use Rattle.mst_advise.specs.Priorities.{before_best, comes_first, greatest_priority, others, priorities, root_settings}

@@ -20,9 +20,9 @@ use Rattle.mst_advise.specs.verify.summary.facts.trees.Outcome.{Outcome, IsOutco
 use Rattle.mst_advise.proofs.facts_lemmas.trees_lemmas.Lists.{all_contained, some_is}
 use Rattle.mst_advise.proofs.facts_lemmas.trees_lemmas.Views.{bridges_are, same_mac}
 use Rattle.mst_advise.specs.verify.summary.facts.Roots.{named_by, root_of}
-use Rattle.mst_advise.specs.verify.Holds.{IsOneRoot}
-use Rattle.mst_advise.specs.verify.Roots.{concerned, identifier, is_concerned}
-use Rattle.mst_advise.proofs.verify_lemmas.Keys.{key_there}
+use Rattle.mst_advise.specs.verify.tree_judges.judged.reasons.Holds.{IsOneRoot}
+use Rattle.mst_advise.specs.verify.tree_judges.judged.reasons.Roots.{concerned, identifier, is_concerned}
+use Rattle.mst_advise.proofs.tree_judges_lemmas.Keys.{key_there}
 use Rattle.mst_advise.proofs.facts_lemmas.trees_lemmas.Sights.{changed_from}
 use Rattle.mst_advise.specs.Made.{Has}
 use Rattle.mst_advise.specs.Priorities.{comes_first, greatest_priority, others, priorities}

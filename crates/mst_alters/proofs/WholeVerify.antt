@@ -5,7 +5,7 @@ use Rattle.mst_policy.specs.declared.policy.PolicyLine.{PolicyLine}
 use Rattle.mst_tables.specs.Tables.{Net}
 use Rattle.mst_tool.specs.engine.report.State.{State, empty_state}
 use Rattle.mst_words.specs.verdict.Verifying as network
-use Rattle.mst_words.specs.verdict.Verified.{Counts}
+use Rattle.mst_words.specs.verdict.telling.Verified.{Counts}
 use Rattle.mst_tool.specs.engine.Engine.{Tally, outcome_of}
 use Rattle.mst_tool.specs.engine.Served.{Served}
 use Rattle.mst_tool.specs.engine.declared.engine.Input.TheVariants.{Network}

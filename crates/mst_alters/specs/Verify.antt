@@ -6,7 +6,7 @@ use Rattle.mst_policy.specs.declared.policy.PolicyLine.{PolicyLine}
 use Rattle.mst_tables.specs.Tables.{Net}
 use Rattle.mst_tool.specs.engine.report.State.{empty_state}
 use Rattle.mst_words.specs.verdict.Verifying as network
-use Rattle.mst_words.specs.verdict.Verified.{Counts}
+use Rattle.mst_words.specs.verdict.telling.Verified.{Counts}
 use Rattle.mst_tool.specs.engine.Script.{LoadsAll}
 use Rattle.mst_tool.specs.engine.Steps.{Step, left_by, texts_of, refusals_of, lacks_of, lacking_of}
 use Rattle.mst_io.specs.Written.{Reads}

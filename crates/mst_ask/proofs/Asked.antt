@@ -28,7 +28,7 @@ use Rattle.mst_questions.specs.tool.Shown.{verify_row}
 use Rattle.mst_questions.proofs.EarlyRefusals.{refused_answer}
 use Rattle.mst_questions.proofs.tool_lemmas.Shown.{one_shown}
 use Rattle.mst_questions.proofs.WholeAsk.{OneOfEach, one_answer}
-use Rattle.mst_questions.specs.words.verdict.Verified.{Counts}
+use Rattle.mst_alters.specs.telling.Verified.{Counts}
 use Rattle.mst_ask.specs.Requests.{request_of}
 use Rattle.mst_ask.specs.Standing.{Made, Standing, Turn, Asks, AsksBy, AsksLine, IsStanding, answered, back, declined, edited, lacking_of, left_after, passed, starved, stepped, undone, verified}
 use Rattle.mst_ask.specs.declared.request.Request.{Request}

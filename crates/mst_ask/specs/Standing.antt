@@ -24,7 +24,7 @@ use Rattle.mst_rows.specs.Rows.{Row, row_of}
 use Rattle.mst_questions.specs.Ask.{IsAnswer, Told, is_refused}
 use Rattle.mst_alters.specs.Verify.{TellsVerification}
 use Rattle.mst_questions.specs.declared.asked.Question.{Question}
-use Rattle.mst_questions.specs.words.verdict.Verified.{Counts}
+use Rattle.mst_alters.specs.telling.Verified.{Counts}
 use Rattle.mst_ask.specs.Requests.{request_of}
 use Rattle.mst_ask.specs.declared.request.Request.{Request}
 use Rattle.mst_ask.specs.declared.request.Request.TheVariants.{Script, Word, Undo, Verify}

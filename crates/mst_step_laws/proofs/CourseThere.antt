@@ -11,8 +11,8 @@ use Rattle.mst_policy.specs.declared.policy.PolicyLine.{PolicyLine}
 use Rattle.mst_rows.specs.Rows.{Row}
 use Rattle.mst_diff.specs.vlan.trees.Outcome.{IsOutcome, Outcome}
 use Rattle.mst_verdict.specs.sweeping.declared.step.Deed.TheVariants as deed
-use Rattle.mst_verdict.specs.verify.Named.{Prior}
-use Rattle.mst_verdict.specs.Steps.{start_rows}
+use Rattle.mst_verdict.specs.reasons.Named.{Prior}
+use Rattle.mst_verdict.specs.telling.Steps.{start_rows}
 use Rattle.mst_verdict.specs.Setting.{after_lines, after_steps, refused_lines}
 use Rattle.mst_verdict.specs.Stepping.{AreRowsIn, AreWatched, IsStepTold, StepMade, StepTold, Steps, Watch, course_of, course_row, front_rows_if, lines_of, numbers_of, prior_at, rows_told, step_made, steps_made, watch_of}
 use Rattle.mst_verdict.specs.Verifying.{IsPriorNetwork, Judges}

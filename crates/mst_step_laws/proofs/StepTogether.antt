@@ -18,10 +18,10 @@ use Rattle.mst_diff.proofs.vlan_lemmas.classes_lemmas.VidPlaces.{is_vid_there}
 use Rattle.mst_verdict.specs.sweep.Cuts.{AreCutsBy, cut_row, group_rows, runs_of}
 use Rattle.mst_verdict.specs.sweep.Parts.{AreParts, ArePartsOf}
 use Rattle.mst_verdict.specs.sweep.declared.cuts.CutBy.TheVariants.{Step}
-use Rattle.mst_verdict.specs.verify.Named.{is_named, named, vids_in}
-use Rattle.mst_verdict.specs.verify.Reasons.{AreReasons, HasOneList, group_reasons, together_reason}
-use Rattle.mst_verdict.specs.verify.declared.reason.Reason.{Reason}
-use Rattle.mst_verdict.specs.verify.declared.reason.Reason.TheVariants as why
+use Rattle.mst_verdict.specs.reasons.Named.{is_named, named, vids_in}
+use Rattle.mst_verdict.specs.reasons.Reasons.{AreReasons, HasOneList, group_reasons, together_reason}
+use Rattle.mst_verdict.specs.reasons.declared.reason.Reason.{Reason}
+use Rattle.mst_verdict.specs.reasons.declared.reason.Reason.TheVariants as why
 use Rattle.mst_step_laws.specs.Together.{AreAllVids, as_cut, together_all}
 
 -- ---- lists

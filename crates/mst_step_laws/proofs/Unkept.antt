@@ -14,11 +14,11 @@ use Rattle.mst_net.specs.tables.After.{after}
 use Rattle.mst_net.specs.tables.Tables.{IsNetwork, Net}
 use Rattle.mst_policy.specs.declared.policy.PolicyLine.{PolicyLine}
 use Rattle.mst_rows.specs.Rows.{Row}
-use Rattle.mst_verdict.specs.Steps.{Change, changes, is_broken, mends, unkept_count}
-use Rattle.mst_verdict.specs.Rows.{mends_row}
-use Rattle.mst_verdict.specs.Texts.{is_told, news, same_text}
-use Rattle.mst_verdict.specs.Told.{IsToldThere}
-use Rattle.mst_verdict.specs.verify.Named.{Prior}
+use Rattle.mst_verdict.specs.telling.Steps.{Change, changes, is_broken, mends, unkept_count}
+use Rattle.mst_verdict.specs.telling.Rows.{mends_row}
+use Rattle.mst_verdict.specs.telling.Texts.{is_told, news, same_text}
+use Rattle.mst_verdict.specs.telling.Told.{IsToldThere}
+use Rattle.mst_verdict.specs.reasons.Named.{Prior}
 use Rattle.mst_verdict.specs.Verifying.{IsPriorNetwork, Judges}
 use Rattle.mst_verdict.specs.Setting.{after_lines, after_steps}
 use Rattle.mst_verdict.specs.Stepping.{AreRowsIn, AreWatched, IsStepTold, StepTold, Watch, changes_in, prior_at, steps_made, watch_of}

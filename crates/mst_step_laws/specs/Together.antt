@@ -9,8 +9,8 @@ use Rattle.mst_policy.specs.declared.expectation.Expectation.TheVariants as expe
 use Rattle.mst_policy.specs.declared.item.NameItem.TheVariants.{Any}
 use Rattle.mst_verdict.specs.sweep.Cuts.{cut_row}
 use Rattle.mst_verdict.specs.sweep.declared.cuts.CutBy.TheVariants.{Step}
-use Rattle.mst_verdict.specs.verify.declared.reason.Reason.{Reason}
-use Rattle.mst_verdict.specs.verify.declared.reason.Reason.TheVariants as why
+use Rattle.mst_verdict.specs.reasons.declared.reason.Reason.{Reason}
+use Rattle.mst_verdict.specs.reasons.declared.reason.Reason.TheVariants as why
 
 -- `together 1-4094 *`
 abbrev pub together_all : List Bool → Expectation

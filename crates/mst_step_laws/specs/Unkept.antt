@@ -4,8 +4,8 @@ use Rattle.std.specs.List.{AllZip, Contains}
 use Rattle.mst_rows.specs.Rows.{Row}
 use Rattle.mst_graph.specs.Lists.{has_any}
 use Rattle.mst_policy.specs.declared.policy.PolicyLine.{PolicyLine}
-use Rattle.mst_verdict.specs.Steps.{Change, is_broken, mends}
-use Rattle.mst_verdict.specs.Texts.{news, same_text}
+use Rattle.mst_verdict.specs.telling.Steps.{Change, is_broken, mends}
+use Rattle.mst_verdict.specs.telling.Texts.{news, same_text}
 use Rattle.mst_verdict.specs.Stepping.{StepTold, changes_in}
 
 -- how many lines a step breaks, which were kept before it, and how many it mends, which have a `mends` row

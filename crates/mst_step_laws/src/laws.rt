@@ -14,10 +14,10 @@ ghost use Rattle.mst_step_laws.specs.Together.{AreAllVids, as_cut, together_all}
 ghost use Rattle.mst_verdict.specs.sweep.Cuts.{AreCutsBy};
 ghost use Rattle.mst_verdict.specs.sweep.Parts.{AreParts};
 ghost use Rattle.mst_verdict.specs.sweep.declared.cuts.CutBy.TheVariants.{Step};
-ghost use Rattle.mst_verdict.specs.verify.Reasons.{AreReasons};
-ghost use Rattle.mst_verdict.specs.verify.declared.reason.Reason.{Reason as ReasonOf};
+ghost use Rattle.mst_verdict.specs.reasons.Reasons.{AreReasons};
+ghost use Rattle.mst_verdict.specs.reasons.declared.reason.Reason.{Reason as ReasonOf};
 ghost use Rattle.mst_step_laws.specs.Unkept.{AreNewsNext, broken_by, mended_by, told_unkept};
-ghost use Rattle.mst_verdict.specs.Steps.{Change as ChangeOf, unkept_count};
+ghost use Rattle.mst_verdict.specs.telling.Steps.{Change as ChangeOf, unkept_count};
 ghost use Rattle.mst_verdict.specs.declared.stepping.Course.{Course as CourseOf};
 ghost use Rattle.mst_rows.specs.Rows.{Row};
 ghost use Rattle.mst_step_laws.specs.InReach.{IsInDiff, StepAndDiff};

@@ -9,14 +9,14 @@ use Rattle.mst_policy.specs.declared.policy.PolicyLine.{PolicyLine}
 use Rattle.mst_graph.specs.Lists.{has_any}
 use Rattle.mst_sweeping.specs.sweep.declared.failure.Failure.{Failure}
 use Rattle.mst_sweeping.proofs.sweep_lemmas.SweptParts.{zip_joined}
-use Rattle.mst_verify.specs.Judged.{places}
-use Rattle.mst_verify.specs.Placed.{AreReasonsAt}
-use Rattle.mst_verify.specs.declared.lacking.Missing.{Missing}
-use Rattle.mst_verify.specs.declared.reason.Reason.{Reason}
-use Rattle.mst_verdict.specs.Judged.{AreLinesJudged, IsKeptOf, NoneIsKeptOf, found_at, line_found, line_lacks}
-use Rattle.mst_verdict.specs.Told.{Found, IsFoundAt, expected_at, has_reason, is_judged_at, lacked}
-use Rattle.mst_verdict.specs.declared.judgement.Finding.{Finding}
-use Rattle.mst_verdict.specs.declared.judgement.Judgement.{Judgement}
+use Rattle.mst_verify.specs.tree_judges.judged.reasons.Judged.{places}
+use Rattle.mst_verify.specs.tree_judges.judged.reasons.Placed.{AreReasonsAt}
+use Rattle.mst_verify.specs.tree_judges.judged.reasons.declared.missing.Missing.{Missing}
+use Rattle.mst_verify.specs.tree_judges.judged.reasons.declared.reason.Reason.{Reason}
+use Rattle.mst_telling.specs.Judged.{AreLinesJudged, IsKeptOf, NoneIsKeptOf, found_at, line_found, line_lacks}
+use Rattle.mst_telling.specs.Told.{Found, IsFoundAt, expected_at, has_reason, is_judged_at, lacked}
+use Rattle.mst_telling.specs.declared.judgement.Finding.{Finding}
+use Rattle.mst_telling.specs.declared.judgement.Judgement.{Judgement}
 use Rattle.mst_verdict.specs.Verifying.{AreFoundOf, AreLacking, AreReasonsEach, AreReasonsOf, FindsAt, FoundIn, IsFoundOf, Sitting, expected_of, found_of, lacks_in}
 use Rattle.mst_verdict.proofs.Judgements.{zip_weaker}
 

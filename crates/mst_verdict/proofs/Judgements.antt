@@ -41,17 +41,17 @@ use Rattle.mst_sweeping.specs.sweep.declared.failure.Failure.{Failure}
 use Rattle.mst_sweeping.specs.sweep.declared.failure.Failure.TheVariants.{Lan, Bridge}
 use Rattle.mst_sweeping.proofs.sweep_lemmas.Failed.{are_left}
 use Rattle.mst_sweeping.proofs.sweep_lemmas.SweptParts.{zip_joined}
-use Rattle.mst_verify.specs.Missing.{has_one, lans_of, missing, scope_lans}
-use Rattle.mst_verify.specs.Over.{HasItsLan, is_lan}
-use Rattle.mst_verify.specs.Islands.{IsKeptOf, IsOneOf}
-use Rattle.mst_verify.specs.Judged.{gone_of}
-use Rattle.mst_verify.specs.Named.{Prior}
-use Rattle.mst_verify.specs.Placed.{AreReasonsAfter}
-use Rattle.mst_verify.specs.declared.lacking.Missing.{Missing}
-use Rattle.mst_verify.specs.declared.prior.Prior.{Prior as KeptPrior}
-use Rattle.mst_verify.specs.declared.reason.Reason.{Reason}
+use Rattle.mst_verify.specs.tree_judges.judged.reasons.Missing.{has_one, lans_of, missing, scope_lans}
+use Rattle.mst_verify.specs.tree_judges.judged.reasons.Over.{HasItsLan, is_lan}
+use Rattle.mst_verify.specs.tree_judges.judged.Islands.{IsKeptOf, IsOneOf}
+use Rattle.mst_verify.specs.tree_judges.judged.reasons.Judged.{gone_of}
+use Rattle.mst_verify.specs.tree_judges.judged.reasons.Named.{Prior}
+use Rattle.mst_verify.specs.tree_judges.judged.reasons.Placed.{AreReasonsAfter}
+use Rattle.mst_verify.specs.tree_judges.judged.reasons.declared.missing.Missing.{Missing}
+use Rattle.mst_verify.specs.tree_judges.judged.declared.prior.Prior.{Prior as KeptPrior}
+use Rattle.mst_verify.specs.tree_judges.judged.reasons.declared.reason.Reason.{Reason}
 use Rattle.mst_verify.proofs.JudgedSomewhere.{whole}
-use Rattle.mst_verdict.specs.Told.{expected_at, is_due, is_judged_at, judged_of, lacked, looks_at, where_whole}
+use Rattle.mst_telling.specs.Told.{expected_at, is_due, is_judged_at, judged_of, lacked, looks_at, where_whole}
 use Rattle.mst_verdict.specs.Verifying.{AreLacking, AreReasonsEach, AreReasonsIf, AreReasonsOf, HaveLans, IsCarriage, IsPrior, IsPriorOf, Sitting, asked_by, expected_by, expected_in, expected_of, lacks_in, plan_outcome, sitting_of}
 use Rattle.mst_verdict.specs.declared.judging.Judging.{Judging}
 use Rattle.mst_sweeping.specs.sweep.vlan.Carried.{ViewWithTrees}

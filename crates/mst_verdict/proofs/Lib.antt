@@ -1,10 +1,4 @@
 pub use Rattle.mst_sweeping.proofs.sweep_lemmas as sweep_lemmas
-pub mod GoesOn
-pub mod TextLines
-pub mod Only
-pub mod Lines
-pub mod NewRows
-pub mod Whole
 pub mod OneTold
 pub mod UnkeptTold
 pub mod MadeNets

@@ -4,9 +4,9 @@ use Rattle.mst_policy.specs.declared.expectation.Expectation.{Expectation}
 use Rattle.mst_policy.specs.declared.expectation.Expectation.TheVariants as expect
 use Rattle.mst_net.specs.tables.Tables.{Net}
 use Rattle.mst_sweeping.specs.plan.trees.Outcome.{Outcome}
-use Rattle.mst_verify.specs.Judged.{looks_back}
-use Rattle.mst_verify.specs.Reasons.{AreReasons}
-use Rattle.mst_verify.specs.declared.reason.Reason.{Reason}
+use Rattle.mst_verify.specs.tree_judges.judged.reasons.Judged.{looks_back}
+use Rattle.mst_verify.specs.tree_judges.judged.reasons.Reasons.{AreReasons}
+use Rattle.mst_verify.specs.tree_judges.judged.reasons.declared.reason.Reason.{Reason}
 
 pub nothing_back : (net : Net) (o : Outcome) (e : Expectation) (reasons : List Reason) → looks_back e ≡ true → AreReasons net o net None None e reasons → reasons ≡ []
 nothing_back net o (expect.Root tree b next) reasons e r = absurd (true≢false (sym e))

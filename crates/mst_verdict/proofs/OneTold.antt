@@ -11,13 +11,13 @@ use Rattle.mst_net.specs.tables.Tables.{Net, IsNetwork}
 use Rattle.mst_sweeping.specs.plan.trees.Outcome.{Outcome, IsOutcome}
 use Rattle.mst_sweeping.specs.sweep.Failures.{edit_of, failures}
 use Rattle.mst_sweeping.specs.sweep.declared.failure.Failure.{Failure}
-use Rattle.mst_verify.specs.Judged.{gone_of, places}
-use Rattle.mst_verify.specs.Named.{Gone, OfNetwork, Prior}
-use Rattle.mst_verify.specs.Placed.{AreReasonsAfter, AreReasonsAt}
-use Rattle.mst_verify.specs.Reasons.{AreReasons, HasOneList}
-use Rattle.mst_verify.specs.declared.reason.Reason.{Reason}
-use Rattle.mst_verdict.specs.Told.{AreFound, AreLineReasons, Found, IsFoundAt, IsLineTold, expected_at, found_rows, has_reason, lacking_rows}
-use Rattle.mst_verdict.specs.Verified.{Counts, IsVerdict, IsVerified, all_refused, counts_in, joined, judged_in, last_row, promises_in, rows_of_read}
+use Rattle.mst_verify.specs.tree_judges.judged.reasons.Judged.{gone_of, places}
+use Rattle.mst_verify.specs.tree_judges.judged.reasons.Named.{Gone, OfNetwork, Prior}
+use Rattle.mst_verify.specs.tree_judges.judged.reasons.Placed.{AreReasonsAfter, AreReasonsAt}
+use Rattle.mst_verify.specs.tree_judges.judged.reasons.Reasons.{AreReasons, HasOneList}
+use Rattle.mst_verify.specs.tree_judges.judged.reasons.declared.reason.Reason.{Reason}
+use Rattle.mst_telling.specs.Told.{AreFound, AreLineReasons, Found, IsFoundAt, IsLineTold, expected_at, found_rows, has_reason, lacking_rows}
+use Rattle.mst_telling.specs.Verified.{Counts, IsVerdict, IsVerified, all_refused, counts_in, joined, judged_in, last_row, promises_in, rows_of_read}
 
 -- ---- lists
 -- two lists of what is told of things, each of which tells one only

@@ -16,18 +16,18 @@ use Rattle.mst_net.specs.tables.Tables.{Net, IsNetwork}
 use Rattle.mst_sweeping.specs.plan.trees.Outcome.{Outcome, IsOutcome}
 use Rattle.mst_sweeping.specs.sweep.Failures.{edit_of, failures}
 use Rattle.mst_sweeping.specs.sweep.declared.failure.Failure.{Failure}
-use Rattle.mst_verify.specs.Holds.{Holds}
-use Rattle.mst_verify.specs.Judged.{HoldsAfter, IsKept, asks, asks_at, asks_now, gone_of, has_now, looks_back, places}
-use Rattle.mst_verify.specs.Missing.{missing}
-use Rattle.mst_verify.specs.Named.{Gone, Prior}
-use Rattle.mst_verify.specs.Placed.{AreReasonsAfter, AreReasonsAt}
-use Rattle.mst_verify.specs.Reasons.{AreReasons}
-use Rattle.mst_verify.specs.declared.lacking.Missing.{Missing}
-use Rattle.mst_verify.specs.declared.reason.Reason.{Reason}
-use Rattle.mst_verdict.specs.Told.{AreFound, AreLineReasons, Found, IsFoundAt, IsLineTold, IsToldWhereUnkept, expected_at, found_rows, has_reason, is_now, judged, judged_of, lacked, lacking_rows, looks_at, missing_rows, tells_once, where_whole}
-use Rattle.mst_verdict.specs.Verified.{IsToldWhereBroken, IsVerdict, is_broken_by, rows_of_read, verdict_rows}
+use Rattle.mst_verify.specs.tree_judges.judged.reasons.Holds.{Holds}
+use Rattle.mst_verify.specs.tree_judges.judged.reasons.Judged.{HoldsAfter, IsKept, asks, asks_at, asks_now, gone_of, has_now, looks_back, places}
+use Rattle.mst_verify.specs.tree_judges.judged.reasons.Missing.{missing}
+use Rattle.mst_verify.specs.tree_judges.judged.reasons.Named.{Gone, Prior}
+use Rattle.mst_verify.specs.tree_judges.judged.reasons.Placed.{AreReasonsAfter, AreReasonsAt}
+use Rattle.mst_verify.specs.tree_judges.judged.reasons.Reasons.{AreReasons}
+use Rattle.mst_verify.specs.tree_judges.judged.reasons.declared.missing.Missing.{Missing}
+use Rattle.mst_verify.specs.tree_judges.judged.reasons.declared.reason.Reason.{Reason}
+use Rattle.mst_telling.specs.Told.{AreFound, AreLineReasons, Found, IsFoundAt, IsLineTold, IsToldWhereUnkept, expected_at, found_rows, has_reason, is_now, judged, judged_of, lacked, lacking_rows, looks_at, missing_rows, tells_once, where_whole}
+use Rattle.mst_telling.specs.Verified.{IsToldWhereBroken, IsVerdict, is_broken_by, rows_of_read, verdict_rows}
 use Rattle.mst_verdict.proofs.OneTold.{MakesNet, of_place}
-use Rattle.mst_verdict.proofs.Only.{found_any, no_more, verdict_some}
+use Rattle.mst_telling.proofs.Only.{found_any, no_more, verdict_some}
 
 -- ---- lists
 none_has : {X : Type 0} (test : X → Bool) (xs : List X) → list_any test xs ≡ false → (x : X) → Contains xs x → test x ≡ false

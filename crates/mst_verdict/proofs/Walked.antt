@@ -10,7 +10,7 @@ use Rattle.mst_rows.specs.Rows.{Row}
 use Rattle.mst_change.specs.Reading.{LineRead}
 use Rattle.mst_change.specs.Steps.{all_lines}
 use Rattle.mst_policy.specs.declared.policy.PolicyLine.{PolicyLine}
-use Rattle.mst_verdict.specs.Steps.{breaks}
+use Rattle.mst_telling.specs.Steps.{breaks}
 use Rattle.mst_verdict.specs.Setting.{after_lines, after_steps}
 use Rattle.mst_verdict.specs.Stepping.{AreRowsIn, IsFew, IsStepTold, StepTold, Watch, changes_in, course_of, rows_told, step_made, steps_made}
 use Rattle.mst_verdict.specs.Taking.{AreSteps, IsTaken, TakesStep, TakesSteps, course_with, one_if}

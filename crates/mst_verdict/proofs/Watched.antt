@@ -7,9 +7,9 @@ use Rattle.mst_policy.specs.declared.policy.PolicyLine.{PolicyLine}
 use Rattle.mst_sweeping.specs.sweep.vlan.Carried.{ViewWithTrees}
 use Rattle.mst_sweeping.specs.plan.trees.Outcome.{IsOutcome, Outcome}
 use Rattle.mst_sweeping.specs.plan.trees.Settled.{outcome_of}
-use Rattle.mst_verify.specs.Named.{Prior}
-use Rattle.mst_verdict.specs.Judged.{told_in}
-use Rattle.mst_verdict.specs.declared.judgement.Judgement.{Judgement}
+use Rattle.mst_verify.specs.tree_judges.judged.reasons.Named.{Prior}
+use Rattle.mst_telling.specs.Judged.{told_in}
+use Rattle.mst_telling.specs.declared.judgement.Judgement.{Judgement}
 use Rattle.mst_verdict.specs.Verifying.{IsPriorOf, Judges}
 use Rattle.mst_verdict.specs.Stepping.{AreRowsIn, Watch, prior_at}
 use Rattle.mst_verdict.specs.Taking.{IsWatching}

@@ -1,13 +1,7 @@
-pub use Rattle.mst_verify.specs as verify
+pub use Rattle.mst_verify.specs.tree_judges.judged.reasons as reasons
+pub use Rattle.mst_telling.specs as telling
 pub use Rattle.mst_sweeping.specs.sweep as sweep
 pub use Rattle.mst_sweeping.specs as sweeping
-pub mod Rows
-pub mod Texts
-pub mod Told
-pub mod Once
-pub mod Verified
-pub mod Steps
-pub mod Judged
 pub mod Verifying
 pub mod Setting
 pub mod Stepping

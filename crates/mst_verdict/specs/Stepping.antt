@@ -14,8 +14,8 @@ use Rattle.mst_sweeping.specs.declared.step.PolicyCounts.{PolicyCounts}
 use Rattle.mst_sweeping.specs.declared.step.Step.{Step}
 use Rattle.mst_sweeping.specs.declared.step.Stepped.{Stepped}
 use Rattle.mst_sweeping.specs.declared.step.Walked.{Walked}
-use Rattle.mst_verify.specs.Named.{Prior}
-use Rattle.mst_verdict.specs.Steps.{Change, breaks, changes, front_rows, judged_rows, start_rows, unkept_count}
+use Rattle.mst_verify.specs.tree_judges.judged.reasons.Named.{Prior}
+use Rattle.mst_telling.specs.Steps.{Change, breaks, changes, front_rows, judged_rows, start_rows, unkept_count}
 use Rattle.mst_verdict.specs.Verifying.{Judges}
 use Rattle.mst_verdict.specs.Setting.{after_lines, after_steps, refused_lines}
 use Rattle.mst_verdict.specs.declared.stepping.Course.{Course}

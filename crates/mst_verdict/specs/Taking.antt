@@ -5,7 +5,7 @@ use Rattle.mst_net.specs.tables.Tables.{Net}
 use Rattle.mst_rows.specs.Rows.{Row}
 use Rattle.mst_change.specs.Reading.{LineRead}
 use Rattle.mst_policy.specs.declared.policy.PolicyLine.{PolicyLine}
-use Rattle.mst_verdict.specs.Steps.{breaks}
+use Rattle.mst_telling.specs.Steps.{breaks}
 use Rattle.mst_verdict.specs.Verifying.{IsPriorOf}
 use Rattle.mst_verdict.specs.Setting.{after_steps}
 use Rattle.mst_verdict.specs.Stepping.{AreRowsIn, IsStepTold, StepTold, Watch, changes_in, course_of, rows_told, step_made, steps_made}

@@ -14,18 +14,18 @@ use Rattle.mst_sweeping.specs.plan.trees.Outcome.{Outcome, IsOutcome}
 use Rattle.mst_sweeping.specs.plan.trees.Settled.{SettledNet, outcome_of}
 use Rattle.mst_sweeping.specs.sweep.vlan.classes.Classes.{AreClasses}
 use Rattle.mst_sweeping.specs.sweep.declared.failure.Failure.{Failure}
-use Rattle.mst_verify.specs.Islands.{HasIslandsOf, IsOneOf}
-use Rattle.mst_verify.specs.Named.{Gone, Prior}
-use Rattle.mst_verify.specs.Over.{HasItsLan}
-use Rattle.mst_verify.specs.Placed.{AreReasonsAt}
-use Rattle.mst_verify.specs.Reasons.{AreReasons}
-use Rattle.mst_verify.specs.Seen.{IsBefore}
-use Rattle.mst_verify.specs.declared.lacking.Missing.{Missing}
-use Rattle.mst_verify.specs.declared.reason.Reason.{Reason}
-use Rattle.mst_verdict.specs.Judged.{StandsAt, line_found}
-use Rattle.mst_verdict.specs.Told.{AreLinesTold, Found, IsToldWhereUnkept, expected_at, has_reason, is_due, is_judged_at, lacked, looks_at}
-use Rattle.mst_verdict.specs.Verified.{Counts, IsToldWhereBroken, IsVerified}
-use Rattle.mst_verdict.specs.declared.judgement.Finding.{Finding}
+use Rattle.mst_verify.specs.tree_judges.judged.Islands.{HasIslandsOf, IsOneOf}
+use Rattle.mst_verify.specs.tree_judges.judged.reasons.Named.{Gone, Prior}
+use Rattle.mst_verify.specs.tree_judges.judged.reasons.Over.{HasItsLan}
+use Rattle.mst_verify.specs.tree_judges.judged.reasons.Placed.{AreReasonsAt}
+use Rattle.mst_verify.specs.tree_judges.judged.reasons.Reasons.{AreReasons}
+use Rattle.mst_verify.specs.tree_judges.judged.Seen.{IsBefore}
+use Rattle.mst_verify.specs.tree_judges.judged.reasons.declared.missing.Missing.{Missing}
+use Rattle.mst_verify.specs.tree_judges.judged.reasons.declared.reason.Reason.{Reason}
+use Rattle.mst_telling.specs.Judged.{StandsAt, line_found}
+use Rattle.mst_telling.specs.Told.{AreLinesTold, Found, IsToldWhereUnkept, expected_at, has_reason, is_due, is_judged_at, lacked, looks_at}
+use Rattle.mst_telling.specs.Verified.{Counts, IsToldWhereBroken, IsVerified}
+use Rattle.mst_telling.specs.declared.judgement.Finding.{Finding}
 use Rattle.mst_verdict.specs.declared.judging.Judging.{Judging}
 use Rattle.mst_verdict.specs.declared.judging.Opened.{Opened}
 use Rattle.mst_sweeping.specs.plan.declared.plan.Plan.{Plan}

@@ -11,23 +11,22 @@ ghost use Rattle.mst_sweeping.specs.plan.Plan.{IsPlan};
 ghost use Rattle.mst_verdict.specs.Verifying.{AreLacking, AreReasonsEach, AreReasonsIf, AreReasonsThere, FindsAt, FoundIn, HaveLans, IsCarriage, IsJudging, IsOpened, IsPrior, Judges, OfSittings, expected_by, expected_in, found_of, is_asked_by, lacks_in, plan_outcome};
 ghost use Rattle.mst_sweeping.specs.sweep.Failures.{edit_of, failures as failures_of};
 ghost use Rattle.mst_sweeping.specs.sweep.Pairs.{failed};
-ghost use Rattle.mst_verdict.specs.Judged.{AreLinesJudged, line_found, reasons_in, told_in};
-ghost use Rattle.mst_verdict.specs.Told.{has_reason, is_due as is_due_of};
-ghost use Rattle.mst_verify.specs.Islands.{AreKept, HasIslandsOf, IsBeside, IsKeptOf};
-ghost use Rattle.mst_verify.specs.Judged.{gone_of, places};
-ghost use Rattle.mst_verify.specs.Named.{Prior as PriorOf};
-ghost use Rattle.mst_verify.specs.Over.{HasItsLan};
-ghost use Rattle.mst_verify.specs.Seen.{IsBefore};
+ghost use Rattle.mst_telling.specs.Judged.{AreLinesJudged, line_found, reasons_in, told_in};
+ghost use Rattle.mst_telling.specs.Told.{has_reason, is_due as is_due_of};
+ghost use Rattle.mst_verify.specs.tree_judges.judged.Islands.{AreKept, HasIslandsOf, IsBeside, IsKeptOf};
+ghost use Rattle.mst_verify.specs.tree_judges.judged.reasons.Judged.{gone_of, places};
+ghost use Rattle.mst_verify.specs.tree_judges.judged.reasons.Named.{Prior as PriorOf};
+ghost use Rattle.mst_verify.specs.tree_judges.judged.reasons.Over.{HasItsLan};
+ghost use Rattle.mst_verify.specs.tree_judges.judged.Seen.{IsBefore};
 
-use crate::judgement::{Finding, Judgement};
 use crate::laws::line_where_unkept;
-use crate::once::is_looked_at;
 use mst_ids::{Name, Vid, VidSet};
 use mst_lag::{View, view};
 use mst_net::Network;
 use mst_policy::{Expectation, PolicyLine, Promise};
 use mst_sweeping::{Carriage, Failure, Plan, Settled, failures, trees_failed, without_failure};
-use mst_verify::{Before, Beside, Homes, Judged, Missing, Prior, Reason, missing_in, reasons};
+use mst_telling::{Finding, Judgement, is_looked_at, missing_in};
+use mst_verify::{Before, Beside, Homes, Judged, Missing, Prior, Reason, reasons};
 use std::alloc::{AllocError, Global};
 
 /// What the lines of a policy are judged by.

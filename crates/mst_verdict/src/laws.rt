@@ -4,9 +4,9 @@ ghost use Rattle.mst_policy.specs.declared.policy.PolicyLine.{PolicyLine as Line
 ghost use Rattle.mst_rows.specs.Rows.{Row};
 ghost use Rattle.mst_net.specs.tables.Tables.{Net, IsNetwork};
 ghost use Rattle.mst_sweeping.specs.plan.trees.Outcome.{Outcome, IsOutcome};
-ghost use Rattle.mst_verify.specs.Named.{OfNetwork, Prior, Prior as PriorOf};
-ghost use Rattle.mst_verdict.specs.Told.{IsLineTold, IsToldWhereUnkept};
-ghost use Rattle.mst_verdict.specs.Verified.{Counts as PolicyCounts, IsToldWhereBroken, IsVerdict, IsVerified};
+ghost use Rattle.mst_verify.specs.tree_judges.judged.reasons.Named.{OfNetwork, Prior, Prior as PriorOf};
+ghost use Rattle.mst_telling.specs.Told.{IsLineTold, IsToldWhereUnkept};
+ghost use Rattle.mst_telling.specs.Verified.{Counts as PolicyCounts, IsToldWhereBroken, IsVerdict, IsVerified};
 ghost use Rattle.mst_verdict.specs.Verifying.{IsPriorNetwork, Judges, Verifies};
 
 use mst_net::laws::networks;

@@ -6,22 +6,14 @@
 //! step are refused and what moves.
 #![tactic(auto)]
 
-mod judgement;
 mod judging;
 pub mod laws;
-mod once;
-mod promises;
-mod reason;
-mod refused;
 mod setting;
 mod stepping;
-mod steps;
-mod texts;
-mod verified;
 mod verifying;
 
 pub use mst_sweeping::{SweepPart, laws as sweeping_laws, sweep_network, sweep_pairs};
+pub use mst_telling::Verdict;
 pub use mst_verify::laws as verify_laws;
 pub use stepping::{Course, step_network};
-pub use verified::Verdict;
 pub use verifying::verify_network;

@@ -8,12 +8,10 @@ ghost use Rattle.mst_verdict.specs.Stepping.{AreRowsIn, AreWatched, IsFew, Steps
 ghost use Rattle.mst_verdict.specs.Taking.{IsWatching, TakesStep, TakesSteps, course_for, course_with};
 ghost use Rattle.mst_sweeping.specs.Sweeping.{Puts};
 ghost use Rattle.mst_rows.specs.Rows.{Row};
-ghost use Rattle.mst_verdict.specs.Judged.{told_in};
+ghost use Rattle.mst_telling.specs.Judged.{told_in};
 
-use crate::judgement::Judgement;
 use crate::judging::judge;
 use crate::setting::make_lines;
-use crate::steps::{breaks, put_front, put_judged, put_start, unkept_count};
 use mst_change::{ChangeStep, StepLine};
 use mst_net::Network;
 use mst_policy::{Policy, PolicyLine};
@@ -21,6 +19,7 @@ use mst_rows::Rows;
 use mst_sweeping::{
     Carriage, Deed, Plan, PolicyCounts, Step, Stepped, Walked, plan_beside, put_between, put_last,
 };
+use mst_telling::{Judgement, breaks, put_front, put_judged, put_start, unkept_count};
 use std::alloc::{AllocError, Global};
 
 /// What is counted of the steps of a change.

@@ -2,15 +2,15 @@ ghost use Rattle.std.specs.Prelude.{◌+◌, ◌≤◌, List, IfOk, length};
 ghost use Rattle.mst_sweeping.specs.plan.Plan.{IsPlan};
 ghost use Rattle.mst_rows.specs.Rows.{Row};
 ghost use Rattle.mst_verdict.specs.Verifying.{Verifies};
-ghost use Rattle.mst_verdict.specs.Judged.{Puts, counts_of};
+ghost use Rattle.mst_telling.specs.Judged.{Puts, counts_of};
 
 use crate::judging::{Asking, judge_lines};
 use crate::laws::told_where_unkept;
-use crate::verified::{Verdict, put_verdict};
 use mst_net::Network;
 use mst_policy::PolicyLine;
 use mst_rows::Rows;
 use mst_sweeping::{Plan, failures};
+use mst_telling::{Verdict, put_verdict};
 use std::alloc::{AllocError, Global};
 
 /// Puts whether a network does what the lines of a policy promise, by its plan. `AllocError`: memory was wanted and refused; some of the

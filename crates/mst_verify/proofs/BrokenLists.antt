@@ -8,20 +8,20 @@ use Rattle.mst_graph.proofs.Members.{in_filter, from_filter}
 use Rattle.mst_net.specs.tables.Tables.{Net}
 use Rattle.mst_lag.specs.Trees.{is_among}
 use Rattle.mst_lag.specs.View.{LogicalPort}
-use Rattle.mst_sweep.specs.vlan.trees.Outcome.{Outcome}
-use Rattle.mst_sweep.specs.vlan.trees.Roles.{role_in}
-use Rattle.mst_sweep.specs.vlan.trees.declared.kind.Role.{Role}
-use Rattle.mst_sweep.specs.vlan.trees.declared.kind.Role.TheVariants.{Root, Designated, Alternate, Backup, Master, Disabled}
-use Rattle.mst_sweep.specs.vlan.trees.RoleNumbers.{role_number}
+use Rattle.mst_island_judges.specs.judged.reasons.sweep.vlan.trees.Outcome.{Outcome}
+use Rattle.mst_island_judges.specs.judged.reasons.sweep.vlan.trees.Roles.{role_in}
+use Rattle.mst_island_judges.specs.judged.reasons.sweep.vlan.trees.declared.kind.Role.{Role}
+use Rattle.mst_island_judges.specs.judged.reasons.sweep.vlan.trees.declared.kind.Role.TheVariants.{Root, Designated, Alternate, Backup, Master, Disabled}
+use Rattle.mst_island_judges.specs.judged.reasons.sweep.vlan.trees.RoleNumbers.{role_number}
 use Rattle.mst_graph.specs.Lists.{has_any}
 use Rattle.mst_policy.specs.declared.expectation.Roles.{Roles}
-use Rattle.mst_verify.specs.Named.{vids_in}
-use Rattle.mst_verify.specs.Over.{goes_over, not_as_wanted}
-use Rattle.mst_verify.specs.Holds.{is_wanted, HaveRoles, AllGoOver, NoneGoesOver}
-use Rattle.mst_verify.specs.Reasons.{same_role, all_roles, ports_of_role, role_reason, role_reasons, carries_reason, avoids_reason}
-use Rattle.mst_verify.specs.declared.reason.Reason.{Reason}
-use Rattle.mst_verify.specs.declared.reason.Reason.TheVariants as why
-use Rattle.mst_verify.proofs.Things.{there_any, not_any, told_if, passes_none, none_passes, each_none, none_each}
+use Rattle.mst_island_judges.specs.judged.reasons.Named.{vids_in}
+use Rattle.mst_island_judges.specs.judged.reasons.Over.{goes_over, not_as_wanted}
+use Rattle.mst_island_judges.specs.judged.reasons.Holds.{is_wanted, HaveRoles, AllGoOver, NoneGoesOver}
+use Rattle.mst_island_judges.specs.judged.reasons.Reasons.{same_role, all_roles, ports_of_role, role_reason, role_reasons, carries_reason, avoids_reason}
+use Rattle.mst_island_judges.specs.judged.reasons.declared.reason.Reason.{Reason}
+use Rattle.mst_island_judges.specs.judged.reasons.declared.reason.Reason.TheVariants as why
+use Rattle.mst_island_judges.proofs.judged_lemmas.reasons_lemmas.Things.{there_any, not_any, told_if, passes_none, none_passes, each_none, none_each}
 
 -- ---- what LANs carry
 not_wrong : (b : Bool) → not b ≡ false → b ≡ true

@@ -10,15 +10,15 @@ use Rattle.mst_net.specs.tables.Tables.{Net}
 use Rattle.mst_config.specs.Regions.{same_region}
 use Rattle.mst_lag.specs.Aggregation.{same_name}
 use Rattle.mst_lag.specs.Trees.{is_among}
-use Rattle.mst_sweep.specs.vlan.trees.Outcome.{Outcome}
+use Rattle.mst_island_judges.specs.judged.reasons.sweep.vlan.trees.Outcome.{Outcome}
 use Rattle.mst_graph.specs.Lists.{has_any}
-use Rattle.mst_sweep.specs.vlan.Reach.{bridges_on}
-use Rattle.mst_verify.specs.Named.{vids_in}
-use Rattle.mst_verify.specs.Holds.{AllReach, AreApart, AreOneRegion, AreTogether, IsReached}
-use Rattle.mst_verify.specs.Reasons.{has_two, AreRegionReasons, Parts, group_reasons, AreVidReasons, reach_reason, AreReachReasons, is_in, either_on, has_both, AreBoth, apart_reason, AreApartReasons}
-use Rattle.mst_verify.specs.declared.reason.Reason.{Reason}
-use Rattle.mst_verify.specs.declared.reason.Reason.TheVariants as why
-use Rattle.mst_verify.proofs.Things.{any_passes, none_passes, passes_none, told_if, each_none, none_each, thinned_self}
+use Rattle.mst_island_judges.specs.judged.reasons.sweep.vlan.Reach.{bridges_on}
+use Rattle.mst_island_judges.specs.judged.reasons.Named.{vids_in}
+use Rattle.mst_island_judges.specs.judged.reasons.Holds.{AllReach, AreApart, AreOneRegion, AreTogether, IsReached}
+use Rattle.mst_island_judges.specs.judged.reasons.Reasons.{has_two, AreRegionReasons, Parts, group_reasons, AreVidReasons, reach_reason, AreReachReasons, is_in, either_on, has_both, AreBoth, apart_reason, AreApartReasons}
+use Rattle.mst_island_judges.specs.judged.reasons.declared.reason.Reason.{Reason}
+use Rattle.mst_island_judges.specs.judged.reasons.declared.reason.Reason.TheVariants as why
+use Rattle.mst_island_judges.proofs.judged_lemmas.reasons_lemmas.Things.{any_passes, none_passes, passes_none, told_if, each_none, none_each, thinned_self}
 
 -- ---- two groups
 module _ {A : Type 0} (R : A → A → Type 0) where

@@ -4,14 +4,14 @@ use Rattle.std.specs.Prelude.{nat_lt}
 use Rattle.std.proofs.lemmas.Bool.Decides.{nat_tests}
 use Rattle.mst_graph.proofs.Members.{in_whole}
 use Rattle.mst_net.specs.tables.Tables.{Net, IsNetwork}
-use Rattle.mst_sweep.specs.vlan.trees.Outcome.{Outcome, IsOutcome}
+use Rattle.mst_island_judges.specs.judged.reasons.sweep.vlan.trees.Outcome.{Outcome, IsOutcome}
 use Rattle.mst_graph.specs.Lists.{has_any}
-use Rattle.mst_verify.specs.Holds.{AreLeaves, IsShallow}
-use Rattle.mst_verify.specs.Reasons.{leaf_reason, AreLeafReasons, AreDepthReasons}
-use Rattle.mst_verify.specs.declared.reason.Reason.{Reason}
-use Rattle.mst_verify.specs.declared.reason.Reason.TheVariants as why
-use Rattle.mst_verify.proofs.Keys.{child_there}
-use Rattle.mst_verify.proofs.Things.{any_there, there_any, not_any, told_if, each_none, none_each}
+use Rattle.mst_island_judges.specs.judged.reasons.Holds.{AreLeaves, IsShallow}
+use Rattle.mst_island_judges.specs.judged.reasons.Reasons.{leaf_reason, AreLeafReasons, AreDepthReasons}
+use Rattle.mst_island_judges.specs.judged.reasons.declared.reason.Reason.{Reason}
+use Rattle.mst_island_judges.specs.judged.reasons.declared.reason.Reason.TheVariants as why
+use Rattle.mst_tree_judges.proofs.Keys.{child_there}
+use Rattle.mst_island_judges.proofs.judged_lemmas.reasons_lemmas.Things.{any_there, there_any, not_any, told_if, each_none, none_each}
 
 -- ---- parents
 pub leaf_broken : (net : Net) (o : Outcome) → IsNetwork net → IsOutcome net o → (tree : ℕ) (bridges : List (List ℕ)) (reasons : List Reason) → AreLeafReasons net o tree bridges reasons

@@ -15,27 +15,27 @@ use Rattle.mst_policy.specs.declared.item.NameItem.TheVariants.{Any}
 use Rattle.mst_rows.specs.Rows.{Row}
 use Rattle.mst_lag.specs.View.{bridge_names}
 use Rattle.mst_graph.specs.Lists.{has_any}
-use Rattle.mst_sweep.specs.vlan.classes.AllVids.{all_vids}
-use Rattle.mst_sweep.specs.vlan.trees.Outcome.{Outcome, IsOutcome}
-use Rattle.mst_sweep.proofs.vlan_lemmas.classes_lemmas.VidPlaces.{is_vid_there}
-use Rattle.mst_sweep.proofs.vlan_lemmas.trees_lemmas.Lists.{kept_in, kept_from, some_is}
-use Rattle.mst_sweep.specs.vlan.Reach.{AreIslandsOf, bridges_on}
-use Rattle.mst_sweep.specs.Cuts.{AreCuts}
-use Rattle.mst_sweep.specs.Failures.{edit_of, failures}
-use Rattle.mst_sweep.specs.Parts.{home, stays_at, staying, all_parts, AreParts}
-use Rattle.mst_sweep.specs.SweepText.{Told, IsTold}
-use Rattle.mst_sweep.specs.declared.failure.Failure.{Failure}
-use Rattle.mst_sweep.specs.declared.parts.Stays.{Stays}
-use Rattle.mst_sweep.proofs.CutApart.{both_true, have_parts, not_true, stays_is, two_apart}
-use Rattle.mst_sweep.proofs.Failed.{are_left}
-use Rattle.mst_sweep.proofs.Joined.{has_home, home_on, home_joined, joined_home}
-use Rattle.mst_verify.specs.Holds.{AllReach, AreTogether, IsReached}
-use Rattle.mst_verify.specs.Judged.{gone_of, HoldsAfter}
-use Rattle.mst_verify.specs.Named.{is_gone, is_named, named, vids_in}
+use Rattle.mst_island_judges.specs.judged.reasons.sweep.vlan.classes.AllVids.{all_vids}
+use Rattle.mst_island_judges.specs.judged.reasons.sweep.vlan.trees.Outcome.{Outcome, IsOutcome}
+use Rattle.mst_island_judges.proofs.judged_lemmas.reasons_lemmas.sweep_lemmas.vlan_lemmas.classes_lemmas.VidPlaces.{is_vid_there}
+use Rattle.mst_island_judges.proofs.judged_lemmas.reasons_lemmas.sweep_lemmas.vlan_lemmas.trees_lemmas.Lists.{kept_in, kept_from, some_is}
+use Rattle.mst_island_judges.specs.judged.reasons.sweep.vlan.Reach.{AreIslandsOf, bridges_on}
+use Rattle.mst_island_judges.specs.judged.reasons.sweep.Cuts.{AreCuts}
+use Rattle.mst_island_judges.specs.judged.reasons.sweep.Failures.{edit_of, failures}
+use Rattle.mst_island_judges.specs.judged.reasons.sweep.Parts.{home, stays_at, staying, all_parts, AreParts}
+use Rattle.mst_island_judges.specs.judged.reasons.sweep.SweepText.{Told, IsTold}
+use Rattle.mst_island_judges.specs.judged.reasons.sweep.declared.failure.Failure.{Failure}
+use Rattle.mst_island_judges.specs.judged.reasons.sweep.declared.parts.Stays.{Stays}
+use Rattle.mst_island_judges.proofs.judged_lemmas.reasons_lemmas.sweep_lemmas.CutApart.{both_true, have_parts, not_true, stays_is, two_apart}
+use Rattle.mst_island_judges.proofs.judged_lemmas.reasons_lemmas.sweep_lemmas.Failed.{are_left}
+use Rattle.mst_island_judges.proofs.judged_lemmas.reasons_lemmas.sweep_lemmas.Joined.{has_home, home_on, home_joined, joined_home}
+use Rattle.mst_island_judges.specs.judged.reasons.Holds.{AllReach, AreTogether, IsReached}
+use Rattle.mst_island_judges.specs.judged.reasons.Judged.{gone_of, HoldsAfter}
+use Rattle.mst_island_judges.specs.judged.reasons.Named.{is_gone, is_named, named, vids_in}
 use Rattle.mst_verify.specs.Whole.{AreAllVids, Fails, IsWhole, NoneIsCut, reach_all}
 use Rattle.mst_verify.proofs.Failed.{in_range, not_gone, on_key, stays_on}
 use Rattle.mst_verify.proofs.ReachLinked.{same_or_not}
-use Rattle.mst_verify.proofs.Things.{any_there, no_true, same_place, there_any, true_both}
+use Rattle.mst_island_judges.proofs.judged_lemmas.reasons_lemmas.Things.{any_there, no_true, same_place, there_any, true_both}
 
 -- ---- one VID
 module _ (net failed : Net) (failure : Failure) (e : after (edit_of failure) net ≡ Ok failed) where

@@ -18,19 +18,19 @@ use Rattle.mst_net.proofs.tables_lemmas.Changed.{get_changed}
 use Rattle.mst_net.proofs.tables_lemmas.Keys.{names}
 use Rattle.mst_lag.specs.Aggregation.{plugs, same_name}
 use Rattle.mst_lag.specs.View.{LogicalPort, IsUnrestricted, as_port, logical_port, view_ports}
-use Rattle.mst_sweep.proofs.vlan_lemmas.trees_lemmas.Entries.{entries_found}
-use Rattle.mst_sweep.proofs.vlan_lemmas.trees_lemmas.Lists.{all_contained, no_some, some_is}
-use Rattle.mst_sweep.proofs.vlan_lemmas.trees_lemmas.Views.{bridges_are, entry_there}
-use Rattle.mst_sweep.specs.vlan.Reach.{bridges_on}
-use Rattle.mst_sweep.specs.Apart.{AllAreMembers}
-use Rattle.mst_sweep.specs.Failures.{edit_of, failures}
-use Rattle.mst_sweep.specs.declared.failure.Failure.{Failure}
-use Rattle.mst_sweep.specs.declared.failure.Failure.TheVariants.{Lan, Bridge}
-use Rattle.mst_sweep.proofs.Failed.{made}
-use Rattle.mst_sweep.proofs.StillOn.{on_row, row_on}
-use Rattle.mst_verify.specs.Judged.{gone_of}
-use Rattle.mst_verify.specs.Named.{is_gone}
-use Rattle.mst_verify.proofs.Keys.{key_there}
+use Rattle.mst_island_judges.proofs.judged_lemmas.reasons_lemmas.sweep_lemmas.vlan_lemmas.trees_lemmas.Entries.{entries_found}
+use Rattle.mst_island_judges.proofs.judged_lemmas.reasons_lemmas.sweep_lemmas.vlan_lemmas.trees_lemmas.Lists.{all_contained, no_some, some_is}
+use Rattle.mst_island_judges.proofs.judged_lemmas.reasons_lemmas.sweep_lemmas.vlan_lemmas.trees_lemmas.Views.{bridges_are, entry_there}
+use Rattle.mst_island_judges.specs.judged.reasons.sweep.vlan.Reach.{bridges_on}
+use Rattle.mst_island_judges.specs.judged.reasons.sweep.Apart.{AllAreMembers}
+use Rattle.mst_island_judges.specs.judged.reasons.sweep.Failures.{edit_of, failures}
+use Rattle.mst_island_judges.specs.judged.reasons.sweep.declared.failure.Failure.{Failure}
+use Rattle.mst_island_judges.specs.judged.reasons.sweep.declared.failure.Failure.TheVariants.{Lan, Bridge}
+use Rattle.mst_island_judges.proofs.judged_lemmas.reasons_lemmas.sweep_lemmas.Failed.{made}
+use Rattle.mst_island_judges.proofs.judged_lemmas.reasons_lemmas.sweep_lemmas.StillOn.{on_row, row_on}
+use Rattle.mst_island_judges.specs.judged.reasons.Judged.{gone_of}
+use Rattle.mst_island_judges.specs.judged.reasons.Named.{is_gone}
+use Rattle.mst_tree_judges.proofs.Keys.{key_there}
 
 -- ---- its edit is in the ranges, and nothing refuses it
 pub record CanFail (net : Net) (failure : Failure) : Type 0 where

@@ -8,12 +8,12 @@ use Rattle.mst_policy.specs.declared.expectation.Promise.{Promise}
 use Rattle.mst_policy.specs.declared.expectation.Scope.{Scope}
 use Rattle.mst_policy.specs.declared.expectation.Scope.TheVariants as scope
 use Rattle.mst_policy.specs.declared.item.NameItem.{NameItem}
-use Rattle.mst_sweep.specs.Failures.{failures}
-use Rattle.mst_sweep.proofs.CutApart.{both_true}
-use Rattle.mst_verify.specs.Judged.{IsJudgedSomewhere, asks, has_now, looks_back, name_of}
-use Rattle.mst_verify.specs.Missing.{has_failure, have_failures, lacks_bridge, lacks_failure, lacks_failure_of, lacks_lan, lacks_port, lacks_tree, missing}
-use Rattle.mst_verify.specs.declared.lacking.Missing.TheVariants as lacking
-use Rattle.mst_verify.proofs.Things.{true_both}
+use Rattle.mst_island_judges.specs.judged.reasons.sweep.Failures.{failures}
+use Rattle.mst_island_judges.proofs.judged_lemmas.reasons_lemmas.sweep_lemmas.CutApart.{both_true}
+use Rattle.mst_island_judges.specs.judged.reasons.Judged.{IsJudgedSomewhere, asks, has_now, looks_back, name_of}
+use Rattle.mst_island_judges.specs.judged.reasons.Missing.{has_failure, have_failures, lacks_bridge, lacks_failure, lacks_failure_of, lacks_lan, lacks_port, lacks_tree, missing}
+use Rattle.mst_island_judges.specs.judged.reasons.declared.missing.Missing.TheVariants as lacking
+use Rattle.mst_island_judges.proofs.judged_lemmas.reasons_lemmas.Things.{true_both}
 
 -- nothing is missing: so neither a LAN is, nor a failure
 pub whole : (net : Net) (promise : Promise) → missing net promise ≡ None → (lacks_lan net promise ≡ false) × (lacks_failure net promise ≡ false)

@@ -1,39 +1,10 @@
-pub use Rattle.mst_summary.proofs as summary_lemmas
-pub mod Things
-pub mod OfVids
-pub mod StayTogether
-pub mod Keys
-pub mod RootsThere
+pub use Rattle.mst_tree_judges.proofs as tree_judges_lemmas
+pub use Rattle.mst_island_judges.proofs.judged_lemmas.reasons_lemmas.summary_lemmas as summary_lemmas
 pub mod BrokenLists
 pub mod BrokenParts
 pub mod BrokenTrees
 pub mod ReasonsTogether
-pub mod BrokenRoots
 pub mod Limits
-pub mod OverNamed
-pub mod NamedIn
-pub mod HomeParts
-pub mod HomesMade
-pub mod StillReached
-pub mod StillMade
-pub mod BesideParts
-pub mod VidParts
-pub mod ClassesOfBoth
-pub mod ClassParts
-pub mod VidReasons
-pub mod EitherOn
-pub mod VidGroups
-pub mod RegionParts
-pub mod ChildrenTold
-pub mod ChildAdded
-pub mod RootsTold
-pub mod RolesNamed
-pub mod LackedSeen
-pub mod RegionOf
-pub mod RootsSeen
-pub mod LimitRows
-pub mod FlatMore
-pub mod VidFlags
 pub mod Failed
 pub mod OneReasons
 pub mod SomeChildren

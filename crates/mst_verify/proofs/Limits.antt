@@ -10,14 +10,14 @@ use Rattle.mst_lag.specs.View.{LogicalPort, view_ports}
 use Rattle.mst_net.specs.tables.Tables.{Net, BridgeRow}
 use Rattle.mst_vector.specs.declared.cist.CistVector.{CistVector}
 use Rattle.mst_vector.specs.declared.msti.MstiVector.{MstiVector}
-use Rattle.mst_sweep.specs.vlan.trees.Outcome.{Outcome}
-use Rattle.mst_sweep.proofs.vlan_lemmas.trees_lemmas.Lists.{all_contained}
-use Rattle.mst_note_text.specs.AreDepths.{TreeDepths}
-use Rattle.mst_note_text.specs.NotesText.{hops_note, age_note, external_note, internal_note, greatest_cost, hops_notes, age_notes, cist_notes, msti_notes, bridge_notes, tree_notes, trees_notes, restricted_note, restricted_notes, AreNoteRows}
-use Rattle.mst_verify.specs.Holds.{is_restricted, limit_notes, NoLimitBinds}
-use Rattle.mst_verify.specs.Reasons.{limit_reason, AreFitsReasons}
-use Rattle.mst_verify.specs.declared.reason.Reason.{Reason}
-use Rattle.mst_verify.proofs.Things.{no_any, not_any, kept_none, none_kept}
+use Rattle.mst_island_judges.specs.judged.reasons.sweep.vlan.trees.Outcome.{Outcome}
+use Rattle.mst_island_judges.proofs.judged_lemmas.reasons_lemmas.sweep_lemmas.vlan_lemmas.trees_lemmas.Lists.{all_contained}
+use Rattle.mst_island_judges.specs.judged.reasons.note_text.AreDepths.{TreeDepths}
+use Rattle.mst_island_judges.specs.judged.reasons.note_text.NotesText.{hops_note, age_note, external_note, internal_note, greatest_cost, hops_notes, age_notes, cist_notes, msti_notes, bridge_notes, tree_notes, trees_notes, restricted_note, restricted_notes, AreNoteRows}
+use Rattle.mst_island_judges.specs.judged.reasons.Holds.{is_restricted, limit_notes, NoLimitBinds}
+use Rattle.mst_island_judges.specs.judged.reasons.Reasons.{limit_reason, AreFitsReasons}
+use Rattle.mst_island_judges.specs.judged.reasons.declared.reason.Reason.{Reason}
+use Rattle.mst_island_judges.proofs.judged_lemmas.reasons_lemmas.Things.{no_any, not_any, kept_none, none_kept}
 
 -- a note of a restricted role has no reason, and any other has one
 record Whole (row : Row) : Type 0 where

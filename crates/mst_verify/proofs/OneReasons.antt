@@ -13,23 +13,23 @@ use Rattle.mst_net.specs.tables.Tables.{Net, IsNetwork}
 use Rattle.mst_config.specs.Regions.{same_region}
 use Rattle.mst_graph.specs.Lists.{has_any}
 use Rattle.mst_nested.specs.Trees.{IsSettled}
-use Rattle.mst_sweep.specs.vlan.trees.Outcome.{Outcome, trees_of}
-use Rattle.mst_sweep.specs.vlan.Reach.{bridges_on}
-use Rattle.mst_note_text.specs.Children.{HasSteps}
-use Rattle.mst_note_text.specs.Depths.{ParentIn}
-use Rattle.mst_note_text.specs.NotesText.{AreNoteRows}
-use Rattle.mst_verify.specs.Named.{Gone, Prior, is_named, named}
-use Rattle.mst_verify.specs.Holds.{AreTogether, IsReached}
-use Rattle.mst_verify.specs.Reasons.{limit_reason, root_reasons, AreRootReasons, has_two, AreRegionReasons, Parts, reach_reason, AreReachReasons, is_in, either_on, has_both, AreBoth, apart_reason, AreApartReasons, AreThose, leaf_reason, AreLeafReasons, AreDepthReasons, AreFitsReasons, AreReasons}
-use Rattle.mst_verify.specs.Roots.{IsNextRoot}
-use Rattle.mst_verify.specs.declared.reason.Reason.{Reason}
-use Rattle.mst_verify.specs.declared.reason.Reason.TheVariants as why
-use Rattle.mst_verify.proofs.BrokenRoots.{one_next}
-use Rattle.mst_verify.proofs.OfVids.{one_of_vids}
+use Rattle.mst_island_judges.specs.judged.reasons.sweep.vlan.trees.Outcome.{Outcome, trees_of}
+use Rattle.mst_island_judges.specs.judged.reasons.sweep.vlan.Reach.{bridges_on}
+use Rattle.mst_island_judges.specs.judged.reasons.note_text.Children.{HasSteps}
+use Rattle.mst_island_judges.specs.judged.reasons.note_text.Depths.{ParentIn}
+use Rattle.mst_island_judges.specs.judged.reasons.note_text.NotesText.{AreNoteRows}
+use Rattle.mst_island_judges.specs.judged.reasons.Named.{Gone, Prior, is_named, named}
+use Rattle.mst_island_judges.specs.judged.reasons.Holds.{AreTogether, IsReached}
+use Rattle.mst_island_judges.specs.judged.reasons.Reasons.{limit_reason, root_reasons, AreRootReasons, has_two, AreRegionReasons, Parts, reach_reason, AreReachReasons, is_in, either_on, has_both, AreBoth, apart_reason, AreApartReasons, AreThose, leaf_reason, AreLeafReasons, AreDepthReasons, AreFitsReasons, AreReasons}
+use Rattle.mst_island_judges.specs.judged.reasons.Roots.{IsNextRoot}
+use Rattle.mst_island_judges.specs.judged.reasons.declared.reason.Reason.{Reason}
+use Rattle.mst_island_judges.specs.judged.reasons.declared.reason.Reason.TheVariants as why
+use Rattle.mst_tree_judges.proofs.BrokenRoots.{one_next}
+use Rattle.mst_island_judges.proofs.judged_lemmas.OfVids.{one_of_vids}
 use Rattle.mst_verify.proofs.ReasonsTogether.{OneIslands, one_together}
-use Rattle.mst_verify.proofs.Keys.{keys_once, names_once, on_once}
-use Rattle.mst_verify.proofs.RootsThere.{roots_there}
-use Rattle.mst_verify.proofs.Things.{any_there, each_same, once_filtered}
+use Rattle.mst_tree_judges.proofs.Keys.{keys_once, names_once, on_once}
+use Rattle.mst_tree_judges.proofs.RootsThere.{roots_there}
+use Rattle.mst_island_judges.proofs.judged_lemmas.reasons_lemmas.Things.{any_there, each_same, once_filtered}
 
 -- ---- those things for which something holds
 those_same : {A : Type 0} (P : A → Type 0) (things those others : List A) → StandOnce things → AreThose P things those → AreThose P things others → those ≡ others

@@ -10,18 +10,18 @@ use Rattle.mst_lag.specs.Aggregation.{same_name}
 use Rattle.mst_lag.specs.View.{IsUnrestricted}
 use Rattle.mst_graph.specs.Walks.{Node, Walk, bridge_at}
 use Rattle.mst_policy.specs.declared.item.NameItem.{NameItem}
-use Rattle.mst_sweep.specs.vlan.trees.Outcome.{Outcome, IsOutcome}
-use Rattle.mst_sweep.specs.vlan.Active.{active_ports, port_ends, IsEnabled}
-use Rattle.mst_sweep.specs.Failures.{edit_of, failures}
-use Rattle.mst_sweep.specs.declared.failure.Failure.{Failure}
-use Rattle.mst_sweep.specs.declared.failure.Failure.TheVariants.{Lan, Bridge}
-use Rattle.mst_sweep.proofs.CutApart.{joined_linked, linked_joined}
-use Rattle.mst_verify.specs.Holds.{AllReach, IsReached}
-use Rattle.mst_verify.specs.Judged.{asks, asks_now, gone_of, IsKept}
+use Rattle.mst_island_judges.specs.judged.reasons.sweep.vlan.trees.Outcome.{Outcome, IsOutcome}
+use Rattle.mst_island_judges.specs.judged.reasons.sweep.vlan.Active.{active_ports, port_ends, IsEnabled}
+use Rattle.mst_island_judges.specs.judged.reasons.sweep.Failures.{edit_of, failures}
+use Rattle.mst_island_judges.specs.judged.reasons.sweep.declared.failure.Failure.{Failure}
+use Rattle.mst_island_judges.specs.judged.reasons.sweep.declared.failure.Failure.TheVariants.{Lan, Bridge}
+use Rattle.mst_island_judges.proofs.judged_lemmas.reasons_lemmas.sweep_lemmas.CutApart.{joined_linked, linked_joined}
+use Rattle.mst_island_judges.specs.judged.reasons.Holds.{AllReach, IsReached}
+use Rattle.mst_island_judges.specs.judged.reasons.Judged.{asks, asks_now, gone_of, IsKept}
 use Rattle.mst_verify.specs.Linked.{AllPass, AllAreLinked, AreLinkedOn, StayLinked, always_reach}
-use Rattle.mst_verify.specs.Named.{Prior, named, vids_in}
+use Rattle.mst_island_judges.specs.judged.reasons.Named.{Prior, named, vids_in}
 use Rattle.mst_verify.proofs.Failed.{in_range, stay_members, stays_free}
-use Rattle.mst_verify.proofs.Things.{any_there}
+use Rattle.mst_island_judges.proofs.judged_lemmas.reasons_lemmas.Things.{any_there}
 
 -- what enabled ports link, active ports do, in any network where no role is restricted
 abbrev ActiveLink : Type 0

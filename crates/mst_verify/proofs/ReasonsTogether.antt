@@ -7,18 +7,18 @@ use Rattle.mst_lag.specs.Trees.{is_among}
 use Rattle.mst_policy.specs.declared.item.NameItem.{NameItem}
 use Rattle.mst_graph.specs.Lists.{has_any}
 use Rattle.mst_net.specs.tables.Tables.{Net}
-use Rattle.mst_sweep.specs.vlan.trees.Outcome.{Outcome}
-use Rattle.mst_sweep.specs.vlan.Reach.{AreIslandsOf}
-use Rattle.mst_sweep.specs.Parts.{all_parts, staying, ArePartsOf}
-use Rattle.mst_verify.specs.Holds.{StayTogether}
-use Rattle.mst_verify.specs.Named.{Gone, Prior, named}
-use Rattle.mst_verify.specs.Reasons.{AreTogetherReasons, Parts, together_reason}
-use Rattle.mst_verify.specs.declared.reason.Reason.{Reason}
-use Rattle.mst_verify.specs.declared.reason.Reason.TheVariants as why
+use Rattle.mst_island_judges.specs.judged.reasons.sweep.vlan.trees.Outcome.{Outcome}
+use Rattle.mst_island_judges.specs.judged.reasons.sweep.vlan.Reach.{AreIslandsOf}
+use Rattle.mst_island_judges.specs.judged.reasons.sweep.Parts.{all_parts, staying, ArePartsOf}
+use Rattle.mst_island_judges.specs.judged.reasons.Holds.{StayTogether}
+use Rattle.mst_island_judges.specs.judged.reasons.Named.{Gone, Prior, named}
+use Rattle.mst_island_judges.specs.judged.reasons.Reasons.{AreTogetherReasons, Parts, together_reason}
+use Rattle.mst_island_judges.specs.judged.reasons.declared.reason.Reason.{Reason}
+use Rattle.mst_island_judges.specs.judged.reasons.declared.reason.Reason.TheVariants as why
 use Rattle.mst_verify.proofs.BrokenParts.{vids_broken}
-use Rattle.mst_verify.proofs.OfVids.{one_of_vids, some_of_vids}
-use Rattle.mst_verify.proofs.StayTogether.{stay_whole, whole_stay}
-use Rattle.mst_verify.proofs.Things.{told_if}
+use Rattle.mst_island_judges.proofs.judged_lemmas.OfVids.{one_of_vids, some_of_vids}
+use Rattle.mst_island_judges.proofs.StayTogether.{stay_whole, whole_stay}
+use Rattle.mst_island_judges.proofs.judged_lemmas.reasons_lemmas.Things.{told_if}
 
 abbrev pub IslandsOf : Net → Outcome → Type 0
 IslandsOf net o = (vid : ℕ) → (islands : List (Island (List ℕ) (List ℕ))) × AreIslandsOf net o vid islands

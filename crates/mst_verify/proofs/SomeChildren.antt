@@ -5,20 +5,20 @@ use Rattle.std.specs.List.{AllByRecursion, Contains}
 use Rattle.mst_ids.specs.declared.name.PortName.{PortName}
 use Rattle.mst_graph.specs.Groups.{IsThinned, nothing, kept, left_out}
 use Rattle.mst_graph.proofs.Members.{here, there, cases, in_none}
-use Rattle.mst_note_text.specs.Chains.{InternalChain, top, up, ExternalChain, last, within, across}
-use Rattle.mst_note_text.specs.Children.{AreChildren, HasSteps, IsChild}
-use Rattle.mst_note_text.specs.Depths.{ParentIn, ParentBetween, ParentWithin}
-use Rattle.mst_note_text.specs.declared.children.Child.{Child}
-use Rattle.mst_note_text.proofs.Regions.{msti_region, parent_sides}
-use Rattle.mst_note_text.proofs.Tops.{external_depth, internal_depth}
+use Rattle.mst_island_judges.specs.judged.reasons.note_text.Chains.{InternalChain, top, up, ExternalChain, last, within, across}
+use Rattle.mst_island_judges.specs.judged.reasons.note_text.Children.{AreChildren, HasSteps, IsChild}
+use Rattle.mst_island_judges.specs.judged.reasons.note_text.Depths.{ParentIn, ParentBetween, ParentWithin}
+use Rattle.mst_island_judges.specs.judged.reasons.note_text.declared.children.Child.{Child}
+use Rattle.mst_island_judges.proofs.judged_lemmas.reasons_lemmas.note_text_lemmas.Regions.{msti_region, parent_sides}
+use Rattle.mst_island_judges.proofs.judged_lemmas.reasons_lemmas.note_text_lemmas.Tops.{external_depth, internal_depth}
 use Rattle.mst_net.specs.tables.Tables.{Net, IsNetwork}
 use Rattle.mst_nested.specs.Trees.{HasTree, IsSettled, Trees}
-use Rattle.mst_sweep.specs.vlan.trees.Outcome.{Outcome, trees_of}
+use Rattle.mst_island_judges.specs.judged.reasons.sweep.vlan.trees.Outcome.{Outcome, trees_of}
 use Rattle.mst_vector.specs.declared.cist.CistVector.{CistVector}
 use Rattle.mst_vector.specs.declared.msti.MstiVector.{MstiVector}
-use Rattle.mst_sweep.proofs.vlan_lemmas.trees_lemmas.Lists.{no_some}
-use Rattle.mst_sweep.proofs.vlan_lemmas.Names.{tests}
-use Rattle.mst_verify.proofs.Keys.{tree_there}
+use Rattle.mst_island_judges.proofs.judged_lemmas.reasons_lemmas.sweep_lemmas.vlan_lemmas.trees_lemmas.Lists.{no_some}
+use Rattle.mst_island_judges.proofs.judged_lemmas.reasons_lemmas.sweep_lemmas.vlan_lemmas.Names.{tests}
+use Rattle.mst_tree_judges.proofs.Keys.{tree_there}
 
 module _ (net : Net) (ok : IsNetwork net) (o : Outcome) (settled : IsSettled (trees_of net o)) where
   abbrev f : Trees (List ℕ) (List ℕ) PortName

@@ -13,29 +13,29 @@ use Rattle.mst_graph.proofs.Alike.{alike_groups}
 use Rattle.mst_graph.proofs.Members.{here, there, cases, from_filter, in_filter, in_none}
 use Rattle.mst_graph.proofs.Walks.{back, joined_to}
 use Rattle.mst_lag.specs.Aggregation.{same_name}
-use Rattle.mst_note_text.specs.declared.children.Child.{Child}
-use Rattle.mst_note_text.specs.NotesText.{AreNoteRows}
+use Rattle.mst_island_judges.specs.judged.reasons.note_text.declared.children.Child.{Child}
+use Rattle.mst_island_judges.specs.judged.reasons.note_text.NotesText.{AreNoteRows}
 use Rattle.mst_policy.specs.declared.expectation.Expectation.{Expectation}
 use Rattle.mst_policy.specs.declared.expectation.Expectation.TheVariants as expect
 use Rattle.mst_rows.specs.Rows.{Row}
 use Rattle.mst_net.specs.tables.Tables.{Net, IsNetwork}
 use Rattle.mst_config.specs.Regions.{same_region}
 use Rattle.mst_nested.specs.Trees.{IsSettled}
-use Rattle.mst_sweep.specs.vlan.trees.Outcome.{Outcome, trees_of}
-use Rattle.mst_sweep.specs.vlan.Reach.{AreIslandsOf, bridges_on, vid_links}
-use Rattle.mst_sweep.specs.Parts.{home}
-use Rattle.mst_sweep.proofs.Joined.{has_home, home_joined, home_on, joined_home}
-use Rattle.mst_verify.specs.Named.{Gone, Prior, named, ports_named}
-use Rattle.mst_verify.specs.Holds.{AreTogether, IsReached}
-use Rattle.mst_verify.specs.Over.{not_as_wanted}
-use Rattle.mst_verify.specs.Reasons.{root_reasons, AreRootReasons, has_two, AreRegionReasons, role_reasons, Parts, reach_reason, AreReachReasons, either_on, has_both, is_in, AreBoth, apart_reason, AreApartReasons, leaf_reason, AreLeafReasons, AreDepthReasons, carries_reason, avoids_reason, limit_reason, AreReasons}
-use Rattle.mst_verify.specs.Roots.{concerned, identifier, IsNextRoot}
-use Rattle.mst_verify.specs.Seen.{is_child_of}
-use Rattle.mst_verify.specs.declared.reason.Reason.{Reason}
-use Rattle.mst_verify.specs.declared.reason.Reason.TheVariants as why
-use Rattle.mst_verify.proofs.OfVids.{groups_of, some_of_vids}
+use Rattle.mst_island_judges.specs.judged.reasons.sweep.vlan.trees.Outcome.{Outcome, trees_of}
+use Rattle.mst_island_judges.specs.judged.reasons.sweep.vlan.Reach.{AreIslandsOf, bridges_on, vid_links}
+use Rattle.mst_island_judges.specs.judged.reasons.sweep.Parts.{home}
+use Rattle.mst_island_judges.proofs.judged_lemmas.reasons_lemmas.sweep_lemmas.Joined.{has_home, home_joined, home_on, joined_home}
+use Rattle.mst_island_judges.specs.judged.reasons.Named.{Gone, Prior, named, ports_named}
+use Rattle.mst_island_judges.specs.judged.reasons.Holds.{AreTogether, IsReached}
+use Rattle.mst_island_judges.specs.judged.reasons.Over.{not_as_wanted}
+use Rattle.mst_island_judges.specs.judged.reasons.Reasons.{root_reasons, AreRootReasons, has_two, AreRegionReasons, role_reasons, Parts, reach_reason, AreReachReasons, either_on, has_both, is_in, AreBoth, apart_reason, AreApartReasons, leaf_reason, AreLeafReasons, AreDepthReasons, carries_reason, avoids_reason, limit_reason, AreReasons}
+use Rattle.mst_island_judges.specs.judged.reasons.Roots.{concerned, identifier, IsNextRoot}
+use Rattle.mst_tree_judges.specs.Seen.{is_child_of}
+use Rattle.mst_island_judges.specs.judged.reasons.declared.reason.Reason.{Reason}
+use Rattle.mst_island_judges.specs.judged.reasons.declared.reason.Reason.TheVariants as why
+use Rattle.mst_island_judges.proofs.judged_lemmas.OfVids.{groups_of, some_of_vids}
 use Rattle.mst_verify.proofs.ReasonsTogether.{IslandsOf, some_together}
-use Rattle.mst_verify.proofs.ChildrenTold.{are_deepest, deepest, greatest, none_deeper, of_bridge, some_deepest}
+use Rattle.mst_tree_judges.proofs.ChildrenTold.{are_deepest, deepest, greatest, none_deeper, of_bridge, some_deepest}
 use Rattle.mst_verify.proofs.SomeChildren.{has_children}
 
 -- ---- bridges in the islands of a VID

@@ -14,33 +14,33 @@ use Rattle.mst_net.specs.tables.After.{after}
 use Rattle.mst_net.specs.tables.Tables.{IsNetwork, Net}
 use Rattle.mst_policy.specs.declared.item.NameItem.TheVariants.{Any}
 use Rattle.mst_rows.specs.Rows.{Row}
-use Rattle.mst_sweep.proofs.vlan_lemmas.trees_lemmas.Pieces.{flat_map-flat_map}
+use Rattle.mst_island_judges.proofs.judged_lemmas.reasons_lemmas.sweep_lemmas.vlan_lemmas.trees_lemmas.Pieces.{flat_map-flat_map}
 use Rattle.mst_lag.specs.View.{bridge_names}
 use Rattle.mst_graph.specs.Lists.{has_any}
-use Rattle.mst_sweep.specs.vlan.classes.AllVids.{all_vids}
-use Rattle.mst_sweep.specs.vlan.trees.Outcome.{IsOutcome, Outcome}
-use Rattle.mst_sweep.proofs.vlan_lemmas.classes_lemmas.VidPlaces.{is_vid_there}
-use Rattle.mst_sweep.specs.vlan.Reach.{AreIslandsOf}
-use Rattle.mst_sweep.specs.Cuts.{AreCuts, cut_row, group_rows, runs_of}
-use Rattle.mst_sweep.specs.Failures.{edit_of, failures}
-use Rattle.mst_sweep.specs.Parts.{all_parts, AreParts, ArePartsOf, home, staying, stays_at}
-use Rattle.mst_sweep.specs.SweepText.{IsTold, Told}
-use Rattle.mst_sweep.specs.declared.cuts.CutBy.TheVariants.{One}
-use Rattle.mst_sweep.specs.declared.failure.Failure.{Failure}
-use Rattle.mst_sweep.specs.declared.parts.Stays.{Stays}
-use Rattle.mst_sweep.proofs.Joined.{home_on}
-use Rattle.mst_verify.specs.Holds.{AllStayTogether}
-use Rattle.mst_verify.specs.Judged.{gone_of, HoldsAfter}
-use Rattle.mst_verify.specs.Named.{is_named, named, vids_in}
-use Rattle.mst_verify.specs.Reasons.{AreTogetherReasons, AreVidReasons, Parts, group_reasons, together_reason}
+use Rattle.mst_island_judges.specs.judged.reasons.sweep.vlan.classes.AllVids.{all_vids}
+use Rattle.mst_island_judges.specs.judged.reasons.sweep.vlan.trees.Outcome.{IsOutcome, Outcome}
+use Rattle.mst_island_judges.proofs.judged_lemmas.reasons_lemmas.sweep_lemmas.vlan_lemmas.classes_lemmas.VidPlaces.{is_vid_there}
+use Rattle.mst_island_judges.specs.judged.reasons.sweep.vlan.Reach.{AreIslandsOf}
+use Rattle.mst_island_judges.specs.judged.reasons.sweep.Cuts.{AreCuts, cut_row, group_rows, runs_of}
+use Rattle.mst_island_judges.specs.judged.reasons.sweep.Failures.{edit_of, failures}
+use Rattle.mst_island_judges.specs.judged.reasons.sweep.Parts.{all_parts, AreParts, ArePartsOf, home, staying, stays_at}
+use Rattle.mst_island_judges.specs.judged.reasons.sweep.SweepText.{IsTold, Told}
+use Rattle.mst_island_judges.specs.judged.reasons.sweep.declared.cuts.CutBy.TheVariants.{One}
+use Rattle.mst_island_judges.specs.judged.reasons.sweep.declared.failure.Failure.{Failure}
+use Rattle.mst_island_judges.specs.judged.reasons.sweep.declared.parts.Stays.{Stays}
+use Rattle.mst_island_judges.proofs.judged_lemmas.reasons_lemmas.sweep_lemmas.Joined.{home_on}
+use Rattle.mst_island_judges.specs.judged.reasons.Holds.{AllStayTogether}
+use Rattle.mst_island_judges.specs.judged.reasons.Judged.{gone_of, HoldsAfter}
+use Rattle.mst_island_judges.specs.judged.reasons.Named.{is_named, named, vids_in}
+use Rattle.mst_island_judges.specs.judged.reasons.Reasons.{AreTogetherReasons, AreVidReasons, Parts, group_reasons, together_reason}
 use Rattle.mst_verify.specs.Whole.{AreAllVids, all_together, as_cut}
-use Rattle.mst_verify.specs.declared.reason.Reason.{Reason}
-use Rattle.mst_verify.specs.declared.reason.Reason.TheVariants as why
+use Rattle.mst_island_judges.specs.judged.reasons.declared.reason.Reason.{Reason}
+use Rattle.mst_island_judges.specs.judged.reasons.declared.reason.Reason.TheVariants as why
 use Rattle.mst_verify.proofs.Failed.{in_range, not_gone}
-use Rattle.mst_verify.proofs.OfVids.{one_of_vids}
+use Rattle.mst_island_judges.proofs.judged_lemmas.OfVids.{one_of_vids}
 use Rattle.mst_verify.proofs.ReasonsTogether.{OneIslands, one_parts}
-use Rattle.mst_verify.proofs.StayTogether.{stay_whole, whole_stay}
-use Rattle.mst_verify.proofs.Things.{any_there, each_same, no_true, there_any}
+use Rattle.mst_island_judges.proofs.StayTogether.{stay_whole, whole_stay}
+use Rattle.mst_island_judges.proofs.judged_lemmas.reasons_lemmas.Things.{any_there, each_same, no_true, there_any}
 
 -- ---- lists
 -- what is left out by a test makes nothing

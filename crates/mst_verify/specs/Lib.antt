@@ -1,15 +1,4 @@
-pub use Rattle.mst_summary.specs as summary
-pub mod Named
-pub mod Roots
-pub mod Over
-pub mod Holds
-pub mod Judged
-pub mod Reasons
-pub mod Missing
-pub mod Placed
-pub mod Seen
-pub mod Islands
-pub mod Grouping
-pub mod Compared
+pub use Rattle.mst_tree_judges.specs as tree_judges
+pub use Rattle.mst_island_judges.specs.judged.reasons.summary as summary
 pub mod Linked
 pub mod Whole

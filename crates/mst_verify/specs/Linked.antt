@@ -9,12 +9,12 @@ use Rattle.mst_policy.specs.declared.item.NameItem.{NameItem}
 use Rattle.mst_graph.specs.Lists.{has_any}
 use Rattle.mst_net.specs.tables.After.{after}
 use Rattle.mst_net.specs.tables.Tables.{Net}
-use Rattle.mst_sweep.specs.vlan.Reach.{bridges_on}
-use Rattle.mst_sweep.specs.Apart.{AllAreMembers, AreLinked}
-use Rattle.mst_sweep.specs.Failures.{edit_of, failures}
-use Rattle.mst_sweep.specs.declared.failure.Failure.{Failure}
-use Rattle.mst_verify.specs.Judged.{gone_of}
-use Rattle.mst_verify.specs.Named.{named, vids_in}
+use Rattle.mst_island_judges.specs.judged.reasons.sweep.vlan.Reach.{bridges_on}
+use Rattle.mst_island_judges.specs.judged.reasons.sweep.Apart.{AllAreMembers, AreLinked}
+use Rattle.mst_island_judges.specs.judged.reasons.sweep.Failures.{edit_of, failures}
+use Rattle.mst_island_judges.specs.judged.reasons.sweep.declared.failure.Failure.{Failure}
+use Rattle.mst_island_judges.specs.judged.reasons.Judged.{gone_of}
+use Rattle.mst_island_judges.specs.judged.reasons.Named.{named, vids_in}
 
 -- there are such VIDs, every logical port is a member of each of their VLANs, and no port's role is restricted
 pub record AllPass (net : Net) (vids : List Bool) : Type 0 where

@@ -9,16 +9,16 @@ use Rattle.mst_policy.specs.declared.expectation.Expectation.TheVariants as expe
 use Rattle.mst_policy.specs.declared.item.NameItem.TheVariants.{Any}
 use Rattle.mst_net.specs.tables.After.{after}
 use Rattle.mst_net.specs.tables.Tables.{Net, IsNetwork}
-use Rattle.mst_sweep.specs.vlan.classes.AllVids.{all_vids}
-use Rattle.mst_sweep.specs.vlan.trees.Outcome.{Outcome, IsOutcome}
-use Rattle.mst_sweep.specs.Cuts.{cut_row}
-use Rattle.mst_sweep.specs.declared.cuts.CutBy.TheVariants.{One}
-use Rattle.mst_sweep.specs.Failures.{edit_of, failures}
-use Rattle.mst_sweep.specs.declared.failure.Failure.{Failure}
-use Rattle.mst_verify.specs.Holds.{AllReach}
-use Rattle.mst_verify.specs.Named.{vids_in}
-use Rattle.mst_verify.specs.declared.reason.Reason.{Reason}
-use Rattle.mst_verify.specs.declared.reason.Reason.TheVariants as why
+use Rattle.mst_island_judges.specs.judged.reasons.sweep.vlan.classes.AllVids.{all_vids}
+use Rattle.mst_island_judges.specs.judged.reasons.sweep.vlan.trees.Outcome.{Outcome, IsOutcome}
+use Rattle.mst_island_judges.specs.judged.reasons.sweep.Cuts.{cut_row}
+use Rattle.mst_island_judges.specs.judged.reasons.sweep.declared.cuts.CutBy.TheVariants.{One}
+use Rattle.mst_island_judges.specs.judged.reasons.sweep.Failures.{edit_of, failures}
+use Rattle.mst_island_judges.specs.judged.reasons.sweep.declared.failure.Failure.{Failure}
+use Rattle.mst_island_judges.specs.judged.reasons.Holds.{AllReach}
+use Rattle.mst_island_judges.specs.judged.reasons.Named.{vids_in}
+use Rattle.mst_island_judges.specs.judged.reasons.declared.reason.Reason.{Reason}
+use Rattle.mst_island_judges.specs.judged.reasons.declared.reason.Reason.TheVariants as why
 
 -- in each of the VIDs all bridges reach each other
 abbrev pub IsWhole : Net → Outcome → List Bool → Type 0

@@ -6,24 +6,24 @@ ghost use Rattle.mst_policy.specs.declared.expectation.Promise.{Promise as Promi
 ghost use Rattle.mst_policy.specs.declared.item.NameItem.{NameItem as ItemOf};
 ghost use Rattle.mst_rows.specs.Rows.{Row};
 ghost use Rattle.mst_net.specs.tables.Tables.{Net, IsNetwork};
-ghost use Rattle.mst_sweep.specs.vlan.trees.Outcome.{Outcome, IsOutcome};
-ghost use Rattle.mst_sweep.specs.Cuts.{AreCuts};
-ghost use Rattle.mst_sweep.specs.Failures.{failures};
-ghost use Rattle.mst_sweep.specs.SweepText.{Told, IsTold};
-ghost use Rattle.mst_sweep.specs.declared.failure.Failure.{Failure as FailureOf};
-ghost use Rattle.mst_verify.specs.Named.{Gone, OfNetwork, Prior};
-ghost use Rattle.mst_verify.specs.Holds.{AllReach, Holds};
-ghost use Rattle.mst_verify.specs.Judged.{HoldsAfter, IsJudgedSomewhere, IsKept, gone_of, looks_back};
+ghost use Rattle.mst_island_judges.specs.judged.reasons.sweep.vlan.trees.Outcome.{Outcome, IsOutcome};
+ghost use Rattle.mst_island_judges.specs.judged.reasons.sweep.Cuts.{AreCuts};
+ghost use Rattle.mst_island_judges.specs.judged.reasons.sweep.Failures.{failures};
+ghost use Rattle.mst_island_judges.specs.judged.reasons.sweep.SweepText.{Told, IsTold};
+ghost use Rattle.mst_island_judges.specs.judged.reasons.sweep.declared.failure.Failure.{Failure as FailureOf};
+ghost use Rattle.mst_island_judges.specs.judged.reasons.Named.{Gone, OfNetwork, Prior};
+ghost use Rattle.mst_island_judges.specs.judged.reasons.Holds.{AllReach, Holds};
+ghost use Rattle.mst_island_judges.specs.judged.reasons.Judged.{HoldsAfter, IsJudgedSomewhere, IsKept, gone_of, looks_back};
 ghost use Rattle.mst_verify.specs.Linked.{AllPass, AllAreLinked, StayLinked, always_reach};
-ghost use Rattle.mst_verify.specs.Missing.{missing};
-ghost use Rattle.mst_verify.specs.Reasons.{AreReasons, HasOneList};
+ghost use Rattle.mst_island_judges.specs.judged.reasons.Missing.{missing};
+ghost use Rattle.mst_island_judges.specs.judged.reasons.Reasons.{AreReasons, HasOneList};
 ghost use Rattle.mst_verify.specs.Whole.{AreAllVids, Fails, IsWhole, NoneIsCut, all_together, as_cut, reach_all};
-ghost use Rattle.mst_verify.specs.declared.reason.Reason.{Reason as ReasonOf};
+ghost use Rattle.mst_island_judges.specs.judged.reasons.declared.reason.Reason.{Reason as ReasonOf};
 
+use mst_island_judges::note_text_laws::notes;
+use mst_island_judges::trees_laws::{has_outcome, nested, one_outcome};
+use mst_island_judges::vlan_laws::{islands_of_vid, joined_without_loop};
 use mst_net::laws::networks;
-use mst_note_text::laws::notes;
-use mst_sweep::trees_laws::{has_outcome, nested, one_outcome};
-use mst_sweep::vlan_laws::{islands_of_vid, joined_without_loop};
 
 /// A reason is told exactly where an expectation doesn't hold.
 pub fn told_where_broken()

@@ -1,25 +1,18 @@
 ghost use Rattle.std.specs.Prelude.{IfOk, MatchOption, ⊤};
 ghost use Rattle.mst_net.specs.tables.Tables.{Net};
-ghost use Rattle.mst_sweep.specs.vlan.trees.Settled.{outcome_of};
-ghost use Rattle.mst_verify.specs.Islands.{AreKept, IsBeside, IsKeptOf};
-ghost use Rattle.mst_verify.specs.Named.{Prior};
-ghost use Rattle.mst_verify.specs.Over.{HasItsLan};
-ghost use Rattle.mst_verify.specs.Reasons.{AreReasons};
-ghost use Rattle.mst_verify.specs.Seen.{IsBefore};
+ghost use Rattle.mst_island_judges.specs.judged.reasons.sweep.vlan.trees.Settled.{outcome_of};
+ghost use Rattle.mst_island_judges.specs.judged.Islands.{AreKept, IsBeside, IsKeptOf};
+ghost use Rattle.mst_island_judges.specs.judged.reasons.Named.{Prior};
+ghost use Rattle.mst_island_judges.specs.judged.reasons.Over.{HasItsLan};
+ghost use Rattle.mst_island_judges.specs.judged.reasons.Reasons.{AreReasons};
+ghost use Rattle.mst_island_judges.specs.judged.Seen.{IsBefore};
 
-use crate::apart::apart_reasons;
-use crate::depth::depth_reasons;
-use crate::fits::fits_reasons;
-use crate::judged::Judged;
-use crate::leaves::leaf_reasons;
-use crate::over::{avoids_reasons, carries_reasons};
-use crate::reaching::reach_reasons;
-use crate::reason::Reason;
-use crate::regions::region_reasons;
-use crate::roles::role_reasons;
-use crate::roots::root_reasons;
-use crate::together::together_reasons;
+use mst_island_judges::{Judged, Reason, apart_reasons, reach_reasons, together_reasons};
 use mst_policy::Expectation;
+use mst_tree_judges::{
+    avoids_reasons, carries_reasons, depth_reasons, fits_reasons, leaf_reasons, region_reasons,
+    role_reasons, root_reasons,
+};
 use std::alloc::{AllocError, Global};
 
 /// Why an expectation doesn't hold in a network: no reason where it does. `AllocError`: memory was wanted and refused.

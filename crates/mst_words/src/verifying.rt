@@ -1,6 +1,6 @@
 ghost use Rattle.std.specs.Prelude.{◌≡◌, ◌≤◌, ◌+◌, ◌++◌, true, length, List, IfOk};
 ghost use Rattle.mst_verdict.specs.Verifying.{Verifies};
-ghost use Rattle.mst_verdict.specs.Judged.{counts_of};
+ghost use Rattle.mst_verdict.specs.telling.Judged.{counts_of};
 ghost use Rattle.mst_rows.specs.Rows.{Row};
 
 use mst_policy::Policy;

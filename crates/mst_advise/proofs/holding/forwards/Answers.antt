@@ -1,5 +1,5 @@
 use Rattle.std.proofs.Common.{sym, ap, ◌∙◌}
-use Rattle.mst_verify.specs.Holds.{is_wanted}
+use Rattle.mst_verify.specs.tree_judges.judged.reasons.Holds.{is_wanted}
 use Rattle.mst_advise.specs.Goals.{forwarding}
 use Rattle.mst_advise.proofs.ForwardingPort.{wanted_forwards}
 use Rattle.mst_advise.proofs.holding.forwards.Goals as goal

@@ -2,7 +2,7 @@ use Rattle.std.proofs.Common.{◌≡◌, ◌&&◌, ℕ, [], ◌∷◌, true, fal
 use Rattle.std.specs.Option.{option_map_or}
 use Rattle.std.proofs.lemmas.Bool.{le-ltb}
 use Rattle.mst_ids.specs.Identifiers.{bridge_id}
-use Rattle.mst_verify.specs.Roots.{identifier}
+use Rattle.mst_verify.specs.tree_judges.judged.reasons.Roots.{identifier}
 use Rattle.mst_advise.specs.Priorities.{comes_first, greatest_upto}
 use Rattle.mst_advise.proofs.GreatestUpto.{never_greatest}
 use Rattle.mst_advise.proofs.priorities.before_one.Goals as goal

@@ -1,6 +1,6 @@
 use Rattle.std.proofs.Common.{[], None, ap}
 use Rattle.mst_tables.specs.Contents.{Contents}
-use Rattle.mst_words.specs.verdict.Judged.{counts_of}
+use Rattle.mst_words.specs.verdict.telling.Judged.{counts_of}
 use Rattle.mst_tool.proofs.engine_lemmas.print_lemmas.Shown.{grew_none}
 use Rattle.mst_tool.specs.Shown.{verify_row}
 use Rattle.mst_alters.proofs.WholeVerify.{verification_shown}

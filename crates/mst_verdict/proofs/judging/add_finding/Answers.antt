@@ -1,7 +1,7 @@
 use Rattle.std.proofs.Common.{ap, sym, ◌∙◌}
 use Rattle.std.specs.List.{list_any}
 use Rattle.mst_graph.specs.Lists.{has_any}
-use Rattle.mst_verdict.specs.Judged.{line_found, reasons_in}
+use Rattle.mst_telling.specs.Judged.{line_found, reasons_in}
 use Rattle.mst_verdict.proofs.Findings.{line_found_more, none_at, nothing_more}
 use Rattle.mst_verdict.proofs.judging.add_finding.Goals as goal
 

@@ -1,6 +1,6 @@
 use Rattle.std.proofs.Common.{Some}
 use Rattle.std.proofs.lemmas.Result.{on_ok_weaker}
-use Rattle.mst_verdict.specs.Judged.{reasons_in}
+use Rattle.mst_telling.specs.Judged.{reasons_in}
 use Rattle.mst_verdict.specs.Verifying.{sitting_of}
 use Rattle.mst_verdict.proofs.Findings.{finds_by, finds_none}
 use Rattle.mst_verdict.proofs.Judgements.{as_many, none_of}

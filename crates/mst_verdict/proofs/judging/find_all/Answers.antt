@@ -6,7 +6,7 @@ use Rattle.mst_sweeping.specs.sweep.Failures.{edit_of}
 use Rattle.mst_sweeping.specs.sweep.Pairs.{failed}
 use Rattle.mst_sweeping.specs.sweep.declared.failure.Failure.{Failure}
 use Rattle.mst_sweeping.proofs.SweepThere.{can_fail}
-use Rattle.mst_verdict.specs.declared.judgement.Finding.{Finding}
+use Rattle.mst_telling.specs.declared.judgement.Finding.{Finding}
 use Rattle.mst_verdict.specs.Verifying.{FindsAt, FoundIn, sitting_of}
 use Rattle.mst_verdict.proofs.Findings.{all_at, found_more, found_none}
 use Rattle.mst_verdict.proofs.judging.find_all.Goals as goal

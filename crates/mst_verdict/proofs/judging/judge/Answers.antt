@@ -3,8 +3,8 @@ use Rattle.std.proofs.lemmas.Bool.{eqb-true}
 use Rattle.std.proofs.lemmas.List.{nil_from_length}
 use Rattle.std.proofs.lemmas.Result.{IfOk-weaker}
 use Rattle.mst_policy.specs.declared.policy.PolicyLine.{PolicyLine}
-use Rattle.mst_verdict.specs.Judged.{told_in}
-use Rattle.mst_verdict.proofs.Lines.{told_there}
+use Rattle.mst_telling.specs.Judged.{told_in}
+use Rattle.mst_telling.proofs.Lines.{told_there}
 use Rattle.mst_verdict.specs.Verifying.{Judges, plan_outcome}
 use Rattle.mst_verdict.proofs.Judgements.{plan_settled}
 use Rattle.mst_verdict.proofs.OneJudgement.{all_due}

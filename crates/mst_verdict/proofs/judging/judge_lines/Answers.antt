@@ -1,5 +1,5 @@
 use Rattle.std.proofs.Common.{List, Option, subst, sym}
-use Rattle.mst_verify.specs.declared.lacking.Missing.{Missing}
+use Rattle.mst_verify.specs.tree_judges.judged.reasons.declared.missing.Missing.{Missing}
 use Rattle.mst_verdict.specs.Verifying.{AreLacking, Sitting, plan_outcome}
 use Rattle.mst_verdict.proofs.Findings.{lines_judged}
 use Rattle.mst_verdict.proofs.judging.judge_lines.Goals as goal

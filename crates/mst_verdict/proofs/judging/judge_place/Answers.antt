@@ -4,8 +4,8 @@ use Rattle.std.proofs.lemmas.List.{map-append, take_all}
 use Rattle.mst_sweeping.specs.plan.trees.Settled.{outcome_of}
 use Rattle.mst_policy.specs.declared.expectation.Expectation.{Expectation}
 use Rattle.mst_policy.specs.declared.policy.PolicyLine.{PolicyLine}
-use Rattle.mst_verdict.specs.Judged.{reasons_in}
-use Rattle.mst_verify.specs.declared.reason.Reason.{Reason}
+use Rattle.mst_telling.specs.Judged.{reasons_in}
+use Rattle.mst_verify.specs.tree_judges.judged.reasons.declared.reason.Reason.{Reason}
 use Rattle.mst_verdict.specs.Verifying.{AreReasonsIf, expected_in}
 use Rattle.mst_verdict.proofs.Judgements.{expected_so, lacks_at, zip_more}
 use Rattle.mst_verdict.proofs.judging.judge_place.Goals as goal

@@ -2,10 +2,10 @@ use Rattle.std.proofs.Common.{take}
 use Rattle.std.specs.List.{AllZip}
 use Rattle.mst_net.specs.tables.Tables.{Net}
 use Rattle.mst_sweeping.specs.plan.trees.Settled.{outcome_of}
-use Rattle.mst_verdict.specs.Judged.{reasons_in}
-use Rattle.mst_verify.specs.Islands.{IsKeptOf}
-use Rattle.mst_verify.specs.Named.{Prior}
-use Rattle.mst_verify.specs.Seen.{IsBefore}
+use Rattle.mst_telling.specs.Judged.{reasons_in}
+use Rattle.mst_verify.specs.tree_judges.judged.Islands.{IsKeptOf}
+use Rattle.mst_verify.specs.tree_judges.judged.reasons.Named.{Prior}
+use Rattle.mst_verify.specs.tree_judges.judged.Seen.{IsBefore}
 use Rattle.mst_verdict.specs.Verifying.{AreLacking, AreReasonsIf, expected_in}
 use Rattle.mst_verdict.proofs.judging.judge_place.Given as goal
 

@@ -3,9 +3,9 @@ use Rattle.mst_net.specs.tables.Tables.{Net}
 use Rattle.mst_sweeping.specs.plan.trees.Settled.{outcome_of}
 use Rattle.mst_policy.specs.declared.expectation.Expectation.{Expectation as ExpectationOf}
 use Rattle.mst_verdict.specs.Verifying.{AreReasonsIf, expected_by}
-use Rattle.mst_verify.specs.Islands.{IsKeptOf}
-use Rattle.mst_verify.specs.Named.{Prior}
-use Rattle.mst_verify.specs.Seen.{IsBefore}
+use Rattle.mst_verify.specs.tree_judges.judged.Islands.{IsKeptOf}
+use Rattle.mst_verify.specs.tree_judges.judged.reasons.Named.{Prior}
+use Rattle.mst_verify.specs.tree_judges.judged.Seen.{IsBefore}
 use Rattle.mst_verdict.proofs.judging.line_reasons.Goals as goal
 
 pub returns-in-Some : goal.returns-in-Some

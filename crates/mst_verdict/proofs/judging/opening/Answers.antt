@@ -1,8 +1,8 @@
 use Rattle.std.proofs.Common.{length, ap, subst, sym, ◌∙◌}
 use Rattle.mst_sweeping.specs.sweep.vlan.classes.Classes.{AreClasses}
 use Rattle.mst_sweeping.specs.plan.trees.Settled.{SettledNet}
-use Rattle.mst_verify.specs.Islands.{HasIslandsOf, IsOfPlan}
-use Rattle.mst_verify.specs.Seen.{IsBefore}
+use Rattle.mst_verify.specs.tree_judges.judged.Islands.{HasIslandsOf, IsOfPlan}
+use Rattle.mst_verify.specs.tree_judges.judged.Seen.{IsBefore}
 use Rattle.mst_verdict.specs.Verifying.{AreLacking}
 use Rattle.mst_verdict.proofs.Judgements.{as_many}
 use Rattle.mst_verdict.proofs.judging.opening.Goals as goal

@@ -10,8 +10,8 @@ use Rattle.mst_sweeping.specs.sweep.Pairs.{failed}
 use Rattle.mst_sweeping.specs.plan.trees.Agrees.{AreOf}
 use Rattle.mst_sweeping.specs.plan.trees.Forest.{IsForest}
 use Rattle.mst_sweeping.specs.plan.trees.Settled.{SettledNet, outcome_of}
-use Rattle.mst_verdict.specs.Judged.{reasons_in}
-use Rattle.mst_verify.specs.Islands.{HasIslandsOf, IsOneOf}
+use Rattle.mst_telling.specs.Judged.{reasons_in}
+use Rattle.mst_verify.specs.tree_judges.judged.Islands.{HasIslandsOf, IsOneOf}
 use Rattle.mst_verdict.specs.Verifying.{AreReasonsIf, HaveLans, expected_in, plan_outcome}
 use Rattle.mst_verdict.proofs.Judgements.{as_many, classes_stay, failed_ahead, failed_plan, have_lans_failed, lines_after, prior_of}
 use Rattle.mst_verdict.proofs.judging.reasons_failed.Goals as goal

@@ -2,9 +2,9 @@ use Rattle.std.proofs.Common.{None, subst, sym}
 use Rattle.std.proofs.lemmas.Result.{IfOk-weaker}
 use Rattle.mst_sweeping.specs.sweep.vlan.classes.Classes.{AreClasses}
 use Rattle.mst_sweeping.specs.plan.trees.Settled.{SettledNet}
-use Rattle.mst_verdict.specs.Judged.{reasons_in}
-use Rattle.mst_verify.specs.Islands.{HasIslandsOf, IsOfPlan}
-use Rattle.mst_verify.specs.Seen.{IsBefore}
+use Rattle.mst_telling.specs.Judged.{reasons_in}
+use Rattle.mst_verify.specs.tree_judges.judged.Islands.{HasIslandsOf, IsOfPlan}
+use Rattle.mst_verify.specs.tree_judges.judged.Seen.{IsBefore}
 use Rattle.mst_verdict.specs.Verifying.{AreLacking, AreReasonsThere}
 use Rattle.mst_verdict.proofs.Judgements.{as_many, kept_of, lines_now, not_kept}
 use Rattle.mst_verdict.proofs.judging.reasons_now.Goals as goal

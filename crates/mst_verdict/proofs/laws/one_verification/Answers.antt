@@ -1,4 +1,4 @@
-use Rattle.mst_verdict.specs.Verified.{IsToldWhereBroken, IsVerdict}
+use Rattle.mst_telling.specs.Verified.{IsToldWhereBroken, IsVerdict}
 use Rattle.mst_verdict.proofs.Judgements.{zip_weaker}
 use Rattle.mst_verdict.proofs.laws.one_verification.Goals as goal
 

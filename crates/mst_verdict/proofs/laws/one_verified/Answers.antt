@@ -1,6 +1,6 @@
 use Rattle.std.proofs.Common.{◌≡◌, None, true, subst, sym}
 use Rattle.mst_verdict.proofs.MadeNets.{makes_net}
-use Rattle.mst_verdict.specs.Verified.{IsVerified}
+use Rattle.mst_telling.specs.Verified.{IsVerified}
 use Rattle.mst_verdict.proofs.OneTold.{found_same, some_found, verified_same, verified_some}
 use Rattle.mst_verdict.proofs.laws.one_verified.Goals as goal
 

@@ -1,10 +1,10 @@
 use Rattle.std.proofs.Common.{◌==◌, None, Some}
-use Rattle.mst_verify.specs.Named.{Prior}
+use Rattle.mst_verify.specs.tree_judges.judged.reasons.Named.{Prior}
 use Rattle.mst_verdict.specs.Verifying.{IsPrior, Judges}
 use Rattle.mst_verdict.specs.Stepping.{AreRowsIn, Watch}
 use Rattle.mst_verdict.specs.Taking.{IsWatching}
 use Rattle.mst_sweeping.proofs.Swept.{if_ok}
-use Rattle.mst_verdict.specs.Judged.{told_in}
+use Rattle.mst_telling.specs.Judged.{told_in}
 use Rattle.mst_verdict.proofs.Watched.{judged_first, judged_later}
 use Rattle.mst_verdict.proofs.stepping.judge_at.Goals as goal
 

@@ -9,8 +9,8 @@ use Rattle.mst_sweeping.specs.declared.step.Deed.TheVariants as deed
 use Rattle.mst_sweeping.specs.declared.step.Step.{Step}
 use Rattle.mst_policy.specs.declared.policy.PolicyLine.{PolicyLine}
 use Rattle.mst_sweeping.specs.Sweeping.{Puts}
-use Rattle.mst_verdict.specs.Judged.{told_in}
-use Rattle.mst_verdict.specs.Steps.{breaks, changes, judged_rows}
+use Rattle.mst_telling.specs.Judged.{told_in}
+use Rattle.mst_telling.specs.Steps.{breaks, changes, judged_rows}
 use Rattle.mst_verdict.proofs.stepping.take_step.Goals as goal
 
 pub plan_beside-requires : goal.plan_beside-requires

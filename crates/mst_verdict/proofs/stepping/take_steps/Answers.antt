@@ -7,7 +7,7 @@ use Rattle.mst_verdict.specs.Taking.{TakesSteps}
 use Rattle.mst_verdict.specs.declared.stepping.Course.{Course}
 use Rattle.mst_sweeping.specs.Sweeping.{Puts}
 use Rattle.mst_sweeping.proofs.Swept.{put_then}
-use Rattle.mst_verdict.specs.Judged.{told_in}
+use Rattle.mst_telling.specs.Judged.{told_in}
 use Rattle.mst_verdict.proofs.Walked.{few_more, few_none, judged_here, net_more, refused_counted, steps_counted, takes_more, takes_none}
 use Rattle.mst_verdict.proofs.stepping.take_steps.Goals as goal
 

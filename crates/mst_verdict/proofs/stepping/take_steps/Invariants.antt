@@ -4,7 +4,7 @@ use Rattle.mst_verdict.specs.Setting.{after_steps}
 use Rattle.mst_verdict.specs.Stepping.{AreRowsIn, IsFew, Watch}
 use Rattle.mst_verdict.specs.Taking.{IsWatching, TakesSteps}
 use Rattle.mst_sweeping.specs.Sweeping.{Puts}
-use Rattle.mst_verdict.specs.Judged.{told_in}
+use Rattle.mst_telling.specs.Judged.{told_in}
 use Rattle.mst_verdict.proofs.stepping.take_steps.Given as goal
 
 -- what the steps so far do, with the plan and the judgement of the network that they have made

@@ -2,8 +2,8 @@ use Rattle.std.proofs.Common.{◌++◌, ◌∙◌, List, ap, refl, sym, subst}
 use Rattle.mst_rows.specs.Rows.{Row}
 use Rattle.mst_verdict.specs.Verifying.{plan_outcome}
 use Rattle.mst_sweeping.proofs.Swept.{put_then}
-use Rattle.mst_verdict.specs.Judged.{told_in}
-use Rattle.mst_verdict.specs.Steps.{start_rows}
+use Rattle.mst_telling.specs.Judged.{told_in}
+use Rattle.mst_telling.specs.Steps.{start_rows}
 use Rattle.mst_verdict.specs.Stepping.{IsFew, Watch, watch_of}
 use Rattle.mst_verdict.specs.Taking.{course_for}
 use Rattle.mst_verdict.specs.declared.stepping.Course.{Course}

@@ -1,7 +1,7 @@
 use Rattle.std.proofs.Common.{None, ◌∙◌}
 use Rattle.std.proofs.lemmas.Result.{IfOk-weaker}
 use Rattle.mst_verdict.specs.Verifying.{plan_outcome}
-use Rattle.mst_verdict.specs.Verified.{IsToldWhereBroken, IsVerdict}
+use Rattle.mst_telling.specs.Verified.{IsToldWhereBroken, IsVerdict}
 use Rattle.mst_verdict.proofs.Judgements.{plan_settled, zip_weaker}
 use Rattle.mst_verdict.proofs.verifying.verify_network.Goals as goal
 

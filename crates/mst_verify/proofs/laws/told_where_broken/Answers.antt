@@ -4,18 +4,18 @@ use Rattle.mst_policy.specs.declared.expectation.Expectation.TheVariants as expe
 use Rattle.mst_rows.specs.Rows.{Row}
 use Rattle.mst_net.specs.tables.Tables.{Net, IsNetwork}
 use Rattle.mst_nested.specs.Trees.{IsSettled}
-use Rattle.mst_sweep.specs.vlan.trees.Outcome.{Outcome, IsOutcome, trees_of}
-use Rattle.mst_note_text.specs.NotesText.{AreNoteRows}
-use Rattle.mst_verify.specs.Named.{Gone, Prior, is_named, named, ports_named}
-use Rattle.mst_verify.specs.Holds.{Holds}
-use Rattle.mst_verify.specs.Reasons.{AreReasons}
-use Rattle.mst_verify.specs.declared.reason.Reason.{Reason}
-use Rattle.mst_verify.proofs.Keys.{names_once}
-use Rattle.mst_verify.proofs.RootsThere.{roots_there}
+use Rattle.mst_island_judges.specs.judged.reasons.sweep.vlan.trees.Outcome.{Outcome, IsOutcome, trees_of}
+use Rattle.mst_island_judges.specs.judged.reasons.note_text.NotesText.{AreNoteRows}
+use Rattle.mst_island_judges.specs.judged.reasons.Named.{Gone, Prior, is_named, named, ports_named}
+use Rattle.mst_island_judges.specs.judged.reasons.Holds.{Holds}
+use Rattle.mst_island_judges.specs.judged.reasons.Reasons.{AreReasons}
+use Rattle.mst_island_judges.specs.judged.reasons.declared.reason.Reason.{Reason}
+use Rattle.mst_tree_judges.proofs.Keys.{names_once}
+use Rattle.mst_tree_judges.proofs.RootsThere.{roots_there}
 use Rattle.mst_verify.proofs.BrokenLists.{carries_broken, avoids_broken, role_broken}
 use Rattle.mst_verify.proofs.BrokenParts.{region_broken, reach_broken, apart_broken}
 use Rattle.mst_verify.proofs.BrokenTrees.{leaf_broken, depth_broken}
-use Rattle.mst_verify.proofs.BrokenRoots.{root_broken}
+use Rattle.mst_tree_judges.proofs.BrokenRoots.{root_broken}
 use Rattle.mst_verify.proofs.ReasonsTogether.{together_broken}
 use Rattle.mst_verify.proofs.Limits.{fits_broken}
 use Rattle.mst_verify.proofs.laws.told_where_broken.Goals as goal

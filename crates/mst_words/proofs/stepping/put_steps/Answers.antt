@@ -11,9 +11,9 @@ use Rattle.mst_policy.specs.declared.policy.PolicyLine.{PolicyLine}
 use Rattle.mst_rows.specs.Rows.{Row}
 use Rattle.mst_verdict.specs.Stepping.{Steps, front_rows_if, lines_of}
 use Rattle.mst_verdict.specs.declared.stepping.Course.{Course}
-use Rattle.mst_verdict.specs.Rows.{behind}
-use Rattle.mst_verdict.specs.Steps.{nothing_rows}
-use Rattle.mst_verdict.specs.Told.{unread_by, unread_rows}
+use Rattle.mst_verdict.specs.telling.Rows.{behind}
+use Rattle.mst_verdict.specs.telling.Steps.{nothing_rows}
+use Rattle.mst_verdict.specs.telling.Told.{unread_by, unread_rows}
 use Rattle.mst_words.proofs.stepping.put_steps.Goals as goal
 
 pub returns-clause-told : goal.returns-clause-told

@@ -3,7 +3,7 @@ use Rattle.std.proofs.lemmas.Result.{IfOk-weaker}
 use Rattle.mst_tables.specs.Contents.{Contents}
 use Rattle.mst_policy.specs.declared.policy.PolicyLine.{PolicyLine}
 use Rattle.mst_verdict.specs.Verifying.{Verifies}
-use Rattle.mst_verdict.specs.Judged.{counts_of}
+use Rattle.mst_verdict.specs.telling.Judged.{counts_of}
 use Rattle.mst_words.proofs.verifying.put_verification.Goals as goal
 
 pub returns-clause-told : goal.returns-clause-told

@@ -1,0 +1,13 @@
+use Rattle.std.proofs.Common.{◌≡◌, length, map, take}
+use Rattle.mst_judged.specs.reasons.sweep.Cuts.{names_of}
+use Rattle.mst_judged.specs.reasons.sweep.facts.trees.Settled.{outcome_of}
+use Rattle.mst_judged.specs.reasons.Seen.{names_in}
+use Rattle.mst_judged.specs.Islands.{AreReachParts, AreOfClasses}
+use Rattle.mst_island_judges.proofs.reaching.bodies.Given as goal
+
+-- the parts of the classes so far
+abbrev pub invariant-loop-class : goal.invariant-loop-class
+invariant-loop-class l = record {
+  as_long : length l.bodies.items ≡ l.class;
+  parts : AreOfClasses (AreReachParts l.fn.judged.plan.now.net (outcome_of l.fn.judged.plan.now) (names_in l.bridges)) (take l.class l.fn.judged.before.now.classes.firsts.items) l.flags (map names_of l.bodies.items);
+}

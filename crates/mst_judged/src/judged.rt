@@ -1,0 +1,18 @@
+use crate::before::Before;
+use crate::homes::Homes;
+use crate::prior::Prior;
+use mst_ids::Name;
+use mst_reasons::Settled;
+
+/// A network that is judged, with what is kept of the one before all failures, and of the one that is prior to it, if there is one: of that
+/// without the failure, or of another one that it came from.
+#[derive(Clone, Copy)]
+pub struct Judged<'a> {
+    pub plan: &'a Settled<'a>,
+    pub before: &'a Before,
+    /// Islands that are made already.
+    pub homes: &'a Homes,
+    /// The bridge that failed.
+    pub gone: Option<Name>,
+    pub prior: Option<Prior<'a>>,
+}

@@ -1,0 +1,99 @@
+-- In which networks a promise is judged, and that it is kept.
+use Rattle.std.specs.Prelude.{◌≡◌, ℕ, ◌&&◌, ◌||◌, not, Bool, true, false, List, ◌∷◌, Option, None, Some, is_some, Ok, map}
+use Rattle.std.specs.List.{Contains}
+use Rattle.std.specs.Option.{option_map_or}
+use Rattle.mst_tables.specs.After.{after}
+use Rattle.mst_tables.specs.Tables.{Net}
+use Rattle.mst_lag.specs.Aggregation.{same_name}
+use Rattle.mst_sweep.specs.facts.trees.Outcome.{Outcome, IsOutcome}
+use Rattle.mst_sweep.specs.Failures.{edit_of, failures}
+use Rattle.mst_sweep.specs.declared.failure.Failure.{Failure}
+use Rattle.mst_sweep.specs.declared.failure.Failure.TheVariants as failing
+use Rattle.mst_policy.specs.Items.{has, lists}
+use Rattle.mst_policy.specs.declared.item.NameItem.{NameItem}
+use Rattle.mst_policy.specs.declared.expectation.Expectation.{Expectation}
+use Rattle.mst_policy.specs.declared.expectation.Expectation.TheVariants as expect
+use Rattle.mst_policy.specs.declared.expectation.Scope.{Scope}
+use Rattle.mst_policy.specs.declared.expectation.Scope.TheVariants as scope
+use Rattle.mst_policy.specs.declared.expectation.Promise.{Promise}
+use Rattle.mst_reasons.specs.Named.{Gone, Prior}
+use Rattle.mst_reasons.specs.Holds.{Holds}
+
+-- the name of what fails
+abbrev pub name_of : Failure → List ℕ
+name_of (failing.Lan lan) = lan
+name_of (failing.Bridge bridge) = bridge
+
+-- the bridge that a failure takes away
+abbrev pub gone_of : Failure → Gone
+gone_of (failing.Lan lan) = None
+gone_of (failing.Bridge bridge) = Some bridge
+
+-- a bridge is the B or the C that the expectation names, and a LAN is its LAN
+abbrev pub is_its_bridge : Expectation → List ℕ → Bool
+is_its_bridge (expect.Root tree b next) bridge = same_name b bridge || option_map_or (λ c. same_name c bridge) next false
+is_its_bridge _ bridge = false
+
+abbrev pub is_its_lan : Expectation → List ℕ → Bool
+is_its_lan (expect.Carries own vids) lan = same_name own lan
+is_its_lan (expect.Avoids own vids) lan = same_name own lan
+is_its_lan _ lan = false
+
+-- a failure is of one of these
+abbrev pub fails_its_own : Expectation → Failure → Bool
+fails_its_own expectation (failing.Lan lan) = is_its_lan expectation lan
+fails_its_own expectation (failing.Bridge bridge) = is_its_bridge expectation bridge
+
+-- a list asks for a failure: it has the name, and where the expectation names it, too, the name itself is an item
+abbrev pub asks_for : List NameItem → List ℕ → Bool → Bool
+asks_for names name is_own = has names name && (not is_own || lists names name)
+
+-- a scope has the network itself
+abbrev pub has_now : Scope → Bool
+has_now scope.Now = true
+has_now (scope.AfterLan names) = false
+has_now (scope.AfterBridge names) = false
+has_now scope.Always = true
+
+-- an expectation looks back at the network before
+abbrev pub looks_back : Expectation → Bool
+looks_back (expect.Together vids names) = true
+looks_back _ = false
+
+-- the network itself is judged, where it is said whether a network is before it: of what looks back, only then
+abbrev pub asks_now : Bool → Promise → Bool
+asks_now has_prior promise = has_now promise.scope && (has_prior || not (looks_back promise.expectation))
+
+-- that of a failure is judged
+abbrev pub scope_asks : Scope → Failure → Bool → Bool
+scope_asks (scope.AfterLan names) (failing.Lan lan) is_own = asks_for names lan is_own
+scope_asks (scope.AfterBridge names) (failing.Bridge bridge) is_own = asks_for names bridge is_own
+scope_asks scope.Always failure is_own = not is_own
+scope_asks _ failure is_own = false
+
+abbrev pub asks : Promise → Failure → Bool
+asks promise failure = scope_asks promise.scope failure (fails_its_own promise.expectation failure)
+
+-- where promises can be judged: in the network itself, and in that of each failure
+abbrev pub places : Net → List (Option Failure)
+places net = None ∷ map Some (failures net)
+
+-- one is judged there
+abbrev pub asks_at : Bool → Promise → Option Failure → Bool
+asks_at has_prior promise None = asks_now has_prior promise
+asks_at has_prior promise (Some failure) = asks promise failure
+
+-- it is judged somewhere
+pub record IsJudgedSomewhere (net : Net) (has_prior : Bool) (promise : Promise) : Type 0 where
+  pub place : Option Failure
+  pub there : Contains (places net) place
+  pub is_asked : asks_at has_prior promise place ≡ true
+
+-- the expectation holds in the network that a failure makes: before that is the network itself
+abbrev pub HoldsAfter : Net → Outcome → Failure → Expectation → Type 0
+HoldsAfter net o failure expectation = (failed : Net) (p : Outcome) → after (edit_of failure) net ≡ Ok failed → IsOutcome failed p → Holds failed p net (gone_of failure) (Some (net, o)) expectation
+
+-- the promise is kept: the expectation holds in each network in which it is judged
+pub record IsKept (net : Net) (o : Outcome) (prior : Prior) (promise : Promise) : Type 0 where
+  pub now : asks_now (is_some prior) promise ≡ true → Holds net o net None prior promise.expectation
+  pub failed : (failure : Failure) → Contains (failures net) failure → asks promise failure ≡ true → HoldsAfter net o failure promise.expectation

@@ -1,0 +1,61 @@
+-- Which bridges and logical ports the lists of an expectation have in a network.
+use Rattle.std.specs.Prelude.{ℕ, ◌&&◌, not, Bool, false, List, Option, MatchOption, filter, ⊤}
+use Rattle.std.specs.List.{list_any}
+use Rattle.std.specs.Option.{option_map_or}
+use Rattle.std.specs.FinMap as fin
+use Rattle.mst_ids.specs.Vids.{has}
+use Rattle.mst_ids.specs.declared.name.PortName.{PortName}
+use Rattle.mst_tables.specs.Tables.{IsNetwork, Net, port_eq}
+use Rattle.mst_sweep.specs.facts.trees.Outcome.{Outcome}
+use Rattle.mst_lag.specs.Aggregation.{same_name}
+use Rattle.mst_lag.specs.View.{LogicalPort, view_ports}
+use Rattle.mst_sweep.specs.vlan.classes.AllVids.{all_vids}
+use Rattle.mst_policy.specs.Items as policy
+use Rattle.mst_policy.specs.declared.item.NameItem.{NameItem}
+use Rattle.mst_policy.specs.declared.item.PortItem.{PortItem}
+
+-- the network before the one that is judged, with a settled outcome of it, if there is one
+abbrev pub Prior : Type 0
+Prior = Option (Net × Outcome)
+
+-- it is a network
+abbrev pub OfNetwork : Prior → Type 0
+OfNetwork prior = MatchOption prior ⊤ (λ p. IsNetwork p.0)
+
+-- ---- bridges
+-- the bridge that failed, if one did
+abbrev pub Gone : Type 0
+Gone = Option (List ℕ)
+
+abbrev pub is_gone : Gone → List ℕ → Bool
+is_gone gone name = option_map_or (same_name name) gone false
+
+-- a bridge is one of NAMES: some item has it, and it isn't the one that failed
+abbrev pub is_named : Gone → List NameItem → List ℕ → Bool
+is_named gone names bridge = policy.has names bridge && not (is_gone gone bridge)
+
+-- these bridges, on or off, in byte order of names
+abbrev pub named : Net → Gone → List NameItem → List (List ℕ)
+named net gone names = filter (is_named gone names) (fin.keys net.bridges)
+
+-- ---- logical ports
+-- a logical port of this name is enabled
+abbrev pub is_enabled : Net → PortName → Bool
+is_enabled net port = list_any (λ p. p.is_enabled && port_eq p.name port) (view_ports net)
+
+-- a port isn't enabled that was so before the failure
+abbrev pub stopped : Net → LogicalPort → Bool
+stopped before p = not p.is_enabled && is_enabled before p.name
+
+-- a logical port is one of PORTS: some item has it, and it didn't stop
+abbrev pub is_port_named : Net → List PortItem → LogicalPort → Bool
+is_port_named before ports p = policy.has_port ports p.name && not (stopped before p)
+
+-- these ports, by bridge and number
+abbrev pub ports_named : Net → Net → List PortItem → List LogicalPort
+ports_named net before ports = filter (is_port_named before ports) (view_ports net)
+
+-- ---- VIDs
+-- the VIDs of a set, rising
+abbrev pub vids_in : List Bool → List ℕ
+vids_in vids = filter (has vids) all_vids

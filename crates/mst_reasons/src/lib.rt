@@ -1,0 +1,22 @@
+//! What a policy's promises mean of a network, in which networks a promise is judged, and why one isn't kept.
+//!
+//! Why an expectation doesn't hold is told by reasons, each a value ([`Reason`]), and what a promise names that a network hasn't by a
+//! [`Missing`]. What judges networks, and what tells reasons as rows, stands above this, and neither names the other.
+#![tactic(auto)]
+
+mod asking;
+mod lists;
+mod missing;
+mod reason;
+
+pub use asking::{asks, asks_now, has_now};
+pub use lists::{BridgeNames, Parts, PortNames, Word, has_two};
+pub use missing::Missing;
+pub use mst_note_text::{Child, children_of, laws as note_text_laws, put_notes};
+pub use mst_summary::{Follower, as_follower, bridge_id, goes_over, least};
+pub use mst_sweep::{
+    Both, Carriage, Failure, Planned, Role, Settled, all_parts, bridges_of_both, classes_of_both,
+    classes_of_vids, differing, flagged, homes_by, homes_of, port_role, set_of, staying,
+    trees_laws, vids, vlan_laws,
+};
+pub use reason::Reason;

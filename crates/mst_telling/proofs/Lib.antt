@@ -1,0 +1,7 @@
+pub mod LackedSeen
+pub mod GoesOn
+pub mod Lines
+pub mod NewRows
+pub mod Only
+pub mod TextLines
+pub mod Whole

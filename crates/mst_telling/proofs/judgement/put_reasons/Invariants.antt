@@ -1,0 +1,10 @@
+use Rattle.std.proofs.Common.{◌++◌, List, map, take}
+use Rattle.mst_rows.specs.Rows.{Row}
+use Rattle.mst_telling.specs.Rows.{row_at}
+use Rattle.mst_telling.specs.Told.{reason_rows}
+use Rattle.mst_telling.specs.contracts.judgement.put_reasons.{R-type}
+use Rattle.mst_telling.proofs.judgement.put_reasons.Given as goal
+
+-- the rows of the reasons so far
+abbrev pub invariant-loop-reason : goal.invariant-loop-reason
+invariant-loop-reason g l = (first : R-type g.row.R) (rows : List Row) → g.R.Rows.grew first l.fn.out rows → g.R.Rows.grew first l.out (rows ++ map (row_at l.at.step) (reason_rows l.at.number l.place (take l.reason-index l.reasons)))

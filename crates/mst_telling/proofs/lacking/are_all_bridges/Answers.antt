@@ -1,0 +1,19 @@
+use Rattle.std.proofs.Common.{◌&&◌, Bool, map, sym, ap, ◌∙◌}
+use Rattle.std.specs.List.{list_all}
+use Rattle.mst_lag.specs.declared.in_view.BridgeInView.{BridgeInView}
+use Rattle.mst_policy.specs.declared.item.NameItem.{NameItem}
+use Rattle.mst_reasons.specs.Missing.{bridges_of, has_one, scope_bridges}
+use Rattle.mst_telling.proofs.LackedSeen.{all_appended}
+use Rattle.mst_telling.proofs.lacking.are_all_bridges.Goals as goal
+
+pub returns-then-first : goal.returns-then-first
+returns-then-first c =
+    let test : NameItem → Bool = has_one (map (λ (x : BridgeInView). x.name) c.args.bridges.now) in
+    let promise = c.args.promise.now in
+    c.are_bridges.ensures ∙ ap (λ b. b && list_all test (bridges_of promise.expectation)) (sym c.if-first.true ∙ c.are_scope_bridges-first.ensures) ∙ sym (all_appended test (scope_bridges promise.scope) (bridges_of promise.expectation))
+
+pub returns-else-first : goal.returns-else-first
+returns-else-first c =
+    let test : NameItem → Bool = has_one (map (λ (x : BridgeInView). x.name) c.args.bridges.now) in
+    let promise = c.args.promise.now in
+    c.if-first.false ∙ ap (λ b. b && list_all test (bridges_of promise.expectation)) (sym c.if-first.false ∙ c.are_scope_bridges-first.ensures) ∙ sym (all_appended test (scope_bridges promise.scope) (bridges_of promise.expectation))

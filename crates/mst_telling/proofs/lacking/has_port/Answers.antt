@@ -1,0 +1,7 @@
+use Rattle.std.proofs.Common.{sym, ◌∙◌}
+use Rattle.mst_policy.specs.Items.{port_item_has}
+use Rattle.mst_reasons.proofs.summary_lemmas.Lists.{any_mapped}
+use Rattle.mst_telling.proofs.lacking.has_port.Goals as goal
+
+pub returns : goal.returns
+returns c = c.any_port.ensures ∙ sym (any_mapped (port_item_has c.args.item.now) (λ x. x.name) c.args.ports.now)

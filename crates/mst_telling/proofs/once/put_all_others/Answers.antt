@@ -1,0 +1,16 @@
+use Rattle.mst_telling.specs.Judged.{found_at}
+use Rattle.mst_telling.specs.Once.{others}
+use Rattle.mst_telling.proofs.GoesOn.{flat_mapped, more, whole}
+use Rattle.mst_telling.proofs.once.put_all_others.Goals as goal
+
+pub loop-finding-preserved : goal.loop-finding-preserved
+loop-finding-preserved g c nows folds first rows grew =
+    let folding = c.args.folding.now in
+    more (g.R.Rows.grew first c.put_others.new.out) (flat_mapped (others folding.number folding.scope.now nows) (found_at c.args.n)) c.args.found.now c.loop-finding.finding-index c.finding-item.result rows
+    c.loop-finding-test.true c.finding-item.is (c.in_ok-put_others.ensures nows folds first _ (c.loop-finding.invariant nows folds first rows grew))
+
+pub returns : goal.returns
+returns g c nows folds first rows grew =
+    let folding = c.args.folding.now in
+    whole (g.R.Rows.grew first c.loop-finding.out) (flat_mapped (others folding.number folding.scope.now nows) (found_at c.args.n)) c.args.found.now c.loop-finding.finding-index rows c.loop-finding-test.false
+    (c.loop-finding.invariant nows folds first rows grew)

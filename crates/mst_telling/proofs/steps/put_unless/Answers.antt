@@ -1,0 +1,27 @@
+use Rattle.std.proofs.Common.{◌≡◌, ◌∙◌, ◌++◌, List, ap, map, not, subst, take}
+use Rattle.mst_rows.specs.Rows.{Row}
+use Rattle.mst_telling.specs.Rows.{reason_row, row_at}
+use Rattle.mst_telling.specs.Texts.{is_told, news}
+use Rattle.mst_telling.specs.Told.{reason_rows}
+use Rattle.mst_telling.proofs.GoesOn.{mapped, more, one_mapped, then_filtered, then_mapped, whole}
+use Rattle.mst_telling.proofs.steps.put_unless.Goals as goal
+
+pub loop-reason-preserved : goal.loop-reason-preserved
+loop-reason-preserved g c those are first rows grew =
+    let at = c.args.at in
+    let place = c.args.place.now in
+    let reason = c.reason-item.result in
+    let row : Row = reason_row at.number place reason in
+    let i = c.loop-reason.reason-index in
+    let so_far : List Row = map (row_at at.step) (news those (reason_rows at.number place (take i c.args.reasons.now))) in
+    let is : c.has.result ≡ is_told those row = c.has.ensures those row are (c.as_slice.ensures.value ∙ c.in_ok-text.ensures) in
+    more (g.R.Rows.grew first c.put_if.new.out) (then_mapped (row_at at.step) (then_filtered (λ (row : Row). not (is_told those row)) (mapped (reason_row at.number place)))) c.args.reasons.now i reason rows c.loop-reason-test.true
+    c.reason-item.is
+    (subst (λ (more : List Row). g.R.Rows.grew first c.put_if.new.out ((rows ++ so_far) ++ more)) (one_mapped (row_at at.step) row (not c.has.result) (not (is_told those row)) (ap not is))
+    (c.in_ok-put_if.ensures first _ (c.loop-reason.invariant those are first rows grew)))
+
+pub returns : goal.returns
+returns g c those are first rows grew =
+    let at = c.args.at in
+    whole (g.R.Rows.grew first c.loop-reason.out) (then_mapped (row_at at.step) (then_filtered (λ (row : Row). not (is_told those row)) (mapped (reason_row at.number c.args.place.now)))) c.args.reasons.now c.loop-reason.reason-index
+    rows c.loop-reason-test.false (c.loop-reason.invariant those are first rows grew)

@@ -1,0 +1,54 @@
+-- The rows of a line of which that is told once which is there without a failure, too.
+use Rattle.std.specs.Prelude.{◌&&◌, ◌==◌, not, Bool, true, false, ℕ, List, [], ◌∷◌, ◌++◌, Option, None, Some, count_by, filter, if◌then◌else◌}
+use Rattle.std.specs.List.{flat_map}
+use Rattle.mst_policy.specs.Items.{lists}
+use Rattle.mst_policy.specs.declared.expectation.Scope.{Scope}
+use Rattle.mst_policy.specs.declared.expectation.Scope.TheVariants as scope
+use Rattle.mst_rows.specs.Rows.{Row}
+use Rattle.mst_graph.specs.Lists.{has_any}
+use Rattle.mst_reasons.specs.sweep.declared.failure.Failure.{Failure}
+use Rattle.mst_reasons.specs.Judged.{has_now, name_of}
+use Rattle.mst_reasons.specs.declared.reason.Reason.{Reason}
+use Rattle.mst_telling.specs.Rows.{reason_row, same_row}
+use Rattle.mst_telling.specs.Texts.{is_told}
+use Rattle.mst_telling.specs.Told.{Found, is_now, reason_rows}
+
+-- the scope has the very name of what failed
+abbrev pub names_it : Scope → Failure → Bool
+names_it (scope.AfterLan names) failure = lists names (name_of failure)
+names_it (scope.AfterBridge names) failure = lists names (name_of failure)
+names_it _ failure = false
+
+-- the rows of a place, if it is the network itself, and so all that this gives
+abbrev pub now_at : ℕ → Found → List Row
+now_at n f = if is_now f.place then reason_rows n None f.reasons else []
+
+abbrev pub rows_now : ℕ → List Found → List Row
+rows_now n found = flat_map (now_at n) found
+
+-- a reason in a place is left out: it is one of a failure that the scope doesn't name, and the network itself gives it, too, word for word
+abbrev pub is_left_out : ℕ → Scope → List Row → Option Failure → Reason → Bool
+is_left_out n scope nows None reason = false
+is_left_out n scope nows (Some failure) reason = not (names_it scope failure) && is_told nows (reason_row n None reason)
+
+-- those that are left out in a place, with `now` in the place of the failure
+abbrev pub left_out : ℕ → Scope → List Row → Found → List Row
+left_out n scope nows f = reason_rows n None (filter (is_left_out n scope nows f.place) f.reasons)
+
+-- the rows of the others after a failure
+abbrev pub others : ℕ → Scope → List Row → Found → List Row
+others n scope nows f = if is_now f.place then [] else reason_rows n f.place (filter (λ reason. not (is_left_out n scope nows f.place reason)) f.reasons)
+
+-- what the network itself gives is told where its scope has that, and else where a failure has left it out
+abbrev pub told_now : Scope → List Row → List Row → List Row
+told_now scope nows left = if has_now scope then nows else filter (is_told left) nows
+
+-- after how many failures something is left out, where it is after some
+abbrev pub same_rows : ℕ → ℕ → List Row
+same_rows n count = if count == 0 then [] else same_row n count ∷ []
+
+-- what the network itself gives, after how many failures that is so, too, and what else these give
+abbrev pub once_rows : ℕ → Scope → List Row → List Found → List Row
+once_rows n scope nows found =
+    told_now scope nows (flat_map (left_out n scope nows) found) ++ same_rows n (count_by (λ f. has_any (left_out n scope nows f)) found)
+    ++ flat_map (others n scope nows) found

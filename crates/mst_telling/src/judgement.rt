@@ -1,0 +1,137 @@
+ghost use Rattle.std.specs.Prelude.{◌≡◌, ◌∷◌, ◌++◌, [], List, ℕ, OnOk, if◌then◌else◌, map};
+ghost use Rattle.std.specs.List.{list_any};
+ghost use Rattle.mst_policy.specs.declared.policy.PolicyLine.{PolicyLine as LineOf};
+ghost use Rattle.mst_rows.specs.Rows.{Row};
+ghost use Rattle.mst_graph.specs.Lists.{has_any};
+ghost use Rattle.mst_telling.specs.Judged.{found_at, line_lacks, line_rows, told_in};
+ghost use Rattle.mst_telling.specs.Rows.{reason_row, row_at};
+ghost use Rattle.mst_telling.specs.Steps.{no_rows};
+ghost use Rattle.mst_telling.specs.Told.{found_rows, reason_rows};
+
+use crate::reason::{At, put_reason};
+use mst_reasons::{Failure, Missing, Reason};
+use mst_rows::Rows;
+use std::alloc::{AllocError, Global};
+
+/// Why lines of a policy aren't kept in one place: in the network itself, or in that of a failure.
+#[derive(Drop)]
+pub struct Finding {
+    pub place: Option<Failure>,
+    /// For each line: none where it is kept there, or the place isn't looked at for it.
+    pub reasons: Vec<Vec<Reason>>,
+}
+
+/// What the lines of a policy were judged by in a network.
+#[derive(Drop)]
+pub struct Judgement {
+    /// Of each line what it names and the network hasn't.
+    pub missing: Vec<Option<Missing>>,
+    /// The places where some line isn't kept, in their order.
+    pub found: Vec<Finding>,
+}
+
+impl Finding {
+    /// The reasons of the line at a place of the list.
+    pub(crate) fn reasons_of(&self, n: usize) -> &[Reason]
+        ensures { result.now ≡ (found_at n self.now).reasons }
+    {
+        match self.reasons.get(n) {
+            Some(reasons) => reasons.as_slice(),
+            None => &[],
+        }
+    }
+}
+
+impl Judgement {
+    /// Of which no line has rows.
+    pub fn none(alloc: Global) -> Judgement
+        ensures { (lines : List LineOf) → told_in lines result ≡ no_rows lines }
+    {
+        let missing = Vec::new(alloc);
+        let found = Vec::new(alloc);
+        Judgement { missing, found }
+    }
+
+    /// What the line at a place of the list names and the network hasn't.
+    pub(crate) fn lacks(&self, n: usize) -> Option<Missing>
+        ensures { result ≡ line_lacks n self.now }
+    {
+        match self.missing.get(n) {
+            Some(missing) => *missing,
+            None => None,
+        }
+    }
+
+    /// Whether the line at a place of the list is unkept: it is refused, or has a reason.
+    pub(crate) fn is_unkept(&self, n: usize) -> bool
+        ensures { (line : LineOf) → result ≡ has_any (line_rows n line self.now) }
+    {
+        self.lacks(n).is_some() | has_reasons(n, self.found.as_slice())
+    }
+}
+
+/// One, where it is so.
+pub(crate) fn one_if(is_so: bool) -> u64
+    ensures { result ≡ (if is_so then 1 else 0) }
+{
+    if is_so { 1 } else { 0 }
+}
+
+/// Whether the line at a place of the list has a reason.
+pub(crate) fn has_reasons(n: usize, found: &[Finding]) -> bool
+    ensures { result ≡ list_any (λ f. has_any (found_at n f).reasons) found.now }
+{
+    found
+        .iter()
+        .any(|finding| !finding.reasons_of(n).is_empty())
+}
+
+/// Puts a reason in a place, if that is wanted.
+pub(crate) fn put_if<R: Rows>(
+    alloc: Global,
+    is_wanted: bool,
+    at: At,
+    place: &Option<Failure>,
+    reason: &Reason,
+    out: &mut R,
+) -> Result<(), AllocError>
+    ensures { (first : R) (rows : List Row) → R.grew first out.old rows
+        → OnOk result (R.grew first out.new (rows ++ (if is_wanted then row_at at.step (reason_row at.number place.now reason.now) ∷ [] else []))) }
+{
+    if !is_wanted {
+        return Ok(());
+    }
+    put_reason(alloc, at, place, reason, out)
+}
+
+/// Puts why a line isn't kept in one place.
+pub(crate) fn put_reasons<R: Rows>(
+    alloc: Global,
+    at: At,
+    place: &Option<Failure>,
+    reasons: &[Reason],
+    out: &mut R,
+) -> Result<(), AllocError>
+    ensures { (first : R) (rows : List Row) → R.grew first out.old rows → OnOk result (R.grew first out.new (rows ++ map (row_at at.step) (reason_rows at.number place.now reasons.now))) }
+{
+    for reason in reasons {
+        put_reason(alloc, at, place, reason, out)?;
+    }
+    Ok(())
+}
+
+/// Puts why the line at a place of the list isn't kept.
+pub(crate) fn put_found<R: Rows>(
+    alloc: Global,
+    at: At,
+    n: usize,
+    found: &[Finding],
+    out: &mut R,
+) -> Result<(), AllocError>
+    ensures { (first : R) (rows : List Row) → R.grew first out.old rows → OnOk result (R.grew first out.new (rows ++ map (row_at at.step) (found_rows at.number (map (found_at n) found.now)))) }
+{
+    for finding in found {
+        put_reasons(alloc, at, &finding.place, finding.reasons_of(n), out)?;
+    }
+    Ok(())
+}

@@ -1,0 +1,20 @@
+//! What is told of a policy's lines and of a change's steps: what a line names that a network hasn't, and the rows of both.
+//!
+//! Rows are told of reasons, whoever found them: nothing is judged here.
+#![tactic(auto)]
+
+mod judgement;
+mod lacking;
+mod once;
+mod promises;
+mod reason;
+mod refused;
+mod steps;
+mod texts;
+mod verified;
+
+pub use judgement::{Finding, Judgement};
+pub use lacking::{has_bridge, has_failure, has_lan, has_port, missing_in};
+pub use once::is_looked_at;
+pub use steps::{breaks, put_front, put_judged, put_start, unkept_count};
+pub use verified::{Verdict, put_verdict};

@@ -1,0 +1,364 @@
+ghost use Rattle.std.specs.Prelude.{◌≡◌, ◌++◌, ◌∷◌, [], List, IfOk, OnOk, length, map};
+ghost use Rattle.std.specs.List.{flat_map};
+ghost use Rattle.mst_policy.specs.declared.policy.PolicyLine.{PolicyLine as LineOf};
+ghost use Rattle.mst_rows.specs.Rows.{Row};
+ghost use Rattle.mst_telling.specs.Judged.{AreTexts, change_at, each_from, found_at, line_rows, told_in};
+ghost use Rattle.mst_telling.specs.Rows.{behind, missing_row, row_at, start_row};
+ghost use Rattle.mst_telling.specs.Steps.{breaks as breaks_of, changes, front_rows, is_broken as is_broken_in, judged_rows, mends, new_fails, new_refused, nothing_rows, start_rows, unkept_count as unkept_in};
+ghost use Rattle.mst_telling.specs.Texts.{news};
+ghost use Rattle.mst_telling.specs.Told.{found_rows, missing_rows, reason_rows, unread_rows};
+
+use crate::judgement::{Finding, Judgement, one_if, put_if};
+use crate::once::add_reasons;
+use crate::reason::{At, reason_text};
+use crate::refused::{missing_text, put_missing, put_unread};
+use crate::texts::Texts;
+use mst_kinds::{Kind, StepLine};
+use mst_policy::PolicyLine;
+use mst_reasons::{Failure, Missing, Reason};
+use mst_rows::{Rows, Value, put};
+use std::alloc::{AllocError, Global};
+
+/// Puts that a policy has no line, if it has none, and answers how many rows that is.
+fn put_nothing<R: Rows>(lines: &[PolicyLine], out: &mut R) -> Result<u64, AllocError>
+    ensures count { IfOk result (λ count. count ≡ length (nothing_rows lines.now)) }
+    ensures put { (first : R) (rows : List Row) → R.grew first out.old rows → OnOk result (R.grew first out.new (rows ++ map (behind 0) (nothing_rows lines.now))) }
+{
+    match lines {
+        [] => {
+            put_missing(
+                At {
+                    step: Some(0),
+                    number: 0,
+                },
+                Missing::Failure,
+                out,
+            )?;
+            Ok(1)
+        }
+        _ => Ok(0),
+    }
+}
+
+/// Puts the lines that can't be read, and answers how many there are.
+fn put_all_unread<R: Rows>(lines: &[PolicyLine], out: &mut R) -> Result<u64, AllocError>
+    ensures count { IfOk result (λ count. count ≡ length (flat_map unread_rows lines.now)) }
+    ensures put { (first : R) (rows : List Row) → R.grew first out.old rows → OnOk result (R.grew first out.new (rows ++ map (behind 0) (flat_map unread_rows lines.now))) }
+{
+    let mut count = 0;
+    for line in lines {
+        let is_unread = put_unread(Some(0), line, out)?;
+        count += one_if(is_unread);
+    }
+    Ok(count)
+}
+
+/// Puts what is told of a policy in front of all steps: that it has no line, or which of its lines can't be read. Answers how many rows
+/// that is. `AllocError`: memory was wanted and refused; some of the rows may have been put.
+pub fn put_front<R: Rows>(lines: &[PolicyLine], out: &mut R) -> Result<u64, AllocError>
+    ensures count { IfOk result (λ count. count ≡ length (front_rows lines.now)) }
+    ensures put { (first : R) (rows : List Row) → R.grew first out.old rows → OnOk result (R.grew first out.new (rows ++ front_rows lines.now)) }
+{
+    let nothing = put_nothing(lines, out)?;
+    let unread = put_all_unread(lines, out)?;
+    Ok(nothing + unread)
+}
+
+/// Adds the line of text of what a line lacks to these, if it lacks something.
+fn add_missing(
+    alloc: Global,
+    number: u64,
+    missing: Option<Missing>,
+    texts: &mut Texts,
+) -> Result<(), AllocError>
+    ensures { (rows : List Row) → AreTexts rows texts.old → OnOk result (AreTexts (rows ++ missing_rows number missing) texts.new) }
+{
+    match missing {
+        None => Ok(()),
+        Some(missing) => texts.add(missing_text(alloc, number, missing)?),
+    }
+}
+
+/// The lines of text of the line at a place of the list.
+fn texts_of(
+    alloc: Global,
+    line: &PolicyLine,
+    n: usize,
+    judgement: &Judgement,
+) -> Result<Texts, AllocError>
+    ensures { IfOk result (AreTexts (line_rows n line.now judgement.now)) }
+{
+    let mut texts = Texts::new(alloc);
+    let missing = judgement.lacks(n);
+    let found = judgement.found.as_slice();
+    add_missing(alloc, line.number, missing, &mut texts)?;
+    add_found(alloc, line.number, n, found, &mut texts)?;
+    Ok(texts)
+}
+
+/// Adds the lines of text of all reasons of the line at a place of the list to these.
+fn add_found(
+    alloc: Global,
+    number: u64,
+    n: usize,
+    found: &[Finding],
+    texts: &mut Texts,
+) -> Result<(), AllocError>
+    ensures { (rows : List Row) → AreTexts rows texts.old → OnOk result (AreTexts (rows ++ found_rows number (map (found_at n) found.now)) texts.new) }
+{
+    for finding in found {
+        add_reasons(alloc, number, &finding.place, finding.reasons_of(n), texts)?;
+    }
+    Ok(())
+}
+
+/// Puts what a line lacks, unless its line of text is among these.
+fn put_missing_unless<R: Rows>(
+    alloc: Global,
+    at: At,
+    missing: Missing,
+    texts: &Texts,
+    out: &mut R,
+) -> Result<(), AllocError>
+    ensures { (those : List Row) → AreTexts those texts.now → (first : R) (rows : List Row) → R.grew first out.old rows
+        → OnOk result (R.grew first out.new (rows ++ map (row_at at.step) (news those (missing_row at.number missing ∷ [])))) }
+{
+    let text = missing_text(alloc, at.number, missing)?;
+    if texts.has(text.as_slice()) {
+        return Ok(());
+    }
+    put_missing(at, missing, out)
+}
+
+/// Puts that a line is refused behind a step, if it is, and the network before doesn't tell so.
+fn put_new_refused<R: Rows>(
+    alloc: Global,
+    step: u64,
+    line: &PolicyLine,
+    n: usize,
+    before: &Judgement,
+    now: &Judgement,
+    out: &mut R,
+) -> Result<(), AllocError>
+    ensures { (first : R) (rows : List Row) → R.grew first out.old rows
+        → OnOk result (R.grew first out.new (rows ++ map (behind step) (new_refused (change_at n line.now before.now now.now)))) }
+{
+    match now.lacks(n) {
+        None => Ok(()),
+        Some(missing) => {
+            let texts = texts_of(alloc, line, n, before)?;
+            let at = At {
+                step: Some(step),
+                number: line.number,
+            };
+            put_missing_unless(alloc, at, missing, &texts, out)
+        }
+    }
+}
+
+/// Puts those reasons in a place whose line of text isn't among these.
+fn put_unless<R: Rows>(
+    alloc: Global,
+    at: At,
+    place: &Option<Failure>,
+    reasons: &[Reason],
+    texts: &Texts,
+    out: &mut R,
+) -> Result<(), AllocError>
+    ensures { (those : List Row) → AreTexts those texts.now → (first : R) (rows : List Row) → R.grew first out.old rows
+        → OnOk result (R.grew first out.new (rows ++ map (row_at at.step) (news those (reason_rows at.number place.now reasons.now)))) }
+{
+    for reason in reasons {
+        let text = reason_text(alloc, at.number, place, reason)?;
+        put_if(alloc, !texts.has(text.as_slice()), at, place, reason, out)?;
+    }
+    Ok(())
+}
+
+/// Puts those of all places.
+fn put_all_unless<R: Rows>(
+    alloc: Global,
+    at: At,
+    found: &[Finding],
+    n: usize,
+    texts: &Texts,
+    out: &mut R,
+) -> Result<(), AllocError>
+    ensures { (those : List Row) → AreTexts those texts.now → (first : R) (rows : List Row) → R.grew first out.old rows
+        → OnOk result (R.grew first out.new (rows ++ map (row_at at.step) (news those (found_rows at.number (map (found_at n) found.now))))) }
+{
+    for finding in found {
+        put_unless(alloc, at, &finding.place, finding.reasons_of(n), texts, out)?;
+    }
+    Ok(())
+}
+
+/// Puts why a line isn't kept behind a step, what the network before doesn't tell.
+fn put_new_fails<R: Rows>(
+    alloc: Global,
+    step: u64,
+    line: &PolicyLine,
+    n: usize,
+    before: &Judgement,
+    now: &Judgement,
+    out: &mut R,
+) -> Result<(), AllocError>
+    ensures { (first : R) (rows : List Row) → R.grew first out.old rows
+        → OnOk result (R.grew first out.new (rows ++ map (behind step) (new_fails (change_at n line.now before.now now.now)))) }
+{
+    let found = now.found.as_slice();
+    let texts = texts_of(alloc, line, n, before)?;
+    let at = At {
+        step: Some(step),
+        number: line.number,
+    };
+    put_all_unless(alloc, at, found, n, &texts, out)
+}
+
+/// Puts that a line is kept again behind a step, if it is.
+fn put_mends<R: Rows>(
+    step: u64,
+    line: &PolicyLine,
+    n: usize,
+    before: &Judgement,
+    now: &Judgement,
+    out: &mut R,
+) -> Result<(), AllocError>
+    ensures { (first : R) (rows : List Row) → R.grew first out.old rows → OnOk result (R.grew first out.new (rows ++ mends step (change_at n line.now before.now now.now))) }
+{
+    if !before.is_unkept(n) || now.is_unkept(n) {
+        return Ok(());
+    }
+    let values = [Value::Number(step), Value::Number(line.number)];
+    put::<R>(Kind::Step(StepLine::Mends), &values, out)
+}
+
+/// Puts which lines are refused behind a step, what the network before doesn't tell.
+fn put_all_refused<R: Rows>(
+    alloc: Global,
+    step: u64,
+    lines: &[PolicyLine],
+    before: &Judgement,
+    now: &Judgement,
+    out: &mut R,
+) -> Result<(), AllocError>
+    ensures { (first : R) (rows : List Row) → R.grew first out.old rows
+        → OnOk result (R.grew first out.new (rows ++ map (behind step) (flat_map new_refused (each_from (λ n line. change_at n line before.now now.now) 0 lines.now)))) }
+{
+    for n in 0..lines.len() {
+        put_new_refused(alloc, step, &lines[n], n, before, now, out)?;
+    }
+    Ok(())
+}
+
+/// Puts why lines aren't kept behind a step, what the network before doesn't tell.
+fn put_all_fails<R: Rows>(
+    alloc: Global,
+    step: u64,
+    lines: &[PolicyLine],
+    before: &Judgement,
+    now: &Judgement,
+    out: &mut R,
+) -> Result<(), AllocError>
+    ensures { (first : R) (rows : List Row) → R.grew first out.old rows
+        → OnOk result (R.grew first out.new (rows ++ map (behind step) (flat_map new_fails (each_from (λ n line. change_at n line before.now now.now) 0 lines.now)))) }
+{
+    for n in 0..lines.len() {
+        put_new_fails(alloc, step, &lines[n], n, before, now, out)?;
+    }
+    Ok(())
+}
+
+/// Puts which lines are kept again behind a step.
+fn put_all_mends<R: Rows>(
+    step: u64,
+    lines: &[PolicyLine],
+    before: &Judgement,
+    now: &Judgement,
+    out: &mut R,
+) -> Result<(), AllocError>
+    ensures { (first : R) (rows : List Row) → R.grew first out.old rows
+        → OnOk result (R.grew first out.new (rows ++ flat_map (mends step) (each_from (λ n line. change_at n line before.now now.now) 0 lines.now))) }
+{
+    for n in 0..lines.len() {
+        put_mends(step, &lines[n], n, before, now, out)?;
+    }
+    Ok(())
+}
+
+/// Puts what is new behind a step of the lines of a policy, by what was judged in the network before it and in this one: those that are
+/// refused, why others aren't kept, and those that are kept again. `AllocError`: memory was wanted and refused; some of the rows may have
+/// been put.
+pub fn put_judged<R: Rows>(
+    alloc: Global,
+    step: u64,
+    lines: &[PolicyLine],
+    before: &Judgement,
+    now: &Judgement,
+    out: &mut R,
+) -> Result<(), AllocError>
+    ensures { (first : R) (rows : List Row) → R.grew first out.old rows
+        → OnOk result (R.grew first out.new (rows ++ judged_rows step (changes lines.now (told_in lines.now before.now) (told_in lines.now now.now)))) }
+{
+    put_all_refused(alloc, step, lines, before, now, out)?;
+    put_all_fails(alloc, step, lines, before, now, out)?;
+    put_all_mends(step, lines, before, now, out)
+}
+
+/// Whether the line at a place of the list is unkept now, and wasn't so before.
+fn is_broken(n: usize, before: &Judgement, now: &Judgement) -> bool
+    ensures { (line : LineOf) → result ≡ is_broken_in (change_at n line before.now now.now) }
+{
+    !before.is_unkept(n) & now.is_unkept(n)
+}
+
+/// Whether some line of a policy is unkept now that wasn't so before.
+pub fn breaks(lines: &[PolicyLine], before: &Judgement, now: &Judgement) -> bool
+    ensures { result ≡ breaks_of (changes lines.now (told_in lines.now before.now) (told_in lines.now now.now)) }
+{
+    let mut is_any = false;
+    for n in 0..lines.len() {
+        is_any |= is_broken(n, before, now);
+    }
+    is_any
+}
+
+/// How many lines of a policy are unkept.
+pub fn unkept_count(lines: &[PolicyLine], judgement: &Judgement) -> u64
+    ensures { result ≡ unkept_in (told_in lines.now judgement.now) }
+{
+    let mut count = 0;
+    for n in 0..lines.len() {
+        let is_unkept = judgement.is_unkept(n);
+        count += one_if(is_unkept);
+    }
+    count
+}
+
+/// Puts how many lines are unkept in front of the first step, and why, if there are some, and answers how many. `AllocError`: memory was
+/// wanted and refused; some of the rows may have been put.
+pub fn put_start<R: Rows>(
+    alloc: Global,
+    lines: &[PolicyLine],
+    now: &Judgement,
+    out: &mut R,
+) -> Result<u64, AllocError>
+    ensures count { IfOk result (λ count. count ≡ unkept_in (told_in lines.now now.now)) }
+    ensures put { (first : R) (rows : List Row) → R.grew first out.old rows → OnOk result (R.grew first out.new (rows ++ start_rows lines.now (told_in lines.now now.now))) }
+{
+    let count = unkept_count(lines, now);
+    if count > 0 {
+        put_start_row(count, out)?;
+        let none = Judgement::none(alloc);
+        put_judged(alloc, 0, lines, &none, now, out)?;
+    }
+    Ok(count)
+}
+
+/// Puts how many lines are unkept.
+fn put_start_row<R: Rows>(count: u64, out: &mut R) -> Result<(), AllocError>
+    ensures { (first : R) (rows : List Row) → R.grew first out.old rows → OnOk result (R.grew first out.new (rows ++ start_row count ∷ [])) }
+{
+    let values = [Value::Number(0), Value::Number(count)];
+    put::<R>(Kind::Step(StepLine::Start), &values, out)
+}

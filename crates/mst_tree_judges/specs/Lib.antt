@@ -1,0 +1,2 @@
+pub use Rattle.mst_judged.specs as judged
+pub mod Seen

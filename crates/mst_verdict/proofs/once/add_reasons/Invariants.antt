@@ -1,9 +1,0 @@
-use Rattle.std.proofs.Common.{◌++◌, List, take}
-use Rattle.mst_rows.specs.Rows.{Row}
-use Rattle.mst_verdict.specs.Judged.{AreTexts}
-use Rattle.mst_verdict.specs.Told.{reason_rows}
-use Rattle.mst_verdict.proofs.once.add_reasons.Given as goal
-
--- the lines of text of the reasons so far
-abbrev pub invariant-loop-reason : goal.invariant-loop-reason
-invariant-loop-reason l = (rows : List Row) → AreTexts rows l.fn.texts → AreTexts (rows ++ reason_rows l.number l.place (take l.reason-index l.reasons)) l.texts

@@ -1,7 +1,0 @@
-use Rattle.std.proofs.Common.{◌≡◌, not, is_some, take}
-use Rattle.mst_verdict.specs.Judged.{network_counts}
-use Rattle.mst_verdict.proofs.promises.networks.Given as goal
-
--- those of the lines so far
-abbrev pub invariant-loop-n : goal.invariant-loop-n
-invariant-loop-n l = l.counts.items ≡ network_counts (take l.n l.lines) l.failures l.judgement

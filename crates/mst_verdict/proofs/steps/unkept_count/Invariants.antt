@@ -1,8 +1,0 @@
-use Rattle.std.proofs.Common.{◌≡◌, ◌≤◌, take}
-use Rattle.mst_verdict.specs.Judged.{told_in}
-use Rattle.mst_verdict.specs.Steps.{unkept_count}
-use Rattle.mst_verdict.proofs.steps.unkept_count.Given as goal
-
--- of the lines so far
-abbrev pub invariant-loop-n : goal.invariant-loop-n
-invariant-loop-n l = record { counted : l.count ≡ unkept_count (told_in (take l.n l.lines) l.judgement); few : l.count ≤ l.n }
