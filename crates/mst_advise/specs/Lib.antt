@@ -1,4 +1,5 @@
 pub use Rattle.mst_explain.specs as explain
+pub use Rattle.mst_sweeping.specs as sweeping
 pub use Rattle.mst_verify.specs as verify
 pub mod Goals
 pub mod Settings

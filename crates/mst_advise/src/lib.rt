@@ -32,6 +32,7 @@ pub use in_question::port_settings;
 pub use mst_explain::{
     Settled, has_tree, laws as explain_laws, put_explanation, put_explanations, trees_laws,
 };
+pub use mst_sweeping::{SweepPart, laws as sweeping_laws, sweep_network, sweep_pairs};
 pub use named::port_named;
 pub use priorities::root_settings;
 pub use setting::{Setting, edit_of};

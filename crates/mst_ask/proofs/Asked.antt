@@ -10,7 +10,7 @@ use Rattle.mst_lang.specs.declared.line.Line.TheVariants.{Blank, Mark, Edit as e
 use Rattle.mst_lang.specs.declared.line.Query.{Query}
 use Rattle.mst_lang.specs.declared.line.Version.{Version}
 use Rattle.mst_net.specs.tables.After.{after}
-use Rattle.mst_questions.specs.words.verdict.Verifying.{Verifies}
+use Rattle.mst_verifying.specs.verdict.Verifying.{Verifies}
 use Rattle.mst_net.specs.tables.Tables.{Net, IsNetwork}
 use Rattle.mst_net.specs.tables.declared.refusal.Refusal.{Refusal}
 use Rattle.mst_questions.specs.tool.engine.Script.{ServesRead, answered as answered_by, marked}
@@ -24,11 +24,11 @@ use Rattle.mst_questions.specs.tool.engine.print.declared.form.Form.{Form}
 use Rattle.mst_questions.specs.tool.engine.print.declared.form.Shape.{Shape}
 use Rattle.mst_rows.specs.Rows.{Row}
 use Rattle.mst_questions.specs.Ask.{is_refused}
-use Rattle.mst_questions.specs.tool.Shown.{verify_row}
+use Rattle.mst_verifying.specs.Verify.{verify_row}
 use Rattle.mst_questions.proofs.EarlyRefusals.{refused_answer}
 use Rattle.mst_questions.proofs.tool_lemmas.Shown.{one_shown}
 use Rattle.mst_questions.proofs.WholeAsk.{OneOfEach, one_answer}
-use Rattle.mst_alters.specs.telling.Verified.{Counts}
+use Rattle.mst_verifying.specs.verdict.telling.Verified.{Counts}
 use Rattle.mst_ask.specs.Requests.{request_of}
 use Rattle.mst_ask.specs.Standing.{Made, Standing, Turn, Asks, AsksBy, AsksLine, IsStanding, answered, back, declined, edited, lacking_of, left_after, passed, starved, stepped, undone, verified}
 use Rattle.mst_ask.specs.declared.request.Request.{Request}

@@ -10,7 +10,7 @@ use Rattle.mst_lang.specs.declared.line.Fault.{Fault}
 use Rattle.mst_lang.specs.declared.line.Fault.TheVariants.{E02}
 use Rattle.mst_lang.specs.declared.line.Line.{Line}
 use Rattle.mst_lang.specs.declared.line.Version.{Version}
-use Rattle.mst_questions.specs.words.verdict.sweep.SweepParts.{PartOf}
+use Rattle.mst_questions.specs.sweep.SweepParts.{PartOf}
 use Rattle.mst_questions.specs.Ask.{dot_question, drawn_of, keeps, pairs_question, part_asked, question_of, sweep_question, vlan_drawn_of, vlan_picture_question}
 use Rattle.mst_questions.specs.Asked.{asked_of, part_value}
 use Rattle.mst_questions.specs.declared.asked.Asked.{Asked}

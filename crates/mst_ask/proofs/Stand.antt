@@ -21,7 +21,7 @@ use Rattle.mst_policy.specs.Lines.{policy_from}
 use Rattle.mst_policy.specs.declared.policy.PolicyLine.{PolicyLine}
 use Rattle.mst_questions.specs.tool.engine.print.Shape.{of_script}
 use Rattle.mst_questions.specs.tool.engine.print.declared.form.Form.{Form}
-use Rattle.mst_questions.specs.tool.Lines.{AreLines}
+use Rattle.mst_verifying.specs.inputs.Lines.{AreLines}
 use Rattle.mst_questions.specs.tool.Load.{LoadsScript}
 use Rattle.mst_ask.specs.Answering.{Answered, AnsweredEnded, PrintsAnswers}
 use Rattle.mst_ask.specs.Asking.{Answers, AnswersEnded, Begins, Stands, loaded_by, opening, standing}

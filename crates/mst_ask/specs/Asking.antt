@@ -12,7 +12,7 @@ use Rattle.mst_io.specs.declared.outcome.Outcome.{Outcome}
 use Rattle.mst_policy.specs.declared.policy.PolicyLine.{PolicyLine}
 use Rattle.mst_questions.specs.tool.engine.print.Shape.{of_script}
 use Rattle.mst_questions.specs.tool.engine.print.declared.form.Form.{Form}
-use Rattle.mst_questions.specs.tool.Lines.{AreLines}
+use Rattle.mst_verifying.specs.inputs.Lines.{AreLines}
 use Rattle.mst_questions.specs.tool.Load.{LoadsEnded, LoadsScript}
 use Rattle.mst_ask.specs.Standing.{Standing, Turn, AsksBy, answers_of, differing_of, done, lacking_of, lacks_of, refusals_of, status_by}
 

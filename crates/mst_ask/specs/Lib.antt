@@ -1,4 +1,4 @@
-pub use Rattle.mst_alters.specs as alters
+pub use Rattle.mst_verifying.specs as verifying
 pub use Rattle.mst_questions.specs as questions
 pub mod Requests
 pub mod Standing

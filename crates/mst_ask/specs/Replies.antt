@@ -6,7 +6,7 @@ use Rattle.mst_questions.specs.tool.engine.print.Shape.{of_script}
 use Rattle.mst_questions.specs.tool.engine.print.declared.form.Form.{Form}
 use Rattle.mst_questions.specs.Ask.{answer_text, told_of}
 use Rattle.mst_questions.specs.declared.asks.Answer.{Answer as ToolAnswer}
-use Rattle.mst_alters.specs.declared.verifies.Verification.{Verification}
+use Rattle.mst_verifying.specs.declared.verifies.Verification.{Verification}
 use Rattle.mst_ask.specs.Standing.{Standing, Turn, done, status_by}
 use Rattle.mst_ask.specs.declared.reply.Reply.{Reply}
 use Rattle.mst_ask.specs.declared.reply.Reply.TheVariants.{Silent, Line, Answer, Undone, Verified}

@@ -22,9 +22,9 @@ use Rattle.mst_questions.specs.tool.engine.print.declared.form.Form.{Form}
 use Rattle.mst_rows.specs.Cells.{number as number_cell, word}
 use Rattle.mst_rows.specs.Rows.{Row, row_of}
 use Rattle.mst_questions.specs.Ask.{IsAnswer, Told, is_refused}
-use Rattle.mst_alters.specs.Verify.{TellsVerification}
+use Rattle.mst_verifying.specs.Verify.{TellsVerification}
 use Rattle.mst_questions.specs.declared.asked.Question.{Question}
-use Rattle.mst_alters.specs.telling.Verified.{Counts}
+use Rattle.mst_verifying.specs.verdict.telling.Verified.{Counts}
 use Rattle.mst_ask.specs.Requests.{request_of}
 use Rattle.mst_ask.specs.declared.request.Request.{Request}
 use Rattle.mst_ask.specs.declared.request.Request.TheVariants.{Script, Word, Undo, Verify}

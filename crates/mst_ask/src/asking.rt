@@ -13,8 +13,9 @@ use crate::reply::{Verdict, put_done};
 use crate::script::{Script, read_script};
 use crate::standing::{Standing, load};
 use mst_io::{Outcome, RunFault, Sink, Source};
+use mst_questions::Form;
 use mst_questions::engine_laws::{has_load, one_load, states};
-use mst_questions::{Form, read_policy};
+use mst_verifying::read_policy;
 use std::alloc::Global;
 
 /// Loads the network of a script, and then answers the questions that the third source gives, each of which is a line, some of them by
@@ -28,7 +29,7 @@ use std::alloc::Global;
 ///   `line N CODE TEXT` says so, by its number among the questions.
 /// * `explain B P`, `explain B P TREE`, `summary`, `sweep`, `sweep K/N`, `sweep pairs`, `sweep pairs K/N`, `dot TREE`: what
 ///   [`mst_questions::Question`] asks, of the network as it stands.
-/// * `verify`: what [`mst_alters::verify`] tells, of the network as it stands by the policy.
+/// * `verify`: what [`mst_verifying::verify`] tells, of the network as it stands by the policy.
 /// * `undo`, `undo N`: the last edit that was made since the script was loaded is taken back, or the last N are, the newest first, with
 ///   a line `undone LINE` for each. The mark stays. Where there are fewer, it is refused as a bad argument.
 ///

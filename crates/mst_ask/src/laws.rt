@@ -16,10 +16,10 @@ use mst_lang::laws::edits_in_range;
 use mst_net::laws::networks;
 use mst_questions::advise_laws::one_advice;
 use mst_questions::engine_laws::states;
+use mst_questions::laws::{one_explanation, one_picture, one_summary, one_vlan_picture};
 use mst_questions::report_laws::{entries_of_network, has_answer, one_answer};
 use mst_questions::sweeping_laws::{pair_parts, sweep_parts};
-use mst_questions::verdict_laws::one_verification;
-use mst_questions::words_laws::{one_explanation, one_picture, one_summary, one_vlan_picture};
+use mst_verifying::verdict_laws::one_verification;
 
 /// Any lines can be asked, the first of any number, whatever network stands.
 pub fn has_turns()

@@ -14,11 +14,10 @@ mod undone;
 mod word;
 
 pub use asking::ask_within;
-pub use mst_alters::{StepsWord, VerifyWord, steps, verify};
 pub use mst_questions::{
-    Between, CheckWord, DiffWord, Form, Question, QuestionWord, RunWord, ask, check, check_within,
-    diff, edits, engine_laws, report_laws, run, run_from, run_within, status,
+    CheckWord, Form, Question, QuestionWord, RunWord, ask, check, check_within, engine_laws,
+    report_laws, run, run_from, run_within, status, trees_laws,
 };
-pub use mst_trees::laws as trees_laws;
+pub use mst_verifying::{VerifyWord, verify};
 pub use request::Request;
 pub use word::AskWord;

@@ -6,10 +6,10 @@ ghost use Rattle.mst_ask.specs.Replies.{body_of, end_of, reply_text, status_of, 
 ghost use Rattle.mst_ask.specs.Standing.{done};
 
 use itoa::Buffer;
-use mst_alters::Verification;
 use mst_drive::Says;
 use mst_io::{Sink, WriteFailed, put, put_parts};
 use mst_questions::{Answer, Form, Input, Reply as LineReply, print, put_answer};
+use mst_verifying::Verification;
 
 /// What a question is answered by.
 #[derive(Drop)]

@@ -25,7 +25,6 @@ use crate::reply::Reply;
 use crate::request::{Request, read_request};
 use crate::script::{Script, next_line};
 use crate::undone::undone_text;
-use mst_alters::verified;
 use mst_io::{Sink, WriteFailed};
 use mst_lang::laws::edits_in_range;
 use mst_lang::{Edit, Fault, Line, Version, parse_line_as};
@@ -37,6 +36,7 @@ use mst_questions::{
     Engine, Form, Input, Planner, Question, Reply as LineReply, Shape, Side, answer_to, print,
     serve,
 };
+use mst_verifying::verified;
 use std::alloc::{AllocError, Global};
 
 /// A planner with the network of a script, a policy by which it is judged, and the edits that were made in it since, of which the last

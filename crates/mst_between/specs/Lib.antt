@@ -1,3 +1,3 @@
-pub use Rattle.mst_diff.specs as diff
 pub mod Differing
 pub mod Editing
+pub mod Diff

@@ -3,8 +3,8 @@ ghost use Rattle.mst_rows.specs.Rows.{Row};
 ghost use Rattle.mst_between.specs.Differing.{Differs};
 
 use mst_diff::{Differing, put_diff};
-use mst_report::Planner;
 use mst_rows::Rows;
+use mst_tool::Planner;
 use std::alloc::AllocError;
 
 /// Puts what the change from this planner's network to another's does, both settled: the rows of what differs, in

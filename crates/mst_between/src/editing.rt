@@ -3,8 +3,8 @@ ghost use Rattle.mst_rows.specs.Rows.{Row};
 ghost use Rattle.mst_between.specs.Editing.{EditsTo};
 
 use mst_edits::put_edits;
-use mst_report::Planner;
 use mst_rows::Rows;
+use mst_tool::Planner;
 use std::alloc::AllocError;
 
 /// Puts the lines of a script of version 2 that make another planner's network of this one's, the line that says the version first, and

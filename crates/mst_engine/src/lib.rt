@@ -11,6 +11,6 @@ pub mod laws;
 mod serving;
 
 pub use engine::{Engine, Input, Reply, print, serve};
-pub use mst_print::{Form, Printer, Shape, Side};
+pub use mst_print::{Form, Printer, Shape, Side, put_unanswered};
 pub use mst_report::{Planner, laws as report_laws};
 pub use serving::{Replied, Serving, serve_input};

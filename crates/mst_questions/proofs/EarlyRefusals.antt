@@ -23,14 +23,14 @@ use Rattle.mst_lag.proofs.Entries.{entries_found}
 use Rattle.mst_lag.proofs.Lists.{all_filtered, all_kept, all_mapped, all_weaker, found_passes, no_some, some_is}
 use Rattle.mst_lag.proofs.Names.{name_is, own_port, same_ports, tied}
 use Rattle.mst_lag.proofs.Sides.{ports_total}
-use Rattle.mst_words.specs.advise.declared.goal.Goal.{Goal}
-use Rattle.mst_words.specs.advise.declared.goal.Goal.TheVariants as goal
-use Rattle.mst_words.specs.Unadvised.{unadvised_of}
-use Rattle.mst_words.specs.Explaining.{has_asked, logical_port_of, unexplained_of}
-use Rattle.mst_words.specs.Explaining as unexplained
-use Rattle.mst_words.specs.declared.explaining.Unexplained.{Unexplained}
-use Rattle.mst_words.specs.declared.explaining.Unexplained.TheVariants.{NoBridge, NoPort, NoTree}
-use Rattle.mst_words.specs.advise.explain.trees.Msti.{has_msti}
+use Rattle.mst_advise.specs.declared.goal.Goal.{Goal}
+use Rattle.mst_advise.specs.declared.goal.Goal.TheVariants as goal
+use Rattle.mst_questions.specs.Unadvised.{unadvised_of}
+use Rattle.mst_questions.specs.Explaining.{has_asked, logical_port_of, unexplained_of}
+use Rattle.mst_questions.specs.Explaining as unexplained
+use Rattle.mst_questions.specs.declared.explaining.Unexplained.{Unexplained}
+use Rattle.mst_questions.specs.declared.explaining.Unexplained.TheVariants.{NoBridge, NoPort, NoTree}
+use Rattle.mst_advise.specs.explain.trees.Msti.{has_msti}
 use Rattle.mst_lang.specs.Faults as fault
 use Rattle.mst_tool.specs.engine.print.declared.form.Form.{Form}
 use Rattle.mst_questions.specs.Ask.{IsAnswer, Told, is_keyless, is_refused, not_given, unadvised_early, unadvised_in, undrawn_in, unexplained_early, unexplained_in}

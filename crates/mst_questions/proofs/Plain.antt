@@ -1,8 +1,8 @@
 -- Why a port isn't explained is told without escapes: by the codes and the texts of refusals, and of a fault.
 use Rattle.mst_net.specs.tables.declared.refusal.Refusal.TheVariants.{E04, E05}
-use Rattle.mst_words.specs.Explaining.{code_of, text_of}
-use Rattle.mst_words.specs.declared.explaining.Unexplained.{Unexplained}
-use Rattle.mst_words.specs.declared.explaining.Unexplained.TheVariants.{NoBridge, NoPort, NoTree}
+use Rattle.mst_questions.specs.Explaining.{code_of, text_of}
+use Rattle.mst_questions.specs.declared.explaining.Unexplained.{Unexplained}
+use Rattle.mst_questions.specs.declared.explaining.Unexplained.TheVariants.{NoBridge, NoPort, NoTree}
 use Rattle.mst_lang.specs.declared.line.Fault.TheVariants.{E03}
 use Rattle.mst_tool.proofs.engine_lemmas.print_lemmas.Plain.{plain_code, plain_text, refusal_code, refusal_text}
 use Rattle.mst_rows.specs.Answers.{IsPlain}

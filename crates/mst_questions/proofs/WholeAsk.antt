@@ -3,19 +3,19 @@ use Rattle.std.proofs.Common.{◌≡◌, ℕ, ◌+◌, Bool, List, Option, None,
 use Rattle.mst_ids.specs.declared.name.PortName.{PortName}
 use Rattle.mst_lang.specs.Lines.{lines_of}
 use Rattle.mst_net.specs.tables.Tables.{Net, IsNetwork}
-use Rattle.mst_words.specs.advise.declared.goal.Goal.{Goal}
-use Rattle.mst_words.specs.advise.Advising.{Advises}
-use Rattle.mst_words.specs.Unadvised.{unadvised_of}
-use Rattle.mst_words.specs.Explaining.{Explains, unexplained_of}
-use Rattle.mst_words.specs.verdict.sweeping.Pairing.{SweepsPairs}
-use Rattle.mst_words.specs.Picturing.{Depicts, DepictsVlan}
+use Rattle.mst_advise.specs.declared.goal.Goal.{Goal}
+use Rattle.mst_advise.specs.Advising.{Advises}
+use Rattle.mst_questions.specs.Unadvised.{unadvised_of}
+use Rattle.mst_questions.specs.Explaining.{Explains, unexplained_of}
+use Rattle.mst_advise.specs.sweeping.Pairing.{SweepsPairs}
+use Rattle.mst_questions.specs.Picturing.{Depicts, DepictsVlan}
 use Rattle.mst_tool.specs.engine.report.State.{State, empty_state}
-use Rattle.mst_words.specs.Summarizing.{Summarizes}
-use Rattle.mst_words.specs.verdict.sweeping.Sweeping.{SweepsPart}
-use Rattle.mst_words.specs.advise.declared.advising.Advised.{Advised}
-use Rattle.mst_words.specs.declared.explaining.Unexplained.{Unexplained}
-use Rattle.mst_words.specs.verdict.sweep.SweepParts.{PartOf}
-use Rattle.mst_words.specs.Explaining as unexplained
+use Rattle.mst_questions.specs.Summarizing.{Summarizes}
+use Rattle.mst_advise.specs.sweeping.Sweeping.{SweepsPart}
+use Rattle.mst_advise.specs.declared.advising.Advised.{Advised}
+use Rattle.mst_questions.specs.declared.explaining.Unexplained.{Unexplained}
+use Rattle.mst_advise.specs.sweeping.sweep.SweepParts.{PartOf}
+use Rattle.mst_questions.specs.Explaining as unexplained
 use Rattle.mst_rows.specs.Rows.{Row}
 use Rattle.mst_questions.specs.Ask.{Told, advised, given, is_nothing, not_given, swept, unadvised_in, unexplained_in, Tells, TellsAdvice, IsAnswer, Asks, counted_with}
 use Rattle.mst_questions.specs.Shown.{advice_row, explain_row, pairs_row, summary_row, sweep_row}

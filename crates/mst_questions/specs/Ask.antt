@@ -10,24 +10,24 @@ use Rattle.mst_lang.specs.Faults as fault
 use Rattle.mst_lang.specs.Lines.{lines_of}
 use Rattle.mst_lang.specs.declared.line.Fault.{Fault}
 use Rattle.mst_kinds.specs.declared.refusal_line.RefusalLine.TheVariants as refusal
-use Rattle.mst_words.specs.advise.declared.goal.Goal.{Goal}
-use Rattle.mst_words.specs.advise.declared.goal.Goal.TheVariants as goal
+use Rattle.mst_advise.specs.declared.goal.Goal.{Goal}
+use Rattle.mst_advise.specs.declared.goal.Goal.TheVariants as goal
 use Rattle.mst_net.specs.tables.After.{has_bridge, is_plugged}
 use Rattle.mst_net.specs.tables.Tables.{Net}
-use Rattle.mst_words.specs.advise.Advising.{Advises}
-use Rattle.mst_words.specs.Unadvised.{unadvised_of, unrooted_of}
-use Rattle.mst_words.specs.Explaining.{Explains, has_asked, unexplained_of}
-use Rattle.mst_words.specs.Explaining as unexplained
-use Rattle.mst_words.specs.Picturing.{Depicts, DepictsVlan}
+use Rattle.mst_advise.specs.Advising.{Advises}
+use Rattle.mst_questions.specs.Unadvised.{unadvised_of, unrooted_of}
+use Rattle.mst_questions.specs.Explaining.{Explains, has_asked, unexplained_of}
+use Rattle.mst_questions.specs.Explaining as unexplained
+use Rattle.mst_questions.specs.Picturing.{Depicts, DepictsVlan}
 use Rattle.mst_tool.specs.engine.report.State.{empty_state}
-use Rattle.mst_words.specs.Summarizing.{Summarizes}
-use Rattle.mst_words.specs.verdict.sweeping.Pairing.{SweepsPairs}
-use Rattle.mst_words.specs.verdict.sweeping.Sweeping.{SweepsPart}
-use Rattle.mst_words.specs.verdict.sweep.SweepParts.{whole_part}
-use Rattle.mst_words.specs.advise.declared.advising.Advised.{Advised as WhatIsAdvised}
-use Rattle.mst_words.specs.advise.declared.advising.Advised.TheVariants.{Already, Edits, Nothing}
-use Rattle.mst_words.specs.declared.explaining.Unexplained.{Unexplained}
-use Rattle.mst_words.specs.declared.explaining.Unexplained.TheVariants.{NoBridge, NoPort, NoTree}
+use Rattle.mst_questions.specs.Summarizing.{Summarizes}
+use Rattle.mst_advise.specs.sweeping.Pairing.{SweepsPairs}
+use Rattle.mst_advise.specs.sweeping.Sweeping.{SweepsPart}
+use Rattle.mst_advise.specs.sweeping.sweep.SweepParts.{whole_part}
+use Rattle.mst_advise.specs.declared.advising.Advised.{Advised as WhatIsAdvised}
+use Rattle.mst_advise.specs.declared.advising.Advised.TheVariants.{Already, Edits, Nothing}
+use Rattle.mst_questions.specs.declared.explaining.Unexplained.{Unexplained}
+use Rattle.mst_questions.specs.declared.explaining.Unexplained.TheVariants.{NoBridge, NoPort, NoTree}
 use Rattle.mst_questions.specs.Asked.{asked_of, forward_of, part_value, root_of}
 use Rattle.mst_tool.specs.Load.{LoadsEnded, LoadsScript}
 use Rattle.mst_tool.specs.Shown.{IsShown}

@@ -3,9 +3,9 @@ use Rattle.std.specs.Prelude.{ℕ, ◌+◌, ◌==◌, List, take, drop, position
 use Rattle.std.specs.Option.{option_map, option_and_then}
 use Rattle.mst_lang.specs.Arguments.{name, number_value, port_number, tree}
 use Rattle.mst_lang.specs.declared.line.Fault.{Fault}
-use Rattle.mst_words.specs.advise.declared.goal.Goal.{Goal}
-use Rattle.mst_words.specs.advise.declared.goal.Goal.TheVariants as goal
-use Rattle.mst_words.specs.verdict.sweep.SweepParts.{PartOf, part_at}
+use Rattle.mst_advise.specs.declared.goal.Goal.{Goal}
+use Rattle.mst_advise.specs.declared.goal.Goal.TheVariants as goal
+use Rattle.mst_advise.specs.sweeping.sweep.SweepParts.{PartOf, part_at}
 use Rattle.mst_questions.specs.declared.asked.Asked.{Asked}
 
 -- the tree that a word stands for in a script, if there is a word

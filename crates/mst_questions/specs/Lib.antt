@@ -1,5 +1,9 @@
+pub use Rattle.mst_advise.specs.sweeping.sweep as sweep
 pub use Rattle.mst_tool.specs as tool
-pub use Rattle.mst_words.specs as words
 pub mod Asked
 pub mod Ask
 pub mod Shown
+pub mod Explaining
+pub mod Unadvised
+pub mod Summarizing
+pub mod Picturing

@@ -2,9 +2,9 @@
 use Rattle.std.specs.Prelude.{◌==◌, ℕ, List, [], ◌∷◌, Option, None, Some, if◌then◌else◌}
 use Rattle.mst_ids.specs.declared.name.PortName.{PortName}
 use Rattle.mst_kinds.specs.declared.query.Query.TheVariants.{Explain, ExplainIn, Sweep, SweepPart, SweepPairs, SweepPairsPart, Summary, AdviseRoot, AdviseForward}
-use Rattle.mst_words.specs.advise.declared.goal.Goal.{Goal}
-use Rattle.mst_words.specs.advise.declared.goal.Goal.TheVariants.{Root, Forward}
-use Rattle.mst_words.specs.verdict.sweep.SweepParts.{PartOf}
+use Rattle.mst_advise.specs.declared.goal.Goal.{Goal}
+use Rattle.mst_advise.specs.declared.goal.Goal.TheVariants.{Root, Forward}
+use Rattle.mst_advise.specs.sweeping.sweep.SweepParts.{PartOf}
 use Rattle.mst_rows.specs.Cells.{Cell, number, word}
 use Rattle.mst_rows.specs.Rows.{Row}
 use Rattle.mst_questions.specs.declared.asked.Asked.{Asked}

@@ -4,9 +4,9 @@ ghost use Rattle.mst_lang.specs.Arguments as arguments;
 ghost use Rattle.mst_questions.specs.Ask.{advice_question, dot_question, explain_question, pairs_question, picture_question, sweep_by_word, sweep_question, vlan_picture_question, wanted_of};
 ghost use Rattle.mst_questions.specs.Asked.{asked_of, asked_tree, forward_of, halves_of, part_value, root_of};
 
+use mst_advise::{Goal, SweepPart};
 use mst_ids::{PortName, Tree, Vid};
 use mst_lang::{Fault, name, parse_number, port_number, tree};
-use mst_words::{Goal, SweepPart};
 
 /// What is asked of the network that a script leaves.
 #[derive(Clone, Copy)]

@@ -3,7 +3,7 @@ ghost use Rattle.std.specs.Io.KnownBytes.{Appends};
 ghost use Rattle.mst_drive.specs.Turned.{Turned, turning};
 ghost use Rattle.mst_drive.specs.Words.{Ended, HasTold, one_input};
 ghost use Rattle.mst_tool.specs.engine.Served.{IsFew};
-ghost use Rattle.mst_words.specs.Picturing.{Depicts, DepictsVlan};
+ghost use Rattle.mst_questions.specs.Picturing.{Depicts, DepictsVlan};
 ghost use Rattle.mst_tool.specs.engine.report.Planned.{planned_state};
 ghost use Rattle.mst_io.specs.Devices.{HearsWhere, Works, IsStopped, seen_by, stopped_by};
 ghost use Rattle.mst_io.specs.Written.{AppendsFront};
@@ -12,9 +12,19 @@ ghost use Rattle.mst_tool.specs.Load.{LoadsEnded};
 ghost use Rattle.mst_questions.specs.Ask.{IsAnswer, answer_text, asking, counted_with, is_nothing as none_advised, is_refused, keeps, told_of, unadvised_early, unexplained_early};
 ghost use Rattle.mst_questions.specs.declared.asked.Question.TheVariants.{Advice, Explain};
 
+use crate::advising::put_advice;
 use crate::asked::{Asked, Question};
 use crate::early::{why_unadvised, why_unexplained};
+use crate::explaining::{Unexplained, put_explanation_of, unexplained_in};
+use crate::laws::{one_explanation, one_picture, one_summary, one_vlan_picture};
 use crate::opened::{open_advice, open_explanation, open_pairs, open_sweep};
+use crate::picturing::{picture_of, vlan_picture_of};
+use crate::summarizing::put_summary_of;
+use crate::sweeping::{put_pairs, put_sweep};
+use crate::unadvised::unadvised_in;
+use mst_advise::laws::one_advice;
+use mst_advise::sweeping_laws::{pair_parts, sweep_parts};
+use mst_advise::{Advised, Goal, SweepPart};
 use mst_drive::Word;
 use mst_ids::{Tree, Vid};
 use mst_io::{FromRead, Outcome, RunFault, Sink, Source, TURNS, ToWrite, WriteFailed, put};
@@ -22,13 +32,6 @@ use mst_kinds::{Query, RefusalLine};
 use mst_lang::Fault;
 use mst_tool::laws::{one_load, states};
 use mst_tool::{Form, Input, Planner, Shape, Side, open_question, put_unanswered, serve_first};
-use mst_words::advise_laws::one_advice;
-use mst_words::laws::{one_explanation, one_picture, one_summary, one_vlan_picture};
-use mst_words::sweeping_laws::{pair_parts, sweep_parts};
-use mst_words::{
-    Advised, Goal, SweepPart, Unexplained, picture_of, put_advice, put_explanation_of, put_pairs,
-    put_summary_of, put_sweep, unadvised_in, unexplained_in, vlan_picture_of,
-};
 use std::alloc::{AllocError, Global};
 use std::io::{Read, Write};
 

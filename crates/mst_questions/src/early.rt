@@ -1,13 +1,14 @@
 ghost use Rattle.std.specs.Prelude.{◌≡◌, ◌==◌, ◌&&◌, ◌≤◌, not, if◌then◌else◌, Some, None};
-ghost use Rattle.mst_words.specs.Unadvised.{unrooted_of};
-ghost use Rattle.mst_words.specs.Explaining.{has_asked, has_tree as has_tree_in};
-ghost use Rattle.mst_words.specs.advise.explain.trees.Msti.{has_msti as has_msti_in};
+ghost use Rattle.mst_questions.specs.Unadvised.{unrooted_of};
+ghost use Rattle.mst_questions.specs.Explaining.{has_asked, has_tree as has_tree_in};
+ghost use Rattle.mst_advise.specs.explain.trees.Msti.{has_msti as has_msti_in};
 ghost use Rattle.mst_questions.specs.Ask.{unadvised_early, unexplained_early};
 
+use crate::explaining::Unexplained;
+use mst_advise::Goal;
 use mst_ids::{Name, PortName, Tree};
 use mst_lang::Kind;
 use mst_net::{Contents, Network, Port};
-use mst_words::{Goal, Unexplained};
 
 /// Why a port isn't explained, as far as the network's tables tell it, if they do: there is no bridge of that name, no port of it that
 /// is in a LAN, or the port has no key and its bridge doesn't have the tree. It takes no memory.

@@ -4,10 +4,10 @@ ghost use Rattle.mst_questions.specs.Shown.{advice_row, explain_row, pairs_row, 
 ghost use Rattle.mst_tool.specs.Shown.{question_row};
 
 use crate::asked::Asked;
+use mst_advise::{Goal, SweepPart};
 use mst_kinds::{Kind, Query};
 use mst_rows::Value;
 use mst_tool::{Form, Printer, open_question};
-use mst_words::{Goal, SweepPart};
 use std::alloc::{AllocError, Global};
 
 /// A printer of what explains a port.

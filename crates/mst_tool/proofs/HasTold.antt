@@ -9,14 +9,11 @@ use Rattle.mst_engine.specs.declared.engine.Input.{Input}
 use Rattle.mst_engine.specs.declared.engine.Input.TheVariants.{Captures, Network, Script}
 use Rattle.mst_engine.specs.report.State.{State, empty_state}
 use Rattle.mst_io.specs.Devices.{HearsWhere, Seen}
-use Rattle.mst_engine.specs.print.Shape.{of_new, of_old}
 use Rattle.mst_engine.specs.print.declared.form.Form.{Form}
 use Rattle.mst_engine.specs.print.declared.form.Shape.{Shape}
 use Rattle.mst_tool.specs.Check.{ComparesEnded}
-use Rattle.mst_tool.specs.Diff.{LoadsNewEnded}
 use Rattle.mst_tool.specs.Load.{LoadsEnded, LoadsScript, ScriptEnded}
 use Rattle.mst_tool.proofs.WholeCheck.{OneComparison, OneRun, States, compares_ended, prints_ended}
-use Rattle.mst_tool.proofs.WholeDiff.{new_loads_ended}
 use Rattle.mst_tool.proofs.WholeLoad.{OneLoad, loads_ended, loads_script}
 
 -- of a script what its lines print
@@ -39,12 +36,6 @@ module _ {S : Type 0} (does : S → S → List ℕ → Seen → Type 0) (remaini
     none_behind one shape scripts from now went calls =
         told_behind does remaining before Unwritten (λ left. LoadsScript shape scripts) mid went.0 from now turns sources turned went.2
         (λ left more none. subst (LoadsScript shape scripts) (sym (ap (λ m. went.0 ++ m) none ∙ append-nil went.0)) (loads_script one shape scripts went.0 (t, went.1))) calls
-
-    -- or a new script
-    pub new_behind : OneLoad → (form : Form) (olds news : Option (List ℕ)) (from now : S) → Wrote before.bytes mid.bytes (λ text. Served (Network (of_old form)) empty_state olds text t)
-        → HearsWhere does (HasTold (LoadsEnded (of_new form) news) remaining mid) from now → HearsWhere does (HasTold (LoadsNewEnded form olds news) remaining before) from now
-    new_behind one form olds news from now went calls =
-        told_behind does remaining before (LoadsEnded (of_new form) news) (LoadsNewEnded form olds news) mid went.0 from now turns sources turned went.2 (λ left more h. new_loads_ended one form olds news left went.0 more t went.1 h) calls
 
     -- or captures
     pub captures_behind : OneRun → OneComparison → States → (form : Form) (scripts captures : Option (List ℕ)) (state : State) → state ≡ t.state → (from now : S) → Wrote before.bytes mid.bytes (λ text. Served (Script form) empty_state scripts text t)

@@ -3,5 +3,3 @@ pub mod Run
 pub mod Check
 pub mod Load
 pub mod Shown
-pub mod Diff
-pub mod Lines

@@ -1,8 +1,7 @@
 -- What is printed of a question of the command line, and the question as a row.
-use Rattle.std.specs.Prelude.{◌≡◌, ℕ, List, [], None}
+use Rattle.std.specs.Prelude.{◌≡◌, ℕ, List, None}
 use Rattle.mst_kinds.specs.declared.kind.Kind.TheVariants.{Query as OfQuery}
 use Rattle.mst_kinds.specs.declared.query.Query.{Query}
-use Rattle.mst_kinds.specs.declared.query.Query.TheVariants.{Diff, Verify, Steps, Edits}
 use Rattle.mst_engine.specs.print.Shape.{shown}
 use Rattle.mst_engine.specs.print.declared.form.Form.{Form}
 use Rattle.mst_rows.specs.Cells.{Cell}
@@ -15,15 +14,3 @@ IsShown form question Answers printed = (rows : List Row) × Answers rows × (pr
 -- a question with its words
 abbrev pub question_row : Query → List Cell → Row
 question_row question words = row_of (OfQuery question) words
-
-abbrev pub diff_row : Row
-diff_row = question_row Diff []
-
-abbrev pub verify_row : Row
-verify_row = question_row Verify []
-
-abbrev pub edits_row : Row
-edits_row = question_row Edits []
-
-abbrev pub steps_row : Row
-steps_row = question_row Steps []

@@ -12,7 +12,7 @@ mod setting;
 mod stepping;
 mod verifying;
 
-pub use mst_sweeping::{SweepPart, laws as sweeping_laws, sweep_network, sweep_pairs};
+pub use mst_sweeping::laws as sweeping_laws;
 pub use mst_telling::Verdict;
 pub use mst_verify::laws as verify_laws;
 pub use stepping::{Course, step_network};

@@ -2,12 +2,12 @@
 use Rattle.std.specs.Prelude.{◌≡◌, ℕ, Bool, true, List, drop, length, is_some, Option, Some, None, Result, Ok, Err, IfOk, IfErr, IsErrAnd}
 use Rattle.std.specs.Borrow.{Bor}
 use Rattle.mst_ask.specs.Asking.{standing}
-use Rattle.mst_ask.specs.alters.Alter.{altering}
+use Rattle.mst_altering.specs.Alter.{altering}
 use Rattle.mst_ask.specs.questions.Ask.{asking}
 use Rattle.mst_ask.specs.questions.tool.Check.{checking}
-use Rattle.mst_ask.specs.questions.tool.Diff.{differing}
+use Rattle.mst_between.specs.Diff.{differing}
 use Rattle.mst_ask.specs.questions.tool.Run.{running}
-use Rattle.mst_ask.specs.alters.Verify.{verifying}
+use Rattle.mst_ask.specs.verifying.Verify.{verifying}
 use Rattle.mst_ask.specs.questions.declared.asked.Question.{Question}
 use Rattle.mst_ask.specs.questions.tool.engine.print.declared.form.Form.{Form}
 use Rattle.mst_io.specs.Devices.{Seen}
@@ -18,7 +18,7 @@ use Rattle.mst_command.specs.declared.words.Asked.{Asked}
 use Rattle.mst_command.specs.declared.words.Behind.{Behind}
 use Rattle.mst_command.specs.declared.table.Verb.{Verb}
 use Rattle.mst_command.specs.declared.table.Verb.TheVariants.{Run, Check, Explain, Diff, Sweep, Summary, Dot, Ask, Verify, Edits, Steps, Advise}
-use Rattle.mst_ask.specs.questions.tool.declared.diffs.Between.TheVariants.{Plans, Settings}
+use Rattle.mst_between.specs.declared.diffs.Between.TheVariants.{Plans, Settings}
 use Rattle.mst_command.specs.declared.flags.Flags.{Flags}
 use Rattle.mstplan.specs.declared.piped.Piped.{Piped}
 use Rattle.mst_command.specs.frame.declared.sources.Unopened.{Unopened as Why}

@@ -14,7 +14,8 @@ use crate::serving::{
     verify_script,
 };
 use crate::words::{asked_for, question_of};
-use mst_ask::{Between, Question};
+use mst_ask::Question;
+use mst_between::Between;
 use mst_command::{Asked, Flags, Parted, Ran, Sources, Stop, Verb};
 use mst_io::Sink;
 use std::alloc::Global;

@@ -3,20 +3,20 @@ ghost use Rattle.mst_io.specs.Devices.{seen_by};
 ghost use Rattle.mst_command.specs.frame.Hinted.{Fit};
 ghost use Rattle.mst_command.specs.frame.Named.{word_of};
 ghost use Rattle.mst_command.specs.frame.Served.{outputs};
-ghost use Rattle.mst_ask.specs.alters.Alter.{altering};
+ghost use Rattle.mst_altering.specs.Alter.{altering};
 ghost use Rattle.mst_ask.specs.questions.Ask.{asking};
 ghost use Rattle.mst_ask.specs.questions.tool.Check.{checking};
-ghost use Rattle.mst_ask.specs.questions.tool.Diff.{differing};
+ghost use Rattle.mst_between.specs.Diff.{differing};
 ghost use Rattle.mst_ask.specs.questions.tool.Run.{running};
-ghost use Rattle.mst_ask.specs.alters.Verify.{verifying};
+ghost use Rattle.mst_ask.specs.verifying.Verify.{verifying};
 ghost use Rattle.mst_ask.specs.Asking.{standing};
 ghost use Rattle.mst_command.specs.Flags.{form_of};
 ghost use Rattle.mstplan.specs.Serving.{IsWhyUnread, ServesWord, policy_if, scripts};
 
 use crate::endings::stop_unserved;
-use mst_ask::{
-    AskWord, Between, CheckWord, DiffWord, Question, QuestionWord, RunWord, StepsWord, VerifyWord,
-};
+use mst_altering::StepsWord;
+use mst_ask::{AskWord, CheckWord, Question, QuestionWord, RunWord, VerifyWord};
+use mst_between::{Between, DiffWord};
 use mst_command::{Flags, Names, Ran, Script, Scripts, Sources, Stop, serve_named};
 use mst_drive::Word;
 use mst_io::Sink;

@@ -1,7 +1,9 @@
 //! Each call once, and with devices that fail at each byte.
 
 use super::counts;
-use mst_ask::{Form, Question, ask, ask_within, check, diff, edits, run, steps, verify};
+use mst_altering::steps;
+use mst_ask::{Form, Question, ask, ask_within, check, run, verify};
+use mst_between::{diff, edits};
 use mst_io::{FromRead, Outcome, RunFault, TURNS, ToWrite};
 use mst_trials::{Sink, Source};
 use std::alloc::Global;

@@ -1,7 +1,7 @@
 use Rattle.std.proofs.Common.{subst}
 use Rattle.std.specs.Prelude.{IfOk}
 use Rattle.mst_net.specs.tables.Contents.{Contents}
-use Rattle.mst_words.specs.Picturing.{DepictsVlan}
+use Rattle.mst_questions.specs.Picturing.{DepictsVlan}
 use Rattle.mst_questions.proofs.asks.depicted_vlan.Goals as goal
 
 pub returns-clause-picture : goal.returns-clause-picture

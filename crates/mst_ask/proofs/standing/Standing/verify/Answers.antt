@@ -1,6 +1,6 @@
 use Rattle.std.proofs.Common.{ap, inl}
 use Rattle.mst_questions.specs.tool.engine.report.State.{State}
-use Rattle.mst_alters.specs.Verify.{counts_of}
+use Rattle.mst_verifying.specs.Verify.{counts_of}
 use Rattle.mst_ask.specs.Kept.{standing_of}
 use Rattle.mst_ask.specs.Replies.{replied}
 use Rattle.mst_ask.specs.declared.reply.Reply.TheVariants.{Verified}

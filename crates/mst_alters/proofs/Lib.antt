@@ -1,2 +1,0 @@
-pub mod WholeAlter
-pub mod WholeVerify

@@ -1,0 +1,2 @@
+pub mod WholeDiff
+pub mod NewTold

@@ -1,0 +1,3 @@
+pub mod LinesTaken
+pub mod PolicyLines
+pub mod ChangeLines

@@ -1,0 +1,3 @@
+pub use Rattle.mst_inputs.specs as inputs
+pub use Rattle.mst_verdict.specs as verdict
+pub mod Verify
