@@ -1,0 +1,83 @@
+#!/usr/bin/env python3
+"""Looks for what the pages name of the crates: each file stands in the crate that is named before it, and each item is one of its crate.
+
+usage: places.py
+
+In README.md and docs/*.md a crate is named in backticks, and files of it behind that: `mst_lag`: `specs/View.antt`, `Aggregation.antt`,
+`src/view.rt`, in one paragraph or row. A file with no folder lies in the folder of the file before it. An item is named with its crate: `mst_lag::view`,
+`mst_plan::laws::bounds`, `mst_lag/specs/View.antt`. A list of what must be believed (docs/READING.md) is checked by docs/reading.py.
+The status is 1 where something isn't there, with a line for each fault.
+"""
+
+import functools
+import glob
+import os
+import re
+import sys
+
+TOP = os.path.join(os.path.dirname(os.path.abspath(__file__)), os.pardir)
+CODE = re.compile(r"`([^`\n]+)`")
+CRATE = re.compile(r"mst_\w+|mstplan")
+FILE = re.compile(r"(?:(specs|src|proofs)/)?((?:[\w-]+/)*[\w-]+\.(?:antt|rt))")
+PATH = re.compile(r"(mst_\w+|mstplan)((?:::\w+)+)")
+INSIDE = re.compile(r"(mst_\w+|mstplan)/((?:specs|src|proofs|must-fail)(?:/[\w./-]*)?)")
+
+
+def crates():
+    with open(os.path.join(TOP, "crates.txt"), encoding="utf-8") as file:
+        return {line.split(":")[0] for line in file if ":" in line and not line.startswith("#")}
+
+
+@functools.cache
+def items(crate):
+    """The names of a crate: what its code defines or gives on, its modules and its variants."""
+    found = set()
+    for path in glob.glob(f"{TOP}/crates/{crate}/src/**/*.rt", recursive=True):
+        with open(path, encoding="utf-8") as file:
+            text = file.read()
+        found |= set(re.findall(r"\b(?:fn|struct|enum|trait|mod|const|type)\s+(\w+)", text))
+        found |= {name for used in re.findall(r"pub use ([^;]+);", text) for name in re.findall(r"\w+", used)}
+        found |= set(re.findall(r"(?m)^    (\w+)[,({ ]", text))
+    return found
+
+
+def faults_of(name, text, known):
+    crate, folder, behind = None, "", 0
+    for found in CODE.finditer(text):
+        code, line = found.group(1), text.count("\n", 0, found.start()) + 1
+        if re.search(r"\n\n|\n[|-] ?", text[behind : found.start()]):
+            crate, folder = None, ""
+        behind = found.end()
+        said, where = PATH.fullmatch(code), INSIDE.fullmatch(code)
+        if CRATE.fullmatch(code):
+            crate, folder = code, ""
+        elif said:
+            crate = said.group(1)
+            lost = [it for it in said.group(2).split("::")[1:] if crate in known and it not in items(crate)]
+            if lost:
+                yield f"{name}:{line}: {crate} has no {lost[0]} ({code})"
+        elif where:
+            crate = where.group(1)
+            if not os.path.exists(f"{TOP}/crates/{code}"):
+                yield f"{name}:{line}: there is no crates/{code}"
+        elif FILE.fullmatch(code) and crate:
+            folder = FILE.fullmatch(code).group(1) or folder
+            if folder and not os.path.exists(f"{TOP}/crates/{crate}/{folder}/{FILE.fullmatch(code).group(2)}"):
+                yield f"{name}:{line}: {crate} has no {folder}/{FILE.fullmatch(code).group(2)}"
+        if crate and crate not in known and (CRATE.fullmatch(code) or said or where):
+            yield f"{name}:{line}: there is no crate {crate}"
+
+
+def main():
+    known = crates()
+    pages = ["README.md", *sorted(f"docs/{it}" for it in os.listdir(f"{TOP}/docs") if it.endswith(".md"))]
+    found = []
+    for name in pages:
+        with open(os.path.join(TOP, name), encoding="utf-8") as file:
+            found += faults_of(name, file.read(), known)
+    print("\n".join(found) if found else f"{len(pages)} pages name what is there")
+    return 1 if found else 0
+
+
+if __name__ == "__main__":
+    sys.exit(main())
