@@ -20,7 +20,7 @@ CODE = re.compile(r"`([^`\n]+)`")
 CRATE = re.compile(r"mst_\w+|mstplan")
 FILE = re.compile(r"(?:(specs|src|proofs)/)?((?:[\w-]+/)*[\w-]+\.(?:antt|rt))")
 PATH = re.compile(r"(mst_\w+|mstplan)((?:::\w+)+)")
-INSIDE = re.compile(r"(mst_\w+|mstplan)/((?:specs|src|proofs|must-fail)(?:/[\w./-]*)?)")
+INSIDE = re.compile(r"(?:crates/)?(mst_\w+|mstplan)/((?:specs|src|proofs|must-fail)(?:/[\w./-]*)?)")
 
 
 def crates():
@@ -41,6 +41,11 @@ def items(crate):
     return found
 
 
+def has_file(crate, folder, file):
+    """Whether a file lies in a folder of a crate, or in its modules' tests."""
+    return any(os.path.exists(f"{TOP}/crates/{crate}/{folder}/{it}{file}") for it in ("", "tests/"))
+
+
 def faults_of(name, text, known):
     crate, folder, behind = None, "", 0
     for found in CODE.finditer(text):
@@ -57,14 +62,14 @@ def faults_of(name, text, known):
             if lost:
                 yield f"{name}:{line}: {crate} has no {lost[0]} ({code})"
         elif where:
-            crate = where.group(1)
-            if not os.path.exists(f"{TOP}/crates/{code}"):
-                yield f"{name}:{line}: there is no crates/{code}"
+            crate, folder = where.group(1), where.group(2).split("/")[0]
+            if not os.path.exists(f"{TOP}/crates/{crate}/{where.group(2)}"):
+                yield f"{name}:{line}: there is no crates/{crate}/{where.group(2)}"
         elif FILE.fullmatch(code) and crate:
-            folder = FILE.fullmatch(code).group(1) or folder
-            if folder and not os.path.exists(f"{TOP}/crates/{crate}/{folder}/{FILE.fullmatch(code).group(2)}"):
+            folder = FILE.fullmatch(code).group(1) or ("src" if code.endswith(".rt") else folder)
+            if folder and not has_file(crate, folder, FILE.fullmatch(code).group(2)):
                 yield f"{name}:{line}: {crate} has no {folder}/{FILE.fullmatch(code).group(2)}"
-        if crate and crate not in known and (CRATE.fullmatch(code) or said or where):
+        if crate and crate not in known and (CRATE.fullmatch(code) or said or where) and not any(crate in items(it) for it in known):
             yield f"{name}:{line}: there is no crate {crate}"
 
 

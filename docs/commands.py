@@ -1,6 +1,6 @@
 #!/usr/bin/env python3
 """Compares where the commands of scripts are told with the table of them (crates/mst_lang/src/form.rt): the page at the end of
-`mstplan --help` (crates/mstplan/src/page.rt), whose lines are made of the table, and docs/RULES.md, which tells each of them.
+`mstplan --help` (crates/mst_command/src/page.rt), whose lines are made of the table, and docs/RULES.md, which tells each of them.
 
 usage: commands.py --check     (the status is 1 where something differs, with a line for each difference)
        commands.py --update    (writes the page's lines anew, in their order; new ones stand behind the one before them in the table)
@@ -12,7 +12,7 @@ import sys
 
 TOP = os.path.join(os.path.dirname(os.path.abspath(__file__)), os.pardir)
 TABLE = os.path.join(TOP, "crates", "mst_lang", "src", "form.rt")
-PAGE = os.path.join(TOP, "crates", "mstplan", "src", "page.rt")
+PAGE = os.path.join(TOP, "crates", "mst_command", "src", "page.rt")
 RULES = os.path.join(TOP, "docs", "RULES.md")
 FIRST = "Commands of a script, one a line (a line that begins with # is a comment):\n"
 

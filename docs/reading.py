@@ -21,10 +21,10 @@ import sys
 
 TOP = os.path.join(os.path.dirname(os.path.abspath(__file__)), os.pardir, "crates")
 CALLS = ["mst_tool::runs::run", "mst_tool::checks::check", "mst_vlan::topology::active_ports/named", "mst_vlan::topology::active_ports/joined"]
-ASKED = ["mst_tool::asks::ask", "mst_tool::diffs::diff"]
+ASKED = ["mst_questions::asks::ask", "mst_between::diffs::diff"]
 STANDING = ["mst_ask::asking::ask_within/ended"]
-VERIFIED = ["mst_tool::verifies::verify"]
-ALTERED = ["mst_tool::alters::steps"]
+VERIFIED = ["mst_verifying::verifies::verify"]
+ALTERED = ["mst_altering::alters::steps"]
 LOOPS = ["mst_vlan::laws::joined_without_loop"]
 # What the hints of a script, a policy and a change are.
 HINTED = [("mst_hinting", "Lines", "hints_of")]
