@@ -2,8 +2,8 @@
 """Tries edits that a check must refuse, of the crates whose edits the gate doesn't try (checks/edits/NAME/*.edit).
 
 usage: edits.py NAME [EDIT ..]           (tries all edits of this crate, or these; EDIT is a file's name, with or without its .edit)
-       edits.py --check docs/PROVED.md   (tries none: the status is 1 where one doesn't fit the file that it is of, or the table of the
-                                          page hasn't just these edits, with a line for each fault)
+       edits.py --check docs/PROVED.md   (tries none: the status is 1 where one doesn't fit the file that it is of, be it one that the gate
+                                          tries, or the table of the page hasn't just these edits, with a line for each fault)
 
 It copies the crate and those below it into a folder for the time, with what `rt check` kept of them (so check the crate first, or each of
 them is proved there from nothing), gives the crate these edits as its must-fail/ and runs `rt must-fail NAME`. The checkout stays as it is.
@@ -29,6 +29,12 @@ def all_edits():
         crate, file = path.split(os.sep)[-2:]
         found.setdefault(crate, {})[file.removesuffix(".edit")] = path
     return found
+
+
+def tried_by_gate():
+    """Each edit in a crate's must-fail/: its crate and name, and its file."""
+    paths = sorted(glob.glob(os.path.join(TOP, "crates", "*", "must-fail", "*.edit")))
+    return [((path.split(os.sep)[-3], path.split(os.sep)[-1].removesuffix(".edit")), path) for path in paths]
 
 
 # ---- trying them
@@ -96,7 +102,7 @@ def misfit(crate, path):
 def faults(page):
     """What doesn't fit, and which edits the page hasn't, or has and aren't there."""
     edits = {(crate, name): path for crate, named in all_edits().items() for name, path in named.items()}
-    yield from (f"{crate} {name}: {why}" for (crate, name), path in edits.items() if (why := misfit(crate, path)))
+    yield from (f"{crate} {name}: {why}" for (crate, name), path in [*edits.items(), *tried_by_gate()] if (why := misfit(crate, path)))
     with open(page, encoding="utf-8") as file:
         told = re.findall(r"^\| `(mst\w*)` `([\w-]+)` \|", file.read(), re.MULTILINE)
     yield from (f"{page} hasn't {' '.join(it)}" for it in edits if it not in told)
