@@ -199,11 +199,12 @@ module _ (net : Net) (o : Outcome) (ok : IsNetwork net) (is : IsOutcome net o) (
       let m = parted alone are.0 before settings behind (sym are.2 ∙ among) in
       subst (AreNeeded (Forward tree port) net) (sym m.its) (needed_alone (Forward tree port) net o ok is outcomes lacks m.it)
 
-pub tell_needed : (net : Net) → IsNetwork net → (goal : Goal) (o : Outcome) → IsOutcome net o → OneOutcome → (count : ℕ) (rows : List Row) → Tells goal net o (advised.Edits count) rows → TellNeeded goal net rows
+pub tell_needed : (net : Net) → IsNetwork net → (goal : Goal) (o : Outcome) → IsOutcome net o → OneOutcome → (count : ℕ) (rows : List Row) → Tells goal net o (advised.Edits count) rows → TellNeeded goal net count rows
 tell_needed net ok goal o is outcomes count rows told =
     let first = told.3 in
     record {
       settings = first.settings;
+      counted = sym first.counted;
       behind = first.brings.own ++ count_row (length first.settings) ∷ [];
       tell = first.brings.are ∙ append_assoc (map setting_row first.settings) first.brings.own (count_row (length first.settings) ∷ []);
       needed = needed_told net o ok is outcomes goal told.0 told.1 first.before first.settings first.behind told.2 first.among;

@@ -17,10 +17,10 @@ pub fn priority_is_greatest()
     ensures { (net : Net) (o : Outcome) (tree : ℕ) (b : List ℕ) (p : ℕ) → IsNetwork net → IsOutcome net o → IsAdvised net o tree b p → NoGreaterSuffices net tree b p }
 {}
 
-/// Of the edits that are advised none can be left out: without any one of them the others don't bring about what is wanted, whichever settled
-/// outcome the network has then.
+/// Of the edits that are advised, all that are counted, none can be left out: without any one of them the others don't bring about what is
+/// wanted, whichever settled outcome the network has then.
 pub fn none_is_needless()
-    ensures { (net : Net) (goal : GoalOf) (count : ℕ) (rows : List Row) → IsNetwork net → Advises net goal (advised.Edits count) rows → TellNeeded goal net rows }
+    ensures { (net : Net) (goal : GoalOf) (count : ℕ) (rows : List Row) → IsNetwork net → Advises net goal (advised.Edits count) rows → TellNeeded goal net count rows }
 {
     one_outcome();
 }
