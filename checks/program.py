@@ -201,7 +201,6 @@ def explain_cases(folder):
         ("explain with no bridge", ["explain", script], b"", 2, b"", USAGE),
         ("explain with no file", ["explain"], b"", 2, b"", USAGE),
         ("explain with one word more", ["explain", script, "A", "1", "0", "0"], b"", 2, b"", USAGE),
-        ("explain, a port with a hyphen", ["explain", script, "A", "-1"], b"", 2, b"", USAGE),
         ("run with the words of explain", ["run", script, "A", "1"], b"", 2, b"", USAGE),
         ("check with the words of explain", ["check", script, "A", "1", "0"], b"", 2, b"", USAGE),
         ("explain, a file that isn't there", ["explain", absent, "A", "1"], QUIET, 3, b"", cannot),
@@ -771,7 +770,30 @@ MEANT = [
     (["--fast"], "--fast", NO_FLAG),
     (["run", "-", "--json=yes"], "--json=yes", NO_FLAG),
     (["run", "-", "--\x1b[2J"], "--\\x1b[2J", NO_FLAG),
+    (["run", "-", "--\x85\x9b"], "--\\x85\\x9b", NO_FLAG),
+    # a word of one hyphen, which would be letters that each ask for something
+    (["verify", "-", "-", "-hints"], "-hints", "--hints?"),
+    (["verify", "-", "-", "-hint"], "-hint", "--hints?"),
+    (["-help"], "-help", "mstplan --help?"),
+    (["run", "-", "-help"], "-help", "mstplan --help?"),
+    (["run", "-hjson", "-"], "-hjson", "--json?"),
+    (["-Version"], "-Version", "mstplan --version?"),
+    (["run", "-", "-Vx"], "-Vx", NO_FLAG),
+    (["run", "-", "-hx"], "-hx", NO_FLAG),
+    (["run", "-x"], "-x", NO_FLAG),
+    (["run", "--help", "-x"], "-x", NO_FLAG),
+    (["--fast", "-x"], "-x", NO_FLAG),
+    (["-h", "-x"], "-x", NO_FLAG),
+    (["--json", "run", "-x"], "-x", NO_FLAG),
+    (["dot", "-", "-vlan", "10"], "-vlan", NO_FLAG),
+    (["explain", "-", "A", "-1"], "-1", NO_FLAG),
+    (["-campus.script"], "-campus.script", NO_FLAG),
 ]
+
+
+def told_tame(word):
+    """What the parser tells of words, in which this is quoted, with nothing in it that a terminal acts on."""
+    return re.compile(rb"error: [ -~\n]*" + re.escape(word) + rb"[ -~\n]*")
 
 
 def meant_cases():
@@ -781,8 +803,8 @@ def meant_cases():
         ("a command that is nearly one", ["sumary", "-"], b"", 2, b"", USAGE),
         ("help of a command that there isn't", ["walk", "--help"], b"", 2, b"", USAGE),
         ("a file that is called as the version is", ["diff", "version"], b"", 2, b"", USAGE),
-        ("a name with a hyphen", ["run", "-x"], b"", 2, b"", USAGE),
-        ("a word with a hyphen", ["dot", "-", "-vlan", "10"], b"", 2, b"", USAGE),
+        ("a word of the parser's line with a control character", ["r\x1bun"], b"", 2, b"", told_tame(rb"r\x1bun")),
+        ("a word of the parser's line with one above 7F", ["run", "-", "a\x9bb"], b"", 2, b"", told_tame(rb"a\x9bb")),
     ]
 
 
@@ -1173,7 +1195,7 @@ def check_dashes(program, folder):
         (["run", "--", "-", "--pairs"], 2, b"", USAGE),
         (["run", "--", "-x", "-x"], 2, b"", USAGE),
         (["run", "--"], 2, b"", USAGE),
-        (["run", "-x"], 2, b"", USAGE),
+        (["run", "-x"], 2, b"", f"error: no such word -x; {NO_FLAG}\n".encode()),
         (["--", "run", "-x"], 2, b"", USAGE),
     ]
     passed = True

@@ -1,6 +1,7 @@
 -- What a word was meant for that stands where the program has no such word.
-use Rattle.std.specs.Prelude.{◌≡◌, ◌==◌, ◌||◌, ◌&&◌, ℕ, Bool, true, false, List, [], ◌∷◌, Option, Some, None, codes, if◌then◌else◌}
-use Rattle.std.specs.List.{Contains}
+use Rattle.std.specs.Prelude.{◌≡◌, ◌==◌, ◌||◌, ◌&&◌, ℕ, Bool, true, false, not, List, [], ◌∷◌, Option, Some, None, codes, unwrap_or, if◌then◌else◌}
+use Rattle.std.specs.List.{Contains, list_any}
+use Rattle.std.specs.Str.{bytes_eq}
 use Rattle.mst_frame.specs.hints.Near.{is_in_case, is_within_one}
 use Rattle.mst_command.specs.declared.strays.Meant.{Meant}
 use Rattle.mst_command.specs.declared.strays.Meant.TheVariants.{Json, Hints, Help, Version, Flag}
@@ -44,3 +45,18 @@ pub record IsStray (words : List (List ℕ)) (word : List ℕ) (meant : Meant) :
   pub among : Contains words word
   pub first : has_hyphen word ≡ false → (behind : List (List ℕ)) × (words ≡ word ∷ behind)
   pub is_meant : meant_by word ≡ Some meant
+
+-- ---- what is looked for before words are read
+
+-- a word begins with one hyphen and is none of those that the program knows: `-`, `-h` and `-V`
+abbrev pub is_unknown : List ℕ → Bool
+is_unknown word = has_hyphen word && not (has_hyphen (behind_hyphen word)) && not (list_any (bytes_eq word) (codes "-" ∷ codes "-h" ∷ codes "-V" ∷ []))
+
+-- the first such word before `--`
+abbrev pub first_unknown : List (List ℕ) → Option (List ℕ)
+first_unknown [] = None
+first_unknown (word ∷ words) = if bytes_eq word (codes "--") then None else if is_unknown word then Some word else first_unknown words
+
+-- it was meant for what it nearly is, and else for a flag that there isn't
+abbrev pub meant_by_unknown : List ℕ → Meant
+meant_by_unknown word = unwrap_or (option_like (bare word)) Flag

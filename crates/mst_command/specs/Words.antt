@@ -8,7 +8,7 @@ use Rattle.clap.specs.Words.{App, Row, Rule, Shape, first_of, new_app, new_rule,
 use Rattle.mst_io.specs.declared.outcome.RunFault.TheVariants.{Memory, Write}
 use Rattle.mst_command.specs.declared.stop.Stop.{Stop}
 use Rattle.mst_command.specs.declared.stop.Stop.TheVariants.{Told, NoWord, Unopened, Fault}
-use Rattle.mst_command.specs.Strays.{IsStray}
+use Rattle.mst_command.specs.Strays.{IsStray, meant_by_unknown}
 use Rattle.mst_command.specs.Table.{Place, Row as TableRow, row_of, verb_named, verbs}
 use Rattle.mst_command.specs.declared.strays.Meant.{Meant}
 use Rattle.mst_command.specs.declared.strays.Meant.TheVariants.{File}
@@ -120,6 +120,11 @@ pub record IsFileAlone (IsThere : List ℕ → Type 0) (words : List (List ℕ))
 -- this word was meant for that, which there is no word for: for a file, where it stands alone, or for another word
 abbrev pub IsMeant : (List ℕ → Type 0) → List (List ℕ) → List ℕ → Meant → Type 0
 IsMeant IsThere words word meant = ((meant ≡ File) × IsFileAlone IsThere words word) ⊎ IsStray words word meant
+
+-- this word is told, and what it was meant for
+abbrev pub IsNoWord : List ℕ → Stop → Type 0
+IsNoWord word (NoWord told meant) = (told.now ≡ word) × (meant ≡ meant_by_unknown word)
+IsNoWord word stop = ⊥
 
 -- words that ask for nothing are told with status 2, or by one of them and what it was meant for
 abbrev pub IsWrong : (List ℕ → Type 0) → List (List ℕ) → Stop → Type 0

@@ -31,7 +31,7 @@ pub struct Parted {
 }
 
 /// Whether no word behind this one is a flag.
-fn is_dashes(word: &String) -> bool
+pub(crate) fn is_dashes(word: &String) -> bool
     ensures { result ≡ dashes (string_bytes word.now) }
 {
     word.as_str() == DASHES

@@ -1,9 +1,9 @@
-ghost use Rattle.std.specs.Prelude.{◌≡◌, ◌&&◌, true, map, string_bytes, Some, IfSome};
+ghost use Rattle.std.specs.Prelude.{◌≡◌, ◌&&◌, true, map, option_map, string_bytes, Some, IfSome};
 ghost use Rattle.std.specs.List.{Contains};
-ghost use Rattle.mst_command.specs.Strays.{IsStray, bare as without_hyphens, behind_hyphen as after_hyphen, has_hyphen as begins_with_hyphen, is_nearly as nearly, meant_by as meant_for, option_like as like_option};
+ghost use Rattle.mst_command.specs.Strays.{IsStray, bare as without_hyphens, behind_hyphen as after_hyphen, first_unknown as first_of_unknown, has_hyphen as begins_with_hyphen, is_nearly as nearly, is_unknown as unknown, meant_by as meant_for, meant_by_unknown as meant_for_unknown, option_like as like_option};
 ghost use Rattle.mst_command.specs.Words.{behind_name};
 
-use crate::flags::DASHES;
+use crate::flags::{DASHES, is_dashes};
 use mst_frame::{is_in_case, is_within_one};
 
 /// What a word was meant for that stands where the program has no such word.
@@ -107,6 +107,58 @@ fn stray_of(word: &str) -> Option<Stray<'_>>
     match meant_by(word.as_bytes()) {
         Some(meant) => Some(Stray { word, meant }),
         None => None,
+    }
+}
+
+/// Whether a word begins with one hyphen and is none of those that the program knows.
+fn is_unknown(word: &str) -> bool
+    ensures { result ≡ unknown word.now }
+{
+    let bytes = word.as_bytes();
+    has_hyphen(bytes) && !has_hyphen(behind_hyphen(bytes)) && !matches!(word, "-" | "-h" | "-V")
+}
+
+/// What such a word was meant for.
+fn meant_by_unknown(word: &[u8]) -> Meant
+    ensures { result ≡ meant_for_unknown word.now }
+{
+    match option_like(bare(word)) {
+        Some(meant) => meant,
+        None => Meant::Flag,
+    }
+}
+
+/// The first of these words before `--` that begins with one hyphen and is none that the program knows.
+fn first_unknown(words: &[String]) -> Option<&str>
+    ensures { option_map (λ word. word.now) result ≡ first_of_unknown (map string_bytes words.now) }
+{
+    for word in words {
+        if is_dashes(word) {
+            return None;
+        }
+        let text = word.as_str();
+        if is_unknown(text) {
+            return Some(text);
+        }
+    }
+    None
+}
+
+/// The first such word behind the program's name, and what it was meant for. To the parser each letter of it would be a word of its own,
+/// so that `-hints` asks for help.
+pub(crate) fn unknown_stray(words: &[String]) -> Option<Stray<'_>>
+    ensures word { option_map (λ stray. stray.word.now) result ≡ first_of_unknown (behind_name words.now) }
+    ensures meant { IfSome result (λ stray. stray.meant ≡ meant_for_unknown stray.word.now) }
+{
+    match words {
+        [] => None,
+        [_, behind @ ..] => match first_unknown(behind) {
+            Some(word) => Some(Stray {
+                word,
+                meant: meant_by_unknown(word.as_bytes()),
+            }),
+            None => None,
+        },
     }
 }
 

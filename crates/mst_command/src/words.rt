@@ -2,17 +2,19 @@ ghost use Rattle.std.specs.Prelude.{◌≡◌, ◌≢◌, ◌⊎◌, true, Some,
 ghost use Rattle.std.specs.List.{list_any};
 ghost use Rattle.clap.specs.Words.{first_of, found_of, kind_of, rows_of, subcommand_rows_of};
 ghost use Rattle.mst_command.specs.Table.{verb_named};
-ghost use Rattle.mst_command.specs.Words.{words_of, texts_of, found_in, asked_of, asked_by, are_plain, behind_name, without_dashes, is_help, is_version, is_of_path, IsAnswer, IsFileAlone, IsMeant, IsRefusal, IsWrong};
+ghost use Rattle.mst_command.specs.Words.{words_of, texts_of, found_in, asked_of, asked_by, are_plain, behind_name, without_dashes, is_help, is_version, is_of_path, IsAnswer, IsFileAlone, IsMeant, IsNoWord, IsRefusal, IsWrong};
+ghost use Rattle.mst_command.specs.Strays.{first_unknown};
 
 use crate::command::command_line;
 use crate::page::VERSION_RECORD;
 use crate::stop::{Stop, starved};
-use crate::strays::{Meant, Stray, stray_among};
+use crate::strays::{Meant, Stray, stray_among, unknown_stray};
 use crate::table::{FIFTH, FIRST, FOURTH, SECOND, THIRD, Verb};
 use clap::error::ErrorKind;
 use clap::{ArgMatches, Error};
 use mst_frame::Sources;
 use mst_io::RunFault;
+use std::alloc::{AllocError, Global};
 use std::env::Env;
 use std::{env, io};
 
@@ -50,8 +52,28 @@ pub fn given_words<R: Env + Eprint + AllocGlobal>(rt: &R) -> Result<Vec<String>,
 
 /// What the words ask for, of which the first is the program's name. Where none of the others is an option, an `Err`
 /// comes just where they ask for nothing, or for want of memory.
-/// The program's help and its version are told on standard output, and come as an `Err` too.
+/// The program's help and its version are told on standard output, and come as an `Err` too. So does a word of one hyphen that the
+/// program doesn't know, whatever else the words ask for.
 pub fn asked_by_words<'a, R: Print + Eprint + AllocGlobal, S: Sources>(
+    rt: &R,
+    sources: &S,
+    is_json: bool,
+    words: &'a [String],
+) -> Result<Asked<'a>, Stop<'a>>
+    ensures asked { are_plain (behind_name words.now) ≡ true → IfOk result (λ asked. asked_by (without_dashes (behind_name words.now)) ≡ Some (words_of asked)) }
+    ensures refused { are_plain (behind_name words.now) ≡ true → IfErr result (IsRefusal (S.is_there sources.now) (behind_name words.now) (asked_by (without_dashes (behind_name words.now)))) }
+    ensures help { is_help (behind_name words.now) ≡ true → IsErrAnd result IsAnswer }
+    ensures version { is_version (behind_name words.now) ≡ true → IsErrAnd result IsAnswer }
+    ensures unknown { IfSome (first_unknown (behind_name words.now)) (λ word. IsErrAnd result (IsNoWord word)) }
+{
+    match unknown_stray(words) {
+        Some(stray) => Err(Stop::NoWord(stray.word, stray.meant)),
+        None => asked_by_parser(rt, sources, is_json, words),
+    }
+}
+
+/// The same by the parser, to which a word of one hyphen is a bundle of letters.
+fn asked_by_parser<'a, R: Print + Eprint + AllocGlobal, S: Sources>(
     rt: &R,
     sources: &S,
     is_json: bool,
@@ -73,7 +95,7 @@ pub fn asked_by_words<'a, R: Print + Eprint + AllocGlobal, S: Sources>(
 
 /// Tells what the words ask for, on standard output, or what is wrong with them, on standard error. Where who reads standard
 /// output has closed it, all is told.
-fn tell_words<'a, R: Print + Eprint, S: Sources>(
+fn tell_words<'a, R: Print + Eprint + AllocGlobal, S: Sources>(
     rt: &R,
     sources: &S,
     is_json: bool,
@@ -92,11 +114,33 @@ fn tell_words<'a, R: Print + Eprint, S: Sources>(
         _ => match wrong_word(sources, words) {
             Some(stray) => Stop::NoWord(stray.word, stray.meant),
             None => {
-                let _ = error.print(rt);
+                tell_wrong(rt, error);
                 Stop::Told(2)
             }
         },
     }
+}
+
+/// Tells on standard error what the parser says of wrong words, unless memory was wanted and refused.
+fn tell_wrong<R: Eprint + AllocGlobal>(rt: &R, error: &Error) {
+    if let Ok(text) = tamed(rt.alloc(), error) {
+        let _ = eprint!(rt; "{}", text);
+    }
+}
+
+/// What the parser says, with each control character by its code but for the ends of lines: the words that it quotes say nothing to a
+/// terminal.
+fn tamed(alloc: Global, error: &Error) -> Result<String, AllocError> {
+    let said = format!(in alloc; "{error}")?;
+    let mut text = String::new(alloc);
+    for c in said.chars() {
+        if c.is_control() && c != '\n' {
+            write!(text, "\\x{:02x}", u32::from(c))?;
+        } else {
+            text.push(c)?;
+        }
+    }
+    Ok(text)
 }
 
 /// Tells the help or the version on standard output; the version as a record where JSON is asked for.
