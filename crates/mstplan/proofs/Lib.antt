@@ -1,2 +1,1 @@
 pub mod Flagged
-pub mod Shown

@@ -1,6 +1,8 @@
 -- What standard error gets.
-use Rattle.std.specs.Prelude.{◌≡◌, ◌⊎◌, ◌==◌, ◌||◌, ℕ, ◌+◌, ◌/◌, ◌%◌, Bool, true, false, List, [], ◌∷◌, nat_lt, if◌then◌else◌}
+use Rattle.std.specs.Prelude.{◌≡◌, ◌⊎◌, ℕ, ◌+◌, ◌/◌, ◌%◌, Bool, true, false, List, [], ◌∷◌, nat_lt, if◌then◌else◌}
+use Rattle.std.specs.Char.{encode_utf8, is_control}
 use Rattle.std.specs.List.{flat_map}
+use Rattle.std.specs.Str.{chars}
 use Rattle.std.specs.Io.KnownBytes.{Appends}
 use Rattle.mst_io.specs.Devices.{Seen, Works, IsStopped}
 use Rattle.mst_io.specs.Written.{AppendsFront}
@@ -15,24 +17,20 @@ pub record IsSaid (old new : Seen) (text : List ℕ) : Type 0 where
 
 -- ---- the name of a file
 
--- a control character, which a terminal may act on
-abbrev pub is_control : ℕ → Bool
-is_control b = nat_lt b 32 || b == 127
-
 -- a digit to the base 16
 abbrev pub hex_digit : ℕ → ℕ
 hex_digit n = if nat_lt n 10 then 48 + n else 87 + n
 
--- the code of a control character, as `\x1b`
+-- the code of a control character, as `\x1b`: these are those below 20 hexadecimal and those from 7F to 9F
 abbrev pub coded : ℕ → List ℕ
-coded b = 92 ∷ 120 ∷ hex_digit (b / 16) ∷ hex_digit (b % 16) ∷ []
+coded c = 92 ∷ 120 ∷ hex_digit (c / 16) ∷ hex_digit (c % 16) ∷ []
 
--- a name as it is shown: each control character by its code
-abbrev pub shown_byte : ℕ → List ℕ
-shown_byte b = if is_control b then coded b else b ∷ []
+-- a name as it is shown: each control character, which a terminal may act on, by its code
+abbrev pub shown_char : ℕ → List ℕ
+shown_char c = if is_control c then coded c else encode_utf8 c
 
 abbrev pub shown : List ℕ → List ℕ
-shown name = flat_map shown_byte name
+shown name = flat_map shown_char (chars name)
 
 -- a part of what is said
 abbrev pub part_text : Part → List ℕ

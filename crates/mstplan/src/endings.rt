@@ -95,7 +95,7 @@ pub(crate) fn after_run<'a, W: Drop>(ran: &Ran<Piped<W>>) -> Ending<'a>
     ensures told { result.told ≡ told_of ran.now.writer.is_closed ran.now.ended }
     ensures of_hints { result.of_hints ≡ told_of_hints ran.now.hints }
 {
-    let is_closed = ran.writer.is_closed;
+    let is_closed = ran.writer.is_closed();
     Ending {
         status: status_after_run(is_closed, &ran.ended, &ran.hints),
         told: if is_left(is_closed, &ran.ended) {
@@ -166,6 +166,7 @@ fn tell_word<K: Sink>(errors: &mut K, word: &str, meant: Meant)
 }
 
 /// What stands behind such a word: a text, the word again, if it was meant for a file, and the rest.
+#[tactic(auto, unfolding(std::specs::Str::chars))]
 fn behind_word<'a>(word: &'a str, meant: Meant) -> (&'static str, &'a str, &'static str)
     ensures { result.0.now ++ (shown result.1.now ++ result.2.now) ≡ behind_stray word.entry.now meant }
 {

@@ -8,9 +8,8 @@ use std::io::{ErrorKind, Result, Write};
 /// A writer that notes whether who reads it has closed it.
 #[derive(Drop)]
 pub(crate) struct Piped<W: Drop> {
-    pub(crate) writer: W,
-    /// A call has failed since no one reads any more what is written.
-    pub(crate) is_closed: bool,
+    writer: W,
+    is_closed: bool,
 }
 
 impl<W: Drop> Piped<W> {
@@ -23,6 +22,13 @@ impl<W: Drop> Piped<W> {
             writer,
             is_closed: false,
         }
+    }
+
+    /// Whether a call has failed since no one reads any more what is written.
+    pub(crate) fn is_closed(&self) -> bool
+        ensures { result ≡ self.now.is_closed }
+    {
+        self.is_closed
     }
 
     /// Notes what a call was answered.

@@ -1,8 +1,9 @@
-ghost use Rattle.std.specs.Prelude.{◌≡◌, ◌<◌, ◌≤◌, false, true, length, take, slice_index, IfOk, OnOk, OnErr};
+ghost use Rattle.std.specs.Prelude.{◌≡◌, ◌<◌, false, true, OnOk, OnErr};
+ghost use Rattle.std.specs.Char.{is_control};
 ghost use Rattle.std.specs.Io.KnownBytes.{Appends};
 ghost use Rattle.mst_io.specs.Devices.{Works, IsStopped, seen_by};
 ghost use Rattle.mst_io.specs.Written.{AppendsFront};
-ghost use Rattle.mstplan.specs.Said.{IsSaid, coded, is_control as control, hex_digit as hex, part_text, parts_text, shown};
+ghost use Rattle.mstplan.specs.Said.{IsSaid, coded, hex_digit as hex, part_text, parts_text, shown, shown_char};
 
 use mst_io::{Sink, WriteFailed, put};
 
@@ -54,12 +55,12 @@ fn put_part<K: Sink>(sink: &mut K, part: Part<'_>) -> Result<(), WriteFailed>
 {
     match part {
         Part::Text(text) => put(sink, text),
-        Part::Name(name) => put_name(sink, name.as_bytes()),
+        Part::Name(name) => put_name(sink, name),
     }
 }
 
-/// Writes a name as it is shown, piece by piece.
-fn put_name<K: Sink>(sink: &mut K, name: &[u8]) -> Result<(), WriteFailed>
+/// Writes a name as it is shown, character by character.
+fn put_name<K: Sink>(sink: &mut K, name: &str) -> Result<(), WriteFailed>
     requires working { (K.told sink.old).failed ≡ false }
     ensures ok { OnOk result (Appends (K.contents sink.old) (K.contents sink.new) (shown name.now)) }
     ensures err { OnErr result (AppendsFront (K.contents sink.old) (K.contents sink.new) (shown name.now)) }
@@ -67,65 +68,36 @@ fn put_name<K: Sink>(sink: &mut K, name: &[u8]) -> Result<(), WriteFailed>
     ensures broken { OnErr result (IsStopped (K.told sink.old) (K.told sink.new)) }
     ensures lent { K.lent sink.new ≡ K.lent sink.old }
 {
-    let mut rest = name;
-    while !rest.is_empty() {
-        let count = put_piece(sink, rest)?;
-        let (_, left) = rest.split_at(count);
-        rest = left;
+    for c in name.chars() {
+        put_char(sink, c)?;
     }
     Ok(())
 }
 
-/// Writes the first piece of a name that has a byte, as it is shown: a control character, or all that stands before one. Answers
-/// with the number of its bytes.
-fn put_piece<K: Sink>(sink: &mut K, name: &[u8]) -> Result<usize, WriteFailed>
+/// Writes a character of a name as it is shown.
+fn put_char<K: Sink>(sink: &mut K, c: char) -> Result<(), WriteFailed>
     requires working { (K.told sink.old).failed ≡ false }
-    requires some { 0 < length name.now }
-    ensures some { IfOk result (λ count. 0 < count) }
-    ensures bound { IfOk result (λ count. count ≤ length name.now) }
-    ensures ok { IfOk result (λ count. Appends (K.contents sink.old) (K.contents sink.new) (shown (take count name.now))) }
-    ensures err { OnErr result (AppendsFront (K.contents sink.old) (K.contents sink.new) (shown name.now)) }
+    ensures ok { OnOk result (Appends (K.contents sink.old) (K.contents sink.new) (shown_char c)) }
+    ensures err { OnErr result (AppendsFront (K.contents sink.old) (K.contents sink.new) (shown_char c)) }
     ensures works { OnOk result (Works (K.told sink.old) (K.told sink.new)) }
     ensures broken { OnErr result (IsStopped (K.told sink.old) (K.told sink.new)) }
     ensures lent { K.lent sink.new ≡ K.lent sink.old }
 {
-    let count = plain_count(name);
-    if count == 0 {
-        put(sink, &code_of(name[0]))?;
-        Ok(1)
+    if c.is_control() {
+        put(sink, &code_of(c))
     } else {
-        let (plain, _) = name.split_at(count);
-        put(sink, plain)?;
-        Ok(count)
+        let mut bytes = [0; 4];
+        put(sink, c.encode_utf8(&mut bytes).as_bytes())
     }
-}
-
-/// How many bytes of a name stand before the first control character, or how many there are.
-fn plain_count(name: &[u8]) -> usize
-    ensures bound { result ≤ length name.now }
-    ensures plain { shown (take result name.now) ≡ take result name.now }
-    ensures control { result ≡ 0 → 0 < length name.now → control (slice_index name.now 0) ≡ true }
-{
-    for (place, byte) in name.iter().enumerate() {
-        if is_control(*byte) {
-            return place;
-        }
-    }
-    name.len()
-}
-
-/// Whether a byte is a control character, which a terminal may act on.
-fn is_control(byte: u8) -> bool
-    ensures { result ≡ control byte }
-{
-    byte < 0x20 || byte == 0x7F
 }
 
 /// What a control character is shown as: its code, to the base 16.
-fn code_of(byte: u8) -> [u8; 4]
-    ensures { result ≡ coded byte }
+fn code_of(c: char) -> [u8; 4]
+    requires { is_control c ≡ true }
+    ensures { result ≡ coded c }
 {
-    [b'\\', b'x', hex_digit(byte / 16), hex_digit(byte % 16)]
+    let code = u32::from(c) as u8;
+    [b'\\', b'x', hex_digit(code / 16), hex_digit(code % 16)]
 }
 
 /// A digit to the base 16.
