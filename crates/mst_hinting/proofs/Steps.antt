@@ -92,6 +92,17 @@ works_now e m works idle working =
       | inr before ↦ works before
     ]
 
+-- what was still to be written, or a front of it
+pub written_before : (e m : Seen) (old new : Telling) → Wrote e m old new → AppendsFront e.bytes m.bytes old.text.items
+written_before e m old new wrote =
+    elim (either (is_on old.state)) [
+      | inl on ↦ elim (wrote.on on) as (λ w. AppendsFront e.bytes m.bytes old.text.items) [
+        | inl out ↦ record { front = old.text.items; rest = []; whole = sym (append-nil old.text.items); written = out.printed }
+        | inr lost ↦ lost.printed
+      ]
+      | inr off ↦ subst (λ (x : Seen). AppendsFront e.bytes x.bytes old.text.items) (sym (wrote.idle off).1) (record { front = []; rest = old.text.items; whole = refl; written = Appends-nil e.bytes })
+    ]
+
 -- ---- the end of the source
 is_zero_said : (count size : ℕ) → is_zero (Ok count) size ≡ true → (count ≡ 0) × (0 < size)
 is_zero_said count size is = (grind (arith, common_steps), grind (arith, common_steps))

@@ -86,13 +86,15 @@ abbrev pub Begins : {S E : Type 0} → (S → Seen) → (E → Seen) → Bool �
 Begins source_of errors_of wanted of source errors from =
     Stands wanted of (source_of source) (source_of from.source.now) (errors_of errors) (errors_of from.errors.now) [] from.telling.now
 
--- What a call does that gives these bytes, whatever sink it is shown: the references stay, those that the devices were lent too, and
--- whatever began goes on with the bytes that were read
+-- What a call does that gives these bytes, whatever sink it is shown: the references stay, those that the devices were lent too, no more
+-- is written than what was still to be before the call, so no hint of the lines that these bytes are of, and whatever began goes on with the
+-- bytes that were read
 pub record Listens {S E : Type 0} (source_of : S → Seen) (errors_of : E → Seen) (old new : Hinting S E) (bytes : List ℕ) (shown : Seen) : Type 0 where
   pub source : new.source.ghost_name ≡ old.source.ghost_name
   pub errors : new.errors.ghost_name ≡ old.errors.ghost_name
   pub lent_source : (source_of new.source.now).lent ≡ (source_of old.source.now).lent
   pub lent_errors : (errors_of new.errors.now).lent ≡ (errors_of old.errors.now).lent
+  pub before : AppendsFront (errors_of old.errors.now).bytes (errors_of new.errors.now).bytes old.telling.now.text.items
   pub goes_on : (wanted : Bool) (of : Script) (source errors : Seen) (read : List ℕ)
       → Stands wanted of source (source_of old.source.now) errors (errors_of old.errors.now) read old.telling.now
       → Stands wanted of source (source_of new.source.now) errors (errors_of new.errors.now) (read ++ bytes) new.telling.now

@@ -1,6 +1,6 @@
 use Rattle.std.proofs.Common.{◌≡◌, refl, rules, subst}
 use Rattle.mst_io.specs.Devices.{called, seen_by}
-use Rattle.mst_hinting.proofs.Steps.{stands_written, stands_heard, working_on}
+use Rattle.mst_hinting.proofs.Steps.{stands_written, stands_heard, working_on, written_before}
 use Rattle.mst_hinting.proofs.listening.HintingSource.fill.Goals as goal
 
 pub returns-clause-heard : goal.returns-clause-heard
@@ -16,6 +16,7 @@ returns-clause-heard g c =
       errors = refl;
       lent_source = c.fill-answer.ensures.lent;
       lent_errors = c.write.ensures.lent;
+      before = written_before before after old.telling.now c.write.new.self c.write.ensures.wrote;
       goes_on = λ wanted of source errors read stands.
           stands_heard wanted of source errors (see old.source.now) (see c.fill-answer.new.self) after read c.fill-answer.new.buffer c.fill-answer.result c.write.new.self c.hear.new.self
           c.requires.working c.fill-answer.ensures.bytes told (working_on before after old.telling.now c.write.new.self c.write.ensures.wrote)
