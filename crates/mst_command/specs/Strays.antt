@@ -1,5 +1,5 @@
 -- What a word was meant for that stands where the program has no such word.
-use Rattle.std.specs.Prelude.{◌≡◌, ◌==◌, ◌||◌, ◌&&◌, ℕ, Bool, true, false, not, List, [], ◌∷◌, Option, Some, None, codes, unwrap_or, if◌then◌else◌}
+use Rattle.std.specs.Prelude.{◌≡◌, ◌==◌, ◌||◌, ◌&&◌, ℕ, Bool, false, not, List, [], ◌∷◌, Option, Some, None, codes, unwrap_or, if◌then◌else◌}
 use Rattle.std.specs.List.{Contains, list_any}
 use Rattle.std.specs.Str.{bytes_eq}
 use Rattle.mst_frame.specs.hints.Near.{is_in_case, is_within_one}

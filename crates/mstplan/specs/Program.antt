@@ -1,5 +1,5 @@
 -- What the program does and how it ends, by what its words ask for.
-use Rattle.std.specs.Prelude.{◌≡◌, ℕ, Bool, true, List, drop, length, is_some, Option, Some, None, Result, Ok, Err, IfOk, IfErr, IsErrAnd}
+use Rattle.std.specs.Prelude.{◌≡◌, ℕ, Bool, true, List, drop, length, is_some, Option, Some, None, Result, Ok, Err, IfOk, IfErr, IfSome, IsErrAnd}
 use Rattle.std.specs.Borrow.{Bor}
 use Rattle.mst_ask.specs.Asking.{standing}
 use Rattle.mst_altering.specs.Alter.{altering}
@@ -31,7 +31,8 @@ use Rattle.mstplan.specs.Invites.{invitation}
 use Rattle.mstplan.specs.Said.{IsSaid}
 use Rattle.mstplan.specs.Serving.{IsWhyUndone, ServesTask, Task, nothing, policy_if, scripts, serves, stands}
 use Rattle.mstplan.specs.Words.{question_by}
-use Rattle.mst_command.specs.Words.{texts_of, words_of, are_plain, without_dashes, is_help, is_version, IsAnswer, IsRefusal}
+use Rattle.mst_command.specs.Strays.{first_unknown}
+use Rattle.mst_command.specs.Words.{texts_of, words_of, are_plain, without_dashes, is_help, is_version, IsAnswer, IsNoWord, IsRefusal}
 
 -- what is to be done where the network of the script of this name is asked something, if words ask it
 abbrev pub asking_of : Form → Option Question → Bor (List ℕ) → Task
@@ -104,13 +105,14 @@ abbrev pub IsCarriedOut : (Option (List ℕ) → Type 0) → (List ℕ → Optio
 IsCarriedOut IsGiven IsFile IsUnopened flags asked written None errors now status = IsAfterStop IsUnopened flags asked errors now status
 IsCarriedOut IsGiven IsFile IsUnopened flags asked written (Some output) errors now status = IsAfterRun IsGiven IsFile flags asked written output errors now status
 
--- what words behind the program's name ask for with these flags, where none of them is an option; and what comes of those that
--- ask for help or for the version
+-- what words behind the program's name ask for with these flags, where none of them is an option; what comes of those that
+-- ask for help or for the version; and that a word of one hyphen which the program doesn't know is told before anything else
 pub record IsAskedBy (IsThere : List ℕ → Type 0) (flags : Flags) (words : List (List ℕ)) (asked : Result Asked Stop) : Type 0 where
   pub asked_for : are_plain words ≡ true → IfOk asked (λ a. asked_with flags (without_dashes words) ≡ Some (words_of a))
   pub refused : are_plain words ≡ true → IfErr asked (IsRefusal IsThere words (asked_with flags (without_dashes words)))
   pub help : is_help words ≡ true → IsErrAnd asked IsAnswer
   pub version : is_version words ≡ true → IsErrAnd asked IsAnswer
+  pub unknown : IfSome (first_unknown words) (λ word. IsErrAnd asked (IsNoWord word))
 
 -- All that the program does with these words, its name first, from which these flags were taken out: who waits at a terminal is told
 -- so, and what they ask for is carried out, with the flags

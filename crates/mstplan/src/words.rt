@@ -1,6 +1,7 @@
-ghost use Rattle.std.specs.Prelude.{◌≡◌, true, Some, codes, option_map, IfOk, IfErr, IsErrAnd};
+ghost use Rattle.std.specs.Prelude.{◌≡◌, true, Some, codes, option_map, IfOk, IfErr, IfSome, IsErrAnd};
 ghost use Rattle.mstplan.specs.Flags.{asked_with};
-ghost use Rattle.mst_command.specs.Words.{words_of, texts_of, wanted, are_plain, behind_name, without_dashes, is_help, is_version, IsAnswer, IsRefusal};
+ghost use Rattle.mst_command.specs.Strays.{first_unknown};
+ghost use Rattle.mst_command.specs.Words.{words_of, texts_of, wanted, are_plain, behind_name, without_dashes, is_help, is_version, IsAnswer, IsNoWord, IsRefusal};
 ghost use Rattle.mstplan.specs.Words.{question_by, are_worded as words_asking};
 
 use mst_ask::Question;
@@ -53,7 +54,8 @@ fn wrong_words(verb: Verb) -> &'static str {
 
 /// What the words ask for with these flags, of which the first is the program's name. Where none of the others is an option,
 /// an `Err` comes just where they ask for nothing that takes these flags, or for want of memory.
-/// The program's help and its version are told on standard output, and come as an `Err` too.
+/// The program's help and its version are told on standard output, and come as an `Err` too. So does a word of one hyphen that the
+/// program doesn't know, whatever else the words ask for.
 pub(crate) fn asked_for<'a, R: Print + Eprint + AllocGlobal, S: Sources>(
     rt: &R,
     sources: &S,
@@ -64,6 +66,7 @@ pub(crate) fn asked_for<'a, R: Print + Eprint + AllocGlobal, S: Sources>(
     ensures refused { are_plain (behind_name words.now) ≡ true → IfErr result (IsRefusal (S.is_there sources.now) (behind_name words.now) (asked_with flags (without_dashes (behind_name words.now)))) }
     ensures help { is_help (behind_name words.now) ≡ true → IsErrAnd result IsAnswer }
     ensures version { is_version (behind_name words.now) ≡ true → IsErrAnd result IsAnswer }
+    ensures unknown { IfSome (first_unknown (behind_name words.now)) (λ word. IsErrAnd result (IsNoWord word)) }
 {
     match asked_by_words(rt, sources, flags.json, words) {
         Err(stop) => Err(stop),

@@ -1,7 +1,7 @@
 use Rattle.std.proofs.Common.{◌<◌, ◌≤◌, length, arith, map, string_bytes, sym, ap, ◌∙◌}
 use Rattle.mst_command.specs.Flags.{is_flag, without_flags_behind}
 use Rattle.mst_command.specs.Words.{is_dashes}
-use Rattle.mst_command.proofs.Parting.{all_looked_at, flag_gone, looked_at_dashes, shorter, word_kept}
+use Rattle.mst_command.proofs.Parting.{all_looked_at, looked_at_dashes, word_kept}
 use Rattle.mst_command.proofs.flags.take_flags.Goals as goal
 
 pub returns-then-is_dashes : goal.returns-then-is_dashes

@@ -1,7 +1,6 @@
-use Rattle.std.proofs.Common.{◌≡◌, List, Option, Some, None, refl, sym, ap, subst, ◌∙◌, option_map}
+use Rattle.std.proofs.Common.{sym, ◌∙◌}
 use Rattle.std.proofs.lemmas.Option.{none-some}
-use Rattle.mst_command.specs.Strays.{first_unknown}
-use Rattle.mst_command.specs.Words.{IsNoWord, behind_name}
+use Rattle.mst_command.specs.Words.{behind_name}
 use Rattle.mst_command.proofs.Unknown.{help_known, plain_words, version_known}
 use Rattle.mst_command.proofs.words.asked_by_words.Goals as goal
 

@@ -16,7 +16,7 @@ returns g c =
     record {
       asked = asked;
       is_asked = subst (λ words. IsAskedBy (g.S.Sources.is_there c.args.sources.now) flags (drop 1 (map string_bytes words)) asked) same
-          (record { asked_for = c.asked_for-asked.ensures.asked; refused = c.asked_for-asked.ensures.refused; help = c.asked_for-asked.ensures.help; version = c.asked_for-asked.ensures.version });
+          (record { asked_for = c.asked_for-asked.ensures.asked; refused = c.asked_for-asked.ensures.refused; help = c.asked_for-asked.ensures.help; version = c.asked_for-asked.ensures.version; unknown = c.asked_for-asked.ensures.unknown });
       invited = look c.invite.new.errors;
       invites = subst (λ n. IsSaid (look c.args.errors.now) (look c.invite.new.errors) (invitation c.args.is_terminal n asked)) (ap length same ∙ sym (length-map items string_bytes)) c.invite.ensures;
       serves = c.carry_out.ensures;
