@@ -1,5 +1,5 @@
 -- The flags that stand among the program's words, wherever they stand before the first `--`.
-use Rattle.std.specs.Prelude.{ℕ, true, ◌&&◌, List, Option, Some, None, if◌then◌else◌}
+use Rattle.std.specs.Prelude.{ℕ, ◌&&◌, List, Option, Some, None, if◌then◌else◌}
 use Rattle.std.specs.Option.{option_and_then}
 use Rattle.mst_command.specs.Words.{Request, asked_by}
 use Rattle.mstplan.specs.Words.{are_worded}

@@ -1,5 +1,5 @@
 -- What an engineer is told for whom the program waits at a terminal.
-use Rattle.std.specs.Prelude.{ℕ, Bool, ◌++◌, List, [], Result, Ok, Err, codes, nat_lt, if◌then◌else◌}
+use Rattle.std.specs.Prelude.{ℕ, Bool, List, [], Result, Ok, Err, codes, nat_lt, if◌then◌else◌}
 use Rattle.std.specs.Str.{bytes_eq}
 use Rattle.mst_command.specs.declared.stop.Stop.{Stop}
 use Rattle.mst_command.specs.declared.words.Asked.{Asked}

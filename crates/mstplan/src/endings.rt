@@ -166,7 +166,6 @@ fn tell_word<K: Sink>(errors: &mut K, word: &str, meant: Meant)
 }
 
 /// What stands behind such a word: a text, the word again, if it was meant for a file, and the rest.
-#[tactic(auto, unfolding(std::specs::Str::chars))]
 fn behind_word<'a>(word: &'a str, meant: Meant) -> (&'static str, &'a str, &'static str)
     ensures { result.0.now ++ (shown result.1.now ++ result.2.now) ≡ behind_stray word.entry.now meant }
 {
