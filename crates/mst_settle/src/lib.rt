@@ -11,6 +11,7 @@ mod differences;
 mod known;
 pub mod laws;
 mod looking;
+mod next_tree;
 mod noting;
 mod outcome;
 mod own;
@@ -24,6 +25,7 @@ mod taking;
 mod touched;
 
 pub use comparing::TellsApart;
+pub use next_tree::repaired_tree;
 pub use outcome::Outcome;
 pub use rewiring::Rewiring;
 pub use settler::Settler;

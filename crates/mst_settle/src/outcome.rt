@@ -1,4 +1,4 @@
-ghost use Rattle.std.specs.Prelude.{◌≡◌, ℕ, None};
+ghost use Rattle.std.specs.Prelude.{◌≡◌, ℕ, [], None};
 ghost use Rattle.mst_settle.specs.Assignment.{vector_of, designated_of};
 
 use mst_ids::{BridgeNo, LanNo, PortNo};
@@ -11,8 +11,8 @@ use std::marker::Model;
 /// touches: a settler takes it over to repair it.
 #[derive(Drop)]
 pub struct Outcome<M: Metric> {
-    pub(crate) vectors: ByNumber<Option<M::Vector>>,
-    pub(crate) ports: ByNumber<Option<PortNo>>,
+    vectors: ByNumber<Option<M::Vector>>,
+    ports: ByNumber<Option<PortNo>>,
 }
 
 impl<M: Metric> Model for Outcome<M> {
@@ -34,6 +34,27 @@ impl<M: Metric> Outcome<M> {
             vectors: ByNumber::new(alloc),
             ports: ByNumber::new(alloc),
         }
+    }
+
+    /// The outcome of these vectors and designated ports.
+    pub fn of(vectors: ByNumber<Option<M::Vector>>, ports: ByNumber<Option<PortNo>>) -> Self
+        ensures { result ≡ record { bridges = vectors; lans = ports; touched_bridges = []; touched_lans = []; settlings = 0 } }
+    {
+        Outcome { vectors, ports }
+    }
+
+    /// The vectors of all bridges that have a place, by the bridges' numbers.
+    pub fn vectors(&self) -> &ByNumber<Option<M::Vector>>
+        ensures { result.now ≡ self.now.bridges }
+    {
+        &self.vectors
+    }
+
+    /// The designated ports of all LANs that have a place, by the LANs' numbers.
+    pub fn ports(&self) -> &ByNumber<Option<PortNo>>
+        ensures { result.now ≡ self.now.lans }
+    {
+        &self.ports
     }
 
     /// The settled vector of the bridge of that number, or nothing where there is no such bridge.

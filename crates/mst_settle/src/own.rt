@@ -1,3 +1,4 @@
+//! The settings that ports have in one tree alone, as a tree holds them: shared with the tree before, where they are the same.
 ghost use Rattle.std.specs.Prelude.{◌≡◌, [], IfOk, IsTrue};
 ghost use Rattle.std.specs.Option.{option_map};
 ghost use Rattle.mst_topology.specs.Places.{in_map};
@@ -13,7 +14,7 @@ use std::rc::Rc;
 /// The settings that ports have in one tree alone, twice: in the order of the ports' numbers, in which they are compared
 /// with those after an edit, and in a flat table, in which they are looked up.
 #[derive(Drop)]
-pub(crate) struct Own<P> {
+pub struct Own<P> {
     settings: Vec<(usize, P)>,
     flat: ByNumber<P>,
 }
@@ -30,7 +31,7 @@ impl<P> Model for Own<P> {
 
 impl<P: Copy> Own<P> {
     /// These settings. `AllocError`: memory was wanted and refused.
-    fn new(alloc: Global, own: &BTreeMap<usize, P>) -> Result<Self, AllocError>
+    pub fn new(alloc: Global, own: &BTreeMap<usize, P>) -> Result<Self, AllocError>
         ensures { IfOk result (λ held. held ≡ own.now.entries) }
     {
         let mut settings = Vec::new(alloc);
@@ -44,14 +45,14 @@ impl<P: Copy> Own<P> {
     }
 
     /// They in order.
-    fn settings(&self) -> &[(usize, P)]
+    pub fn settings(&self) -> &[(usize, P)]
         ensures { result.now ≡ self.now }
     {
         self.settings.as_slice()
     }
 
     /// They in a flat table.
-    fn flat(&self) -> &ByNumber<P>
+    pub fn flat(&self) -> &ByNumber<P>
         ensures { result.now ≡ self.now }
     {
         &self.flat
@@ -59,10 +60,7 @@ impl<P: Copy> Own<P> {
 }
 
 /// The settings that a tree holds in a flat table, or this table of none.
-pub(crate) fn table<'a, P: Copy>(
-    own: &'a Option<Rc<Own<P>>>,
-    none: &'a ByNumber<P>,
-) -> &'a ByNumber<P>
+pub fn table<'a, P: Copy>(own: &'a Option<Rc<Own<P>>>, none: &'a ByNumber<P>) -> &'a ByNumber<P>
     requires { none.now ≡ [] }
     ensures { result.now ≡ own_of (option_map (λ r. r.value) own.now) }
 {
@@ -73,7 +71,7 @@ pub(crate) fn table<'a, P: Copy>(
 }
 
 /// Whether a port has the same settings of its own in two tables, or none in either.
-pub(crate) fn same_own<M: TellsApart>(
+pub fn same_own<M: TellsApart>(
     own_from: &ByNumber<M::Port>,
     own_to: &ByNumber<M::Port>,
     number: usize,
@@ -110,10 +108,7 @@ fn same_settings<M: TellsApart>(here: &[(usize, M::Port)], there: &BTreeMap<usiz
 }
 
 /// Whether a tree holds these settings.
-pub(crate) fn holds<M: TellsApart>(
-    held: &Option<Rc<Own<M::Port>>>,
-    own: &BTreeMap<usize, M::Port>,
-) -> bool
+pub fn holds<M: TellsApart>(held: &Option<Rc<Own<M::Port>>>, own: &BTreeMap<usize, M::Port>) -> bool
     ensures { IsTrue result → own_of (option_map (λ r. r.value) held.now) ≡ own.now.entries }
 {
     match held {
@@ -124,7 +119,7 @@ pub(crate) fn holds<M: TellsApart>(
 
 /// What a tree after an edit holds of the settings that ports have in it alone: what the tree before holds, where that
 /// is the same, and else a copy. `AllocError`: memory was wanted and refused.
-pub(crate) fn shared<P: Copy>(
+pub fn shared<P: Copy>(
     alloc: Global,
     before: &Option<Rc<Own<P>>>,
     own: &BTreeMap<usize, P>,

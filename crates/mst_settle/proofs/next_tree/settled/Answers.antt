@@ -5,28 +5,28 @@ use Rattle.mst_settle.specs.Held.{topology_on}
 use Rattle.mst_settle.specs.Shared.{outcome_of}
 use Rattle.mst_settle.proofs.Spaced.{space_same, space_then, on_kept, on_ports}
 use Rattle.mst_settle.proofs.Standing.{stands, vectors_have_space, ports_have_space, can_repair, is_repaired}
-use Rattle.mst_settle.proofs.spanning_tree.SpanningTree.settled.Goals as goal
+use Rattle.mst_settle.proofs.next_tree.settled.Goals as goal
 
 pub returns-in-None-clause-settled : goal.returns-in-None-clause-settled
 returns-in-None-clause-settled g c =
-    let from : c.new-from.result ≡ topology_on c.args.rewiring.now.from c.args.self.now = rw (← c.requires.before, ← c.self.view_is, ← c.from.ensures) c.new-from.ensures in
+    let from : c.new-from.result ≡ topology_on c.args.rewiring.now.from c.args.standing.now = rw (← c.requires.before, ← c.bridges.ensures, ← c.from.ensures) c.new-from.ensures in
     let to : c.new-to.result ≡ topology_of c.args.rewiring.now.to c.args.bridges.now c.args.own.now = rw (← c.to.ensures) c.new-to.ensures in
-    let outcome : outcome_of None c.self.inside.settlings ≡ c.args.self.now.outcome = rw (← c.self.view_is, c.in-None.is) refl in
-    stands g.M.Metric.rules c.args.rewiring.now.from c.args.self.now c.requires.held c.new-from.result from c.new-to.result (topology_of c.args.rewiring.now.to c.args.bridges.now c.args.own.now) to
-    (c.is_same.ensures.bridges c.if-is_same.true) (c.is_same.ensures.ports c.if-is_same.true) None c.self.inside.settlings outcome
+    let outcome : outcome_of None c.args.standing.now.outcome.settlings ≡ c.args.standing.now.outcome = rw c.in-None.is at c.outcome.ensures in
+    stands g.M.Metric.rules c.args.rewiring.now.from c.args.standing.now c.requires.held c.new-from.result from c.new-to.result (topology_of c.args.rewiring.now.to c.args.bridges.now c.args.own.now) to
+    (c.is_same.ensures.bridges c.if-is_same.true) (c.is_same.ensures.ports c.if-is_same.true) None c.args.standing.now.outcome.settlings outcome
 
 pub returns-in_ok-clone-in-Some-clause-settled : goal.returns-in_ok-clone-in-Some-clause-settled
 returns-in_ok-clone-in-Some-clause-settled g c =
-    let from : c.new-from.result ≡ topology_on c.args.rewiring.now.from c.args.self.now = rw (← c.requires.before, ← c.self.view_is, ← c.from.ensures) c.new-from.ensures in
+    let from : c.new-from.result ≡ topology_on c.args.rewiring.now.from c.args.standing.now = rw (← c.requires.before, ← c.bridges.ensures, ← c.from.ensures) c.new-from.ensures in
     let to : c.new-to.result ≡ topology_of c.args.rewiring.now.to c.args.bridges.now c.args.own.now = rw (← c.to.ensures) c.new-to.ensures in
-    let outcome : outcome_of (Some c.in-Some.outcome.value) c.self.inside.settlings ≡ c.args.self.now.outcome = rw (← c.self.view_is, c.in-Some.is) refl in
-    rw c.in_ok-clone-in-Some.ensures.cases (stands g.M.Metric.rules c.args.rewiring.now.from c.args.self.now c.requires.held c.new-from.result from c.new-to.result (topology_of c.args.rewiring.now.to c.args.bridges.now c.args.own.now) to
-    (c.is_same.ensures.bridges c.if-is_same.true) (c.is_same.ensures.ports c.if-is_same.true) (Some c.in-Some.outcome.value) c.self.inside.settlings outcome)
+    let outcome : outcome_of (Some c.in-Some.outcome.value) c.args.standing.now.outcome.settlings ≡ c.args.standing.now.outcome = rw c.in-Some.is at c.outcome.ensures in
+    rw c.in_ok-clone-in-Some.ensures.cases (stands g.M.Metric.rules c.args.rewiring.now.from c.args.standing.now c.requires.held c.new-from.result from c.new-to.result (topology_of c.args.rewiring.now.to c.args.bridges.now c.args.own.now) to
+    (c.is_same.ensures.bridges c.if-is_same.true) (c.is_same.ensures.ports c.if-is_same.true) (Some c.in-Some.outcome.value) c.args.standing.now.outcome.settlings outcome)
 
 pub reserve_bridges-requires : goal.reserve_bridges-requires
 reserve_bridges-requires g c =
-    let from : c.new-from.result ≡ topology_on c.args.rewiring.now.from c.args.self.now = rw (← c.requires.before, ← c.self.view_is, ← c.from.ensures) c.new-from.ensures in
-    on_ports c.args.rewiring.now.from c.args.self.now.bridges c.args.self.now.own c.new-from.result from c.args.settler.now c.requires.space.from
+    let from : c.new-from.result ≡ topology_on c.args.rewiring.now.from c.args.standing.now = rw (← c.requires.before, ← c.bridges.ensures, ← c.from.ensures) c.new-from.ensures in
+    on_ports c.args.rewiring.now.from c.args.standing.now.bridges c.args.standing.now.own c.new-from.result from c.args.settler.now c.requires.space.from
 
 pub reserve_bridges-requires-2 : goal.reserve_bridges-requires-2
 reserve_bridges-requires-2 g c =
@@ -36,13 +36,13 @@ reserve_bridges-requires-2 g c =
 
 pub load_into-requires-clause-bridges : goal.load_into-requires-clause-bridges
 load_into-requires-clause-bridges g c =
-    let from : c.new-from.result ≡ topology_on c.args.rewiring.now.from c.args.self.now = rw (← c.requires.before, ← c.self.view_is, ← c.from.ensures) c.new-from.ensures in
-    vectors_have_space g.M.Metric.rules c.args.rewiring.now.from c.args.self.now c.requires.held c.new-from.result from c.reserve_bridges-2.new.settler (space_kept c.new-from.result c.reserve_bridges.new.settler c.reserve_bridges-2.new.settler c.in_ok-reserve_bridges.ensures.ok c.in_ok-reserve_bridges-2.ensures.keeps.space)
+    let from : c.new-from.result ≡ topology_on c.args.rewiring.now.from c.args.standing.now = rw (← c.requires.before, ← c.bridges.ensures, ← c.from.ensures) c.new-from.ensures in
+    vectors_have_space g.M.Metric.rules c.args.rewiring.now.from c.args.standing.now c.requires.held c.new-from.result from c.reserve_bridges-2.new.settler (space_kept c.new-from.result c.reserve_bridges.new.settler c.reserve_bridges-2.new.settler c.in_ok-reserve_bridges.ensures.ok c.in_ok-reserve_bridges-2.ensures.keeps.space)
 
 pub load_into-requires-clause-lans : goal.load_into-requires-clause-lans
 load_into-requires-clause-lans g c =
-    let from : c.new-from.result ≡ topology_on c.args.rewiring.now.from c.args.self.now = rw (← c.requires.before, ← c.self.view_is, ← c.from.ensures) c.new-from.ensures in
-    ports_have_space g.M.Metric.rules c.args.rewiring.now.from c.args.self.now c.requires.held c.new-from.result from c.reserve_bridges-2.new.settler (space_kept c.new-from.result c.reserve_bridges.new.settler c.reserve_bridges-2.new.settler c.in_ok-reserve_bridges.ensures.ok c.in_ok-reserve_bridges-2.ensures.keeps.space)
+    let from : c.new-from.result ≡ topology_on c.args.rewiring.now.from c.args.standing.now = rw (← c.requires.before, ← c.bridges.ensures, ← c.from.ensures) c.new-from.ensures in
+    ports_have_space g.M.Metric.rules c.args.rewiring.now.from c.args.standing.now c.requires.held c.new-from.result from c.reserve_bridges-2.new.settler (space_kept c.new-from.result c.reserve_bridges.new.settler c.reserve_bridges-2.new.settler c.in_ok-reserve_bridges.ensures.ok c.in_ok-reserve_bridges-2.ensures.keeps.space)
 
 pub touch_differences-requires-clause-space_from : goal.touch_differences-requires-clause-space_from
 touch_differences-requires-clause-space_from g c =
@@ -61,17 +61,17 @@ repair-requires-clause-space g c =
 
 pub repair-requires-clause-repairable : goal.repair-requires-clause-repairable
 repair-requires-clause-repairable g c =
-    let from : c.new-from.result ≡ topology_on c.args.rewiring.now.from c.args.self.now = rw (← c.requires.before, ← c.self.view_is, ← c.from.ensures) c.new-from.ensures in
+    let from : c.new-from.result ≡ topology_on c.args.rewiring.now.from c.args.standing.now = rw (← c.requires.before, ← c.bridges.ensures, ← c.from.ensures) c.new-from.ensures in
     let to : c.new-to.result ≡ topology_of c.args.rewiring.now.to c.args.bridges.now c.args.own.now = rw (← c.to.ensures) c.new-to.ensures in
-    can_repair g.M.Metric.rules c.args.rewiring.now.from c.args.self.now c.requires.held c.new-from.result from c.new-to.result (topology_of c.args.rewiring.now.to c.args.bridges.now c.args.own.now) to
+    can_repair g.M.Metric.rules c.args.rewiring.now.from c.args.standing.now c.requires.held c.new-from.result from c.new-to.result (topology_of c.args.rewiring.now.to c.args.bridges.now c.args.own.now) to
     c.load_into.new.settler c.load_into.ensures.vectors c.load_into.ensures.designated c.touch_differences.new.settler c.touch_differences.ensures.keeps
     c.touch_differences.ensures.there c.touch_differences.ensures.back c.requires.topology
 
 pub returns-clause-settled : goal.returns-clause-settled
 returns-clause-settled g c =
-    let from : c.new-from.result ≡ topology_on c.args.rewiring.now.from c.args.self.now = rw (← c.requires.before, ← c.self.view_is, ← c.from.ensures) c.new-from.ensures in
+    let from : c.new-from.result ≡ topology_on c.args.rewiring.now.from c.args.standing.now = rw (← c.requires.before, ← c.bridges.ensures, ← c.from.ensures) c.new-from.ensures in
     let to : c.new-to.result ≡ topology_of c.args.rewiring.now.to c.args.bridges.now c.args.own.now = rw (← c.to.ensures) c.new-to.ensures in
-    is_repaired g.M.Metric.rules c.args.rewiring.now.from c.args.self.now c.requires.held c.new-from.result from c.new-to.result (topology_of c.args.rewiring.now.to c.args.bridges.now c.args.own.now) to
+    is_repaired g.M.Metric.rules c.args.rewiring.now.from c.args.standing.now c.requires.held c.new-from.result from c.new-to.result (topology_of c.args.rewiring.now.to c.args.bridges.now c.args.own.now) to
     c.load_into.new.settler c.load_into.ensures.vectors c.load_into.ensures.designated c.touch_differences.new.settler c.touch_differences.ensures.keeps
     c.repair.new.self c.repair.ensures.settled c.repair.ensures.bounds c.in_ok-settled.settled c.in_ok-settled.ensures.vectors c.in_ok-settled.ensures.designated
     c.in_ok-outcome.outcome.value c.settlings-settlings.result c.in_ok-outcome.ensures.ok c.settlings-settlings.ensures
