@@ -13,7 +13,7 @@ use crate::settings::{cist_bridge, cist_port, msti_bridge, msti_port};
 use mst_ids::{BridgeNo, LanNo, Name, PortName, Tree};
 use mst_lag::PortInView;
 use mst_trees::Settled;
-use mst_trees::settle_laws::costs_bounded;
+use mst_outcome::laws::costs_bounded;
 use mst_vector::{CistMetric, Metric, MstiMetric};
 
 /// The designated port of a LAN in a tree.

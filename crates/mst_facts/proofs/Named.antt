@@ -7,7 +7,7 @@ use Rattle.std.specs.FinMap as fin
 use Rattle.std.specs.FinMap.{get-entries}
 use Rattle.std.specs.FinMap.Entries as entries
 use Rattle.mst_ids.specs.Names.{name_cmp}
-use Rattle.mst_trees.specs.settle.Assignment.{vector_of}
+use Rattle.mst_outcome.specs.Assignment.{vector_of}
 use Rattle.mst_tables.specs.Tables.{Net, Numbers, BridgeRow}
 use Rattle.mst_tables.specs.ByTree.{by_tree}
 use Rattle.mst_tables.specs.Seen.{bridge_row}

@@ -3,7 +3,7 @@ use Rattle.std.specs.Prelude.{ℕ, ◌==◌, List, Option, None, map, if◌then�
 use Rattle.std.specs.List.{find}
 use Rattle.std.specs.Option.{option_map, unwrap_or}
 use Rattle.mst_tables.specs.Seen.{bridge_row}
-use Rattle.mst_trees.specs.settle.Assignment.{vector_of}
+use Rattle.mst_outcome.specs.Assignment.{vector_of}
 use Rattle.mst_lag.specs.Trees.{is_among}
 use Rattle.mst_lag.specs.Viewed.{Viewed}
 use Rattle.mst_lag.specs.declared.in_view.BridgeInView.{BridgeInView}

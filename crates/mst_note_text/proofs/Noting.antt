@@ -14,7 +14,7 @@ use Rattle.mst_vector.specs.declared.cist.CistVector.{CistVector}
 use Rattle.mst_vector.specs.declared.cist.CistBridge.{CistBridge}
 use Rattle.mst_vector.specs.declared.msti.MstiVector.{MstiVector}
 use Rattle.mst_vector.specs.declared.msti.MstiBridge.{MstiBridge}
-use Rattle.mst_trees.specs.settle.Assignment.{vector_of}
+use Rattle.mst_outcome.specs.Assignment.{vector_of}
 use Rattle.mst_tables.specs.Tables.{Net, Numbers, BridgeRow}
 use Rattle.mst_tables.specs.ByTree.{by_tree}
 use Rattle.mst_tables.specs.Contents.{priority_of}

@@ -6,7 +6,7 @@ use Rattle.std.specs.Option.{option_map, option_map_or, option_and_then}
 use Rattle.std.specs.Map.{lookup}
 use Rattle.mst_vector.specs.declared.cist.CistVector.{CistVector}
 use Rattle.mst_vector.specs.declared.msti.MstiVector.{MstiVector}
-use Rattle.mst_trees.specs.settle.Assignment.{vector_of}
+use Rattle.mst_outcome.specs.Assignment.{vector_of}
 use Rattle.mst_lag.specs.Viewed.{Viewed}
 use Rattle.mst_lag.specs.declared.in_view.BridgeInView.{BridgeInView}
 use Rattle.mst_lag.specs.declared.in_view.PortInView.{PortInView}

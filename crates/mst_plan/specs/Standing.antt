@@ -4,7 +4,7 @@ use Rattle.std.specs.Option.{option_and_then, option_map_or}
 use Rattle.std.specs.Map.{lookup}
 use Rattle.mst_vector.specs.declared.cist.CistVector.{CistVector}
 use Rattle.mst_vector.specs.declared.msti.MstiVector.{MstiVector}
-use Rattle.mst_trees.specs.settle.Assignment.{Assignment, vector_of}
+use Rattle.mst_outcome.specs.Assignment.{Assignment, vector_of}
 use Rattle.mst_trees.specs.Bound.{KeepsBound}
 use Rattle.mst_trees.specs.Forest.{Forest}
 

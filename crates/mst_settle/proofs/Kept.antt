@@ -3,7 +3,8 @@ use Rattle.std.proofs.Common.{◌≡◌, ℕ, ◌+◌, ◌≤◌, Option, true, 
 use Rattle.std.specs.List.{Contains}
 use Rattle.mst_topology.specs.Topology.{TreePort, Topology, HasPort}
 use Rattle.mst_topology.specs.Chains.{IsAt, IsLast, upto_place}
-use Rattle.mst_settle.specs.Assignment.{Assignment, KeepsOutcome}
+use Rattle.mst_outcome.specs.Assignment.{Assignment}
+use Rattle.mst_settle.specs.Settler.{KeepsOutcome}
 use Rattle.mst_topology.proofs.Chains.{one_there}
 use Rattle.mst_topology.proofs.Lowest.{before_here_after}
 use Rattle.mst_settle.proofs.Roomy.{keeps_trans}

@@ -9,7 +9,8 @@ use Rattle.std.proofs.lemmas.Map.Views.{Contains-from_lookup, IsSome-lookup_from
 use Rattle.mst_topology.specs.Topology.{TreePort, Topology, HasBridge, HasPort}
 use Rattle.mst_topology.specs.Wiring.{settings_in, port_in, topology_of}
 use Rattle.mst_topology.specs.Places.{in_map, HasRoomAt}
-use Rattle.mst_settle.specs.Assignment.{Assignment, KeepsOutcome}
+use Rattle.mst_outcome.specs.Assignment.{Assignment}
+use Rattle.mst_settle.specs.Settler.{KeepsOutcome}
 use Rattle.mst_topology.proofs.Mapped.{at_from}
 use Rattle.mst_settle.proofs.Roomy.{keeps_trans}
 use Rattle.mst_settle.specs.Differences.{CoversDifferences, IsTouched, PortIsDone, BridgeIsDone, TouchesMissing}

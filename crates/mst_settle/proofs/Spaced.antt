@@ -5,7 +5,8 @@ use Rattle.std.specs.declared.alloc.AllocError.{AllocError}
 use Rattle.mst_topology.specs.Topology.{TreePort, Topology}
 use Rattle.mst_topology.specs.Wiring.{port_in, topology_of}
 use Rattle.mst_topology.specs.Slots.{HasRoom}
-use Rattle.mst_settle.specs.Assignment.{Assignment, KeepsSpace}
+use Rattle.mst_outcome.specs.Assignment.{Assignment}
+use Rattle.mst_settle.specs.Settler.{KeepsSpace}
 use Rattle.mst_settle.specs.Differences.{Wirings, HasSpaceOn, HasSpaceForBoth}
 use Rattle.mst_settle.proofs.Rewired.{from_mapped}
 

@@ -4,16 +4,18 @@ use Rattle.std.specs.List.{Contains}
 use Rattle.std.specs.Prelude.{◌↔◌}
 use Rattle.mst_vector.specs.Rules.{Rules}
 use Rattle.mst_topology.specs.Topology.{TreePort, Topology, IsTopology, HasPort}
-use Rattle.mst_settle.specs.Assignment.{Assignment, vector_of, designated_of, IsSettledFor, HasSpaceFor, KeepsOutcome}
+use Rattle.mst_outcome.specs.Assignment.{Assignment, vector_of, designated_of, IsSettledFor}
+use Rattle.mst_settle.specs.Settler.{HasSpaceFor, KeepsOutcome}
 use Rattle.mst_topology.specs.Slots.{HasRoom}
 use Rattle.mst_topology.specs.Settled.{IsDesignated}
-use Rattle.mst_settle.specs.Parts.{SameParts}
+use Rattle.mst_outcome.specs.Parts.{SameParts}
 use Rattle.mst_topology.specs.Repair.{WithinBounds}
 use Rattle.mst_settle.specs.Repairable.{IsRepairable}
-use Rattle.mst_settle.proofs.PartsAlone.{settled_there, designated_there}
+use Rattle.mst_outcome.proofs.PartsAlone.{settled_there, designated_there}
 use Rattle.mst_settle.specs.Differences.{TouchesMissing}
-use Rattle.mst_settle.specs.Held.{Tree, topology_on, IsHeld}
-use Rattle.mst_settle.specs.Shared.{settled_so_often, outcome_of, IsSettledOn}
+use Rattle.mst_outcome.specs.Held.{Tree, topology_on, IsHeld}
+use Rattle.mst_outcome.specs.Shared.{settled_so_often, outcome_of}
+use Rattle.mst_settle.specs.Repaired.{IsSettledOn}
 use Rattle.mst_settle.proofs.Touches.{vectors_same, settled_same, repairable}
 
 nothing_changed : {V : Type 0} (v : ℕ → Option V) → WithinBounds v v 0

@@ -6,7 +6,7 @@ use Rattle.mst_vector.specs.Rules.{Rules}
 use Rattle.mst_topology.specs.Topology.{TreePort, Topology, IsTopology, HasBridge, HasPort}
 use Rattle.mst_topology.specs.Touched.{SameBridge, SameLan}
 use Rattle.mst_settle.specs.Repairable.{IsRepairable}
-use Rattle.mst_settle.specs.Assignment.{Assignment, vector_of, designated_of, IsSettledFor}
+use Rattle.mst_outcome.specs.Assignment.{Assignment, vector_of, designated_of, IsSettledFor}
 use Rattle.mst_settle.specs.Differences.{TouchesMissing}
 use Rattle.mst_settle.proofs.Marked.{marked_or_not}
 

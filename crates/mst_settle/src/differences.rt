@@ -1,13 +1,13 @@
 ghost use Rattle.std.specs.Prelude.{◌≡◌, ◌⊎◌, ◌↔◌, ℕ, OnOk, IsTrue};
 ghost use Rattle.std.specs.List.{Contains};
 ghost use Rattle.mst_topology.specs.Topology.{TreePort as TreePortOf, HasBridge, HasPort};
-ghost use Rattle.mst_settle.specs.Assignment.{HasSpaceFor, KeepsOutcome};
+ghost use Rattle.mst_settle.specs.Settler.{HasSpaceFor, KeepsOutcome};
 ghost use Rattle.mst_topology.specs.Places.{in_map};
 ghost use Rattle.mst_topology.specs.Wiring.{topology_of};
 ghost use Rattle.mst_settle.specs.Differences.{IsTouched, PortIsDone, NumberIsDone, LansAreTouched, BridgeIsDone, TouchesMissing, HasSpaceOn};
 
-use crate::comparing::{TellsApart, has_bridge, same_bridges, same_tree_port};
-use crate::own::same_own;
+use mst_outcome::{TellsApart, has_bridge, same_bridges, same_tree_port};
+use mst_outcome::same_own;
 use crate::rewiring::Rewiring;
 use crate::settler::Settler;
 use mst_ids::{BridgeNo, PortNo};

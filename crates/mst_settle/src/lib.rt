@@ -6,27 +6,22 @@
 //! repaired: where the two wirings differ is found once for all trees ([`Rewiring`]).
 #![tactic(auto)]
 
-mod comparing;
 mod differences;
 mod known;
-pub mod laws;
 mod looking;
 mod next_tree;
 mod noting;
-mod outcome;
-mod own;
 mod queue;
 mod repairing;
 mod rewiring;
 mod settler;
 mod settling;
-mod spanning_tree;
 mod taking;
 mod touched;
 
-pub use comparing::TellsApart;
+
 pub use next_tree::repaired_tree;
-pub use outcome::Outcome;
+
 pub use rewiring::Rewiring;
 pub use settler::Settler;
-pub use spanning_tree::SpanningTree;
+

@@ -2,7 +2,7 @@ ghost use Rattle.std.specs.Prelude.{◌≡◌, IfOk, OnOk, IsTrue};
 ghost use Rattle.std.specs.List.{Contains};
 ghost use Rattle.mst_settle.specs.Differences.{CoversDifferences, HasSpaceForBoth, NotesMissing};
 
-use crate::comparing::{TellsApart, same_tree_port};
+use mst_outcome::{TellsApart, same_tree_port};
 use crate::settler::Settler;
 use mst_ids::PortNo;
 use mst_topology::{TreePort, Wiring};

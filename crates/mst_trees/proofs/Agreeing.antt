@@ -6,8 +6,8 @@ use Rattle.mst_ids.specs.declared.name.PortName.{PortName}
 use Rattle.mst_vector.specs.Rules.{Rules}
 use Rattle.mst_topology.specs.Topology.{TreePort, Topology, IsTopology, HasBridge, HasPort}
 use Rattle.mst_topology.specs.Settled.{Settled, IsDesignated}
-use Rattle.mst_settle.specs.Renamed.{Renaming, IsRenamed}
-use Rattle.mst_settle.specs.Assignment.{Assignment, vector_of, designated_of, IsSettledFor}
+use Rattle.mst_outcome.specs.Renamed.{Renaming, IsRenamed}
+use Rattle.mst_outcome.specs.Assignment.{Assignment, vector_of, designated_of, IsSettledFor}
 use Rattle.mst_net.specs.tables.Tables.{Net, Numbers, IsNetwork}
 use Rattle.mst_net.specs.tables.Contents.{IsNumbered}
 use Rattle.mst_lag.specs.Viewed.{Viewed, IsView}

@@ -8,7 +8,7 @@ use Rattle.mst_vector.specs.declared.msti.MstiBridge.{MstiBridge}
 use Rattle.mst_vector.specs.declared.msti.MstiPort.{MstiPort}
 use Rattle.mst_topology.specs.Topology.{TreePort, Topology, IsTopology, HasBridge, HasPort}
 use Rattle.mst_topology.specs.Settled.{Designates, IsDesignated}
-use Rattle.mst_settle.specs.Renamed.{Renaming, renamed, IsRenamed}
+use Rattle.mst_outcome.specs.Renamed.{Renaming, renamed, IsRenamed}
 use Rattle.mst_nested.specs.Trees.{Trees, IsLanOf, IsInternal, HasTree, IsNested}
 use Rattle.mst_trees.proofs.Lists.{some_is, no_some}
 

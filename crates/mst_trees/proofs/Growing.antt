@@ -12,7 +12,7 @@ use Rattle.mst_vector.specs.declared.msti.MstiVector.{MstiVector}
 use Rattle.mst_vector.specs.declared.msti.MstiBridge.{MstiBridge}
 use Rattle.mst_topology.specs.Topology.{HasBridge}
 use Rattle.mst_topology.specs.Settled.{IsDesignated}
-use Rattle.mst_settle.specs.Assignment.{Assignment, vector_of, designated_of, IsSettledFor}
+use Rattle.mst_outcome.specs.Assignment.{Assignment, vector_of, designated_of, IsSettledFor}
 use Rattle.mst_net.specs.tables.Tables.{Net, Numbers, BridgeRow}
 use Rattle.mst_net.specs.tables.ByTree.{by_tree}
 use Rattle.mst_lag.specs.Viewed.{Viewed}

@@ -11,7 +11,7 @@ use Rattle.mst_ids.specs.declared.name.PortName.{PortName}
 use Rattle.mst_vector.specs.Rules.{Rules}
 use Rattle.mst_vector.specs.Cist.{cist_rules}
 use Rattle.mst_vector.specs.Msti.{msti_rules}
-use Rattle.mst_settle.specs.Assignment.{vector_of, designated_of}
+use Rattle.mst_outcome.specs.Assignment.{vector_of, designated_of}
 use Rattle.mst_net.specs.tables.Tables.{Net, Numbers, port_eq}
 use Rattle.mst_net.specs.tables.ByTree.{by_tree}
 use Rattle.mst_lag.specs.Aggregation.{same_name}

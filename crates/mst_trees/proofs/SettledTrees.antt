@@ -9,8 +9,8 @@ use Rattle.mst_vector.specs.Msti.{msti_rules}
 use Rattle.mst_vector.specs.declared.msti.MstiVector.{MstiVector}
 use Rattle.mst_topology.specs.Topology.{TreePort, Topology, IsTopology}
 use Rattle.mst_topology.specs.Settled.{Settled}
-use Rattle.mst_settle.specs.Renamed.{Renaming, IsRenamed}
-use Rattle.mst_settle.specs.Assignment.{Assignment, vector_of, designated_of, IsSettledFor}
+use Rattle.mst_outcome.specs.Renamed.{Renaming, IsRenamed}
+use Rattle.mst_outcome.specs.Assignment.{Assignment, vector_of, designated_of, IsSettledFor}
 use Rattle.mst_net.specs.tables.Tables.{Net, Numbers}
 use Rattle.mst_lag.specs.Viewed.{Viewed}
 use Rattle.mst_lag.specs.declared.in_view.PortInView.{PortInView}

@@ -3,7 +3,7 @@ use Rattle.std.specs.Prelude.{◌≡◌, ℕ, ◌==◌, false, List, Option, nat
 use Rattle.std.specs.Option.{option_and_then, option_map_or}
 use Rattle.std.specs.Map.{lookup}
 use Rattle.mst_vector.specs.declared.msti.MstiVector.{MstiVector}
-use Rattle.mst_settle.specs.Assignment.{Assignment, vector_of, designated_of}
+use Rattle.mst_outcome.specs.Assignment.{Assignment, vector_of, designated_of}
 use Rattle.mst_topology.specs.Repair.{CountsVectors}
 use Rattle.mst_net.specs.tables.Tables.{Net, Numbers}
 use Rattle.mst_lag.specs.Viewed.{Viewed}

@@ -1,7 +1,6 @@
 pub use Rattle.mst_topology.specs as topology
 pub use Rattle.mst_nested.specs as nested
 pub use Rattle.mst_config.specs as config
-pub use Rattle.mst_settle.specs as settle
 pub mod Sight
 pub mod Cist
 pub mod Msti

@@ -3,7 +3,7 @@ use Rattle.std.specs.Prelude.{◌≡◌, ◌≢◌, ℕ, ◌≤◌, true, List, 
 use Rattle.std.specs.List.{AllByRecursion, Contains}
 use Rattle.mst_vector.specs.Rules.{Rules}
 use Rattle.mst_topology.specs.Topology.{TreePort, Topology}
-use Rattle.mst_settle.specs.Assignment.{Assignment, vector_of, IsSettledFor}
+use Rattle.mst_outcome.specs.Assignment.{Assignment, vector_of, IsSettledFor}
 use Rattle.mst_topology.specs.Repair.{WithinBounds}
 use Rattle.mst_trees.specs.Apart.{Apart}
 

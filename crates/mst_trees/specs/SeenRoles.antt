@@ -2,7 +2,7 @@
 use Rattle.std.specs.Prelude.{ℕ, ◌==◌, Bool, false, Option, Some, None, if◌then◌else◌}
 use Rattle.std.specs.List.{find}
 use Rattle.std.specs.Option.{option_map, option_map_or}
-use Rattle.mst_settle.specs.Assignment.{vector_of, designated_of}
+use Rattle.mst_outcome.specs.Assignment.{vector_of, designated_of}
 use Rattle.mst_net.specs.tables.ByTree.{table_in}
 use Rattle.mst_net.specs.tables.Seen.{bridge_row}
 use Rattle.mst_net.specs.tables.Table.{tree_in}

@@ -5,7 +5,7 @@ use Rattle.std.specs.Option.{option_map, option_map_or, option_and_then}
 use Rattle.std.specs.FinMap as fin
 use Rattle.mst_ids.specs.declared.name.PortName.{PortName}
 use Rattle.mst_lang.specs.declared.line.Edit.{Edit}
-use Rattle.mst_settle.specs.Assignment.{vector_of, designated_of}
+use Rattle.mst_outcome.specs.Assignment.{vector_of, designated_of}
 use Rattle.mst_net.specs.tables.Tables.{Net, Numbers}
 use Rattle.mst_net.specs.tables.Contents.{Contents, Tables, tables_of, ahead_of}
 use Rattle.mst_lag.specs.Viewed.{Viewed}

@@ -1,7 +1,7 @@
 ghost use Rattle.std.specs.Prelude.{◌≡◌, ℕ, IfOk, None};
 ghost use Rattle.mst_vector.specs.Cist.{cist_rules};
-ghost use Rattle.mst_settle.specs.Assignment.{vector_of, designated_of};
-ghost use Rattle.mst_settle.specs.Held.{IsHeld};
+ghost use Rattle.mst_outcome.specs.Assignment.{vector_of, designated_of};
+ghost use Rattle.mst_outcome.specs.Held.{IsHeld};
 ghost use Rattle.mst_net.specs.tables.Tables.{Net, Numbers};
 ghost use Rattle.mst_config.specs.Shared.{same_in};
 ghost use Rattle.mst_trees.specs.Agrees.{AreOf, Known, KnownInternal};
@@ -20,8 +20,8 @@ use indexmap::IndexMap;
 use mst_config::Regions;
 use mst_ids::{BridgeNo, LanNo, Name, PortName, PortNo, Tree};
 use mst_lag::{PortInView, View};
-use mst_settle::SpanningTree;
-use mst_settle::laws::renamed;
+use mst_outcome::SpanningTree;
+use mst_outcome::laws::renamed;
 use mst_topology::Wiring;
 use mst_vector::{CistMetric, CistPort, CistVector, MstiMetric, MstiPort, MstiVector};
 use std::alloc::{AllocError, Global};
@@ -53,7 +53,7 @@ impl Drop for Forest {
 
 impl Model for Forest {
     ghost use Rattle.mst_vector.specs.Cist.{cist_rules};
-    ghost use Rattle.mst_settle.specs.Held.{IsHeld};
+    ghost use Rattle.mst_outcome.specs.Held.{IsHeld};
     ghost use Rattle.mst_trees.specs.Forest.{Forest as ForestSeen};
     ghost use Rattle.mst_trees.specs.Mstis.{outcomes, AreHeld};
 

@@ -15,7 +15,7 @@ ghost use Rattle.mst_trees.specs.declared.kind.Role.TheVariants.{Root, Master};
 
 use mst_ids::{Name, PortName};
 use mst_nested::laws::{designated_by_key, restricted as none_restricted};
-use mst_settle::laws;
+use mst_outcome::laws;
 use mst_vector::{CistMetric, MstiMetric};
 
 /// Each network has a settled outcome.

@@ -4,7 +4,7 @@ use Rattle.mst_vector.specs.Msti.{msti_rules}
 use Rattle.mst_trees.specs.Cist.{cist_sight}
 use Rattle.mst_trees.specs.Msti.{msti_sight}
 use Rattle.mst_trees.specs.Outcome.{Outcome}
-use Rattle.mst_trees.specs.settle.Assignment.{vector_of, designated_of}
+use Rattle.mst_outcome.specs.Assignment.{vector_of, designated_of}
 use Rattle.mst_trees.specs.Forest.{msti_vector, msti_designated, msti_settlings}
 use Rattle.mst_trees.proofs.CistTopology.{cist_is_sight}
 use Rattle.mst_trees.proofs.MstiTopology.{msti_is_sight}

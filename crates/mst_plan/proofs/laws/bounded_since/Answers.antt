@@ -7,7 +7,7 @@ use Rattle.mst_net.specs.tables.Contents.{Contents}
 use Rattle.mst_trees.specs.Cist.{cist_sight}
 use Rattle.mst_trees.specs.Msti.{msti_sight}
 use Rattle.mst_trees.specs.Outcome.{Outcome}
-use Rattle.mst_trees.specs.settle.Assignment.{vector_of, designated_of}
+use Rattle.mst_outcome.specs.Assignment.{vector_of, designated_of}
 use Rattle.mst_trees.specs.Forest.{Forest, msti_vector, msti_designated, msti_settlings}
 use Rattle.mst_trees.proofs.CistTopology.{cist_is_sight}
 use Rattle.mst_trees.proofs.MstiTopology.{msti_is_sight}

@@ -1,7 +1,7 @@
 use Rattle.std.proofs.Common.{ℕ, take}
 use Rattle.std.specs.List.{All}
 use Rattle.mst_topology.specs.Slots.{HasRoom}
-use Rattle.mst_settle.specs.Assignment.{KeepsOutcome}
+use Rattle.mst_settle.specs.Settler.{KeepsOutcome}
 use Rattle.mst_settle.proofs.differences.reserve_bridges.Given as goal
 
 abbrev pub invariant-loop-bridge : goal.invariant-loop-bridge

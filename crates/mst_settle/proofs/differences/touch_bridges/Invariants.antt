@@ -1,6 +1,6 @@
 use Rattle.std.proofs.Common.{ℕ, take}
 use Rattle.std.specs.List.{All}
-use Rattle.mst_settle.specs.Assignment.{KeepsOutcome}
+use Rattle.mst_settle.specs.Settler.{KeepsOutcome}
 use Rattle.mst_settle.specs.Differences.{BridgeIsDone}
 use Rattle.mst_settle.proofs.differences.touch_bridges.Given as goal
 

@@ -1,7 +1,7 @@
 use Rattle.std.proofs.Common.{◌≡◌, ℕ, ◌≤◌, true}
 use Rattle.std.specs.List.{Contains}
 use Rattle.mst_topology.specs.Topology.{TreePort}
-use Rattle.mst_settle.specs.Assignment.{KeepsOutcome}
+use Rattle.mst_settle.specs.Settler.{KeepsOutcome}
 use Rattle.mst_topology.specs.Chains.{IsAt, upto_place}
 use Rattle.mst_topology.proofs.Lowest.{IsNextAt}
 use Rattle.mst_settle.proofs.differences.touch_lans_of.Given as goal

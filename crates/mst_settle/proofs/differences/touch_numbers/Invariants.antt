@@ -1,6 +1,6 @@
 use Rattle.std.proofs.Common.{take}
 use Rattle.std.specs.List.{All}
-use Rattle.mst_settle.specs.Assignment.{KeepsOutcome}
+use Rattle.mst_settle.specs.Settler.{KeepsOutcome}
 use Rattle.mst_settle.specs.Differences.{NumberIsDone}
 use Rattle.mst_settle.proofs.differences.touch_numbers.Given as goal
 

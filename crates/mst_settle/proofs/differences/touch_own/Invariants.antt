@@ -1,6 +1,6 @@
 use Rattle.std.proofs.Common.{◌≡◌, ℕ, ◌<◌, ◌⊎◌}
 use Rattle.mst_topology.specs.Places.{in_map}
-use Rattle.mst_settle.specs.Assignment.{KeepsOutcome}
+use Rattle.mst_settle.specs.Settler.{KeepsOutcome}
 use Rattle.mst_settle.specs.Differences.{NumberIsDone}
 use Rattle.mst_settle.proofs.differences.touch_own.Given as goal
 

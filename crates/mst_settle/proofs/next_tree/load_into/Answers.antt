@@ -1,6 +1,6 @@
 use Rattle.std.proofs.Common.{rules, ◌≡◌, Some, refl, sym, ap, ◌∙◌}
-use Rattle.mst_settle.specs.Assignment.{Assignment, vector_of, designated_of}
-use Rattle.mst_settle.specs.Shared.{outcome_of}
+use Rattle.mst_outcome.specs.Assignment.{Assignment, vector_of, designated_of}
+use Rattle.mst_outcome.specs.Shared.{outcome_of}
 use Rattle.mst_settle.proofs.next_tree.load_into.Goals as goal
 
 pub load-requires-in-Some-clause-bridges : goal.load-requires-in-Some-clause-bridges

@@ -1,8 +1,8 @@
 use Rattle.std.proofs.Common.{◌≡◌, Some, None, refl}
 use Rattle.mst_topology.specs.Wiring.{topology_of}
 use Rattle.mst_settle.proofs.Scratch.{space_kept}
-use Rattle.mst_settle.specs.Held.{topology_on}
-use Rattle.mst_settle.specs.Shared.{outcome_of}
+use Rattle.mst_outcome.specs.Held.{topology_on}
+use Rattle.mst_outcome.specs.Shared.{outcome_of}
 use Rattle.mst_settle.proofs.Spaced.{space_same, space_then, on_kept, on_ports}
 use Rattle.mst_settle.proofs.Standing.{stands, vectors_have_space, ports_have_space, can_repair, is_repaired}
 use Rattle.mst_settle.proofs.next_tree.settled.Goals as goal

@@ -2,7 +2,7 @@ use Rattle.std.proofs.Common.{◌≡◌, ℕ, Option, Result, Ok, Err, IfOk, sub
 use Rattle.std.specs.declared.alloc.AllocError.{AllocError}
 use Rattle.mst_vector.specs.declared.cist.CistVector.{CistVector}
 use Rattle.mst_vector.specs.declared.msti.MstiVector.{MstiVector}
-use Rattle.mst_trees.specs.settle.Assignment.{vector_of}
+use Rattle.mst_outcome.specs.Assignment.{vector_of}
 use Rattle.mst_trees.specs.Bound.{KeepsBound}
 use Rattle.mst_plan.specs.Standing.{Standing, nothing, standing_of, msti_vector, msti_settlings, KeepsBounds}
 use Rattle.mst_plan.specs.declared.plan.Plan.{Plan}

@@ -1,5 +1,5 @@
 use Rattle.std.proofs.Common.{◌≡◌, ℕ, Some, sym}
-use Rattle.mst_settle.specs.Assignment.{Assignment, vector_of, designated_of}
+use Rattle.mst_outcome.specs.Assignment.{Assignment, vector_of, designated_of}
 use Rattle.mst_topology.specs.Slots.{HasRoom}
 use Rattle.mst_topology.proofs.Places.{keys_room}
 use Rattle.mst_topology.proofs.Loaded.{overwritten}

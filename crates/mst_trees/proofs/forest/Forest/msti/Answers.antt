@@ -1,6 +1,6 @@
 use Rattle.std.proofs.Common.{ap, ◌∙◌}
 use Rattle.std.specs.Option.{option_and_then}
-use Rattle.mst_settle.specs.Assignment.{Assignment, vector_of}
+use Rattle.mst_outcome.specs.Assignment.{Assignment, vector_of}
 use Rattle.mst_vector.specs.declared.msti.MstiVector.{MstiVector}
 use Rattle.mst_trees.specs.Forest.{Forest, msti_vector}
 use Rattle.mst_trees.proofs.Gathering.{found_some, found_none}

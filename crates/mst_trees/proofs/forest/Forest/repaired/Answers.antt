@@ -1,6 +1,6 @@
 use Rattle.std.proofs.Common.{sym, subst, ap, ◌∙◌}
 use Rattle.mst_vector.specs.Cist.{cist_rules}
-use Rattle.mst_settle.specs.Assignment.{designated_of, IsSettledFor}
+use Rattle.mst_outcome.specs.Assignment.{designated_of, IsSettledFor}
 use Rattle.mst_trees.specs.Seen.{internal_seen, cist_seen}
 use Rattle.mst_trees.specs.Agrees.{AreOf}
 use Rattle.mst_trees.specs.Forest.{Forest}

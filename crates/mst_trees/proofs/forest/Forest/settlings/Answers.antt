@@ -1,7 +1,7 @@
 use Rattle.std.proofs.Common.{◌≡◌, ◌==◌, Bool, false, ap, sym, ◌∙◌}
 use Rattle.std.specs.Prelude.{if◌then◌else◌}
 use Rattle.std.specs.Option.{option_map_or}
-use Rattle.mst_settle.specs.Assignment.{Assignment}
+use Rattle.mst_outcome.specs.Assignment.{Assignment}
 use Rattle.mst_vector.specs.declared.msti.MstiVector.{MstiVector}
 use Rattle.mst_trees.specs.Forest.{Forest, msti_settlings}
 use Rattle.mst_trees.proofs.Gathering.{found_some, found_none, not_zero}

@@ -1,0 +1,3 @@
+pub mod PartsAlone
+pub mod Renamed
+pub mod Tables

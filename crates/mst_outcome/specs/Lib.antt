@@ -1,0 +1,5 @@
+pub mod Assignment
+pub mod Held
+pub mod Parts
+pub mod Renamed
+pub mod Shared
