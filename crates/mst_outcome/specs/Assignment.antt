@@ -1,4 +1,4 @@
--- What a settler holds.
+-- What is settled of a tree, with what a settler holds beside it.
 use Rattle.std.specs.Prelude.{ℕ, List, Option, Bool}
 use Rattle.std.specs.Ordering.{nat_cmp}
 use Rattle.std.specs.Map.{lookup}

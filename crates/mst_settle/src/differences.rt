@@ -6,11 +6,11 @@ ghost use Rattle.mst_topology.specs.Places.{in_map};
 ghost use Rattle.mst_topology.specs.Wiring.{topology_of};
 ghost use Rattle.mst_settle.specs.Differences.{IsTouched, PortIsDone, NumberIsDone, LansAreTouched, BridgeIsDone, TouchesMissing, HasSpaceOn};
 
-use mst_outcome::{TellsApart, has_bridge, same_bridges, same_tree_port};
-use mst_outcome::same_own;
 use crate::rewiring::Rewiring;
 use crate::settler::Settler;
 use mst_ids::{BridgeNo, PortNo};
+use mst_outcome::own::same_own;
+use mst_outcome::{TellsApart, has_bridge, same_bridges, same_tree_port};
 use mst_topology::{ByNumber, Topology};
 use std::alloc::AllocError;
 

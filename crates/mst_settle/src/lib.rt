@@ -2,8 +2,8 @@
 //! each LAN the designated port that says the best.
 //!
 //! The bridges at which another vector is due stand in a queue, and get theirs turn by turn, the least key first; what a turn touches is
-//! looked at anew ([`Settler`]). A tree on a wiring that trees share is a [`SpanningTree`], from which that of the network after an edit is
-//! repaired: where the two wirings differ is found once for all trees ([`Rewiring`]).
+//! looked at anew ([`Settler`]). From a tree on a wiring that trees share that of the network after an edit is repaired ([`repaired_tree`]):
+//! where the two wirings differ is found once for all trees ([`Rewiring`]).
 #![tactic(auto)]
 
 mod differences;
@@ -19,9 +19,7 @@ mod settling;
 mod taking;
 mod touched;
 
-
+pub use mst_outcome::laws;
 pub use next_tree::repaired_tree;
-
 pub use rewiring::Rewiring;
 pub use settler::Settler;
-

@@ -12,13 +12,11 @@ ghost use Rattle.mst_settle.specs.Repaired.{IsSettledOn};
 ghost use Rattle.mst_outcome.specs.Shared.{own_of};
 ghost use Rattle.std.specs.Option.{option_map};
 
-use mst_outcome::TellsApart;
 use crate::differences::{is_same, reserve_bridges, touch_differences};
-use mst_outcome::Outcome;
-use mst_outcome::{Own, holds, shared, table};
 use crate::rewiring::Rewiring;
 use crate::settler::Settler;
-use mst_outcome::SpanningTree;
+use mst_outcome::own::{Own, holds, shared, table};
+use mst_outcome::{Outcome, SpanningTree, TellsApart};
 use mst_topology::{Bridges, ByNumber, Topology};
 use mst_vector::Metric;
 use std::alloc::{AllocError, Global};

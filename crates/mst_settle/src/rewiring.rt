@@ -2,9 +2,9 @@ ghost use Rattle.std.specs.Prelude.{◌≡◌, IfOk, OnOk, IsTrue};
 ghost use Rattle.std.specs.List.{Contains};
 ghost use Rattle.mst_settle.specs.Differences.{CoversDifferences, HasSpaceForBoth, NotesMissing};
 
-use mst_outcome::{TellsApart, same_tree_port};
 use crate::settler::Settler;
 use mst_ids::PortNo;
+use mst_outcome::{TellsApart, same_tree_port};
 use mst_topology::{TreePort, Wiring};
 use std::alloc::{AllocError, Global};
 use std::marker::Model;
