@@ -7,7 +7,7 @@ mod plan;
 
 pub use kept::KeptPlan;
 pub use mst_trees::{
-    Forest, Role, Settled, bridge_id, cist_port, is_had, laws as trees_laws, msti_port, role_of,
-    trees_in_use,
+    Forest, Role, Settled, Settler, bridge_id, cist_port, forest_of, is_had, laws as trees_laws,
+    msti_port, repaired_forest, role_of, trees_in_use,
 };
 pub use plan::{Plan, plan_beside};

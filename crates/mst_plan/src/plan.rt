@@ -10,7 +10,7 @@ use mst_lag::laws::{bridge_alone, lan_alone, port_alone, ports_alone, set_alone}
 use mst_lag::{View, leaves_key, leaves_links, leaves_tables, view};
 use mst_lang::Edit;
 use mst_net::{Contents, Network};
-use mst_trees::Forest;
+use mst_trees::{Forest, repaired_forest};
 use std::alloc::{AllocError, Global};
 
 /// What follows from a network: its view, its regions, and its trees, settled.
@@ -64,7 +64,7 @@ pub(crate) fn next_trees<C: Contents>(
 {
     contents.known();
     let regions = regions_now(alloc, contents, standing, regions_stand)?;
-    let forest = standing.forest.repaired(alloc, &standing.view, &regions)?;
+    let forest = repaired_forest(alloc, &standing.forest, &standing.view, &regions)?;
     Ok((regions, forest))
 }
 
@@ -174,7 +174,7 @@ pub(crate) fn plan_from<C: Contents>(
 {
     contents.known();
     let view = view(alloc, contents)?;
-    let forest = standing.repaired(alloc, &view, &regions)?;
+    let forest = repaired_forest(alloc, standing, &view, &regions)?;
     Ok(Plan {
         view,
         regions,

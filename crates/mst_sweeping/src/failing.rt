@@ -9,7 +9,7 @@ use mst_config::Regions;
 use mst_config::laws::regions_stay;
 use mst_lag::View;
 use mst_net::{Contents, Network};
-use mst_plan::{Forest, Plan};
+use mst_plan::{Forest, Plan, repaired_forest};
 use mst_sweep::{Failing, Failure};
 use std::alloc::{AllocError, Global};
 
@@ -66,7 +66,7 @@ pub(crate) fn trees_ahead<C: Contents>(
 {
     contents.known();
     renew(alloc, contents, failure, seen)?;
-    from.repaired(alloc, seen, regions)
+    repaired_forest(alloc, from, seen, regions)
 }
 
 /// Renews a view that is the network's but for what fails.

@@ -1,31 +1,25 @@
-ghost use Rattle.std.specs.Prelude.{◌≡◌, ℕ, IfOk, None};
+ghost use Rattle.std.specs.Prelude.{◌≡◌, ℕ, None};
 ghost use Rattle.mst_vector.specs.Cist.{cist_rules};
 ghost use Rattle.mst_outcome.specs.Assignment.{vector_of, designated_of};
 ghost use Rattle.mst_outcome.specs.Held.{IsHeld};
-ghost use Rattle.mst_net.specs.tables.Tables.{Net, Numbers};
 ghost use Rattle.mst_config.specs.Shared.{same_in};
-ghost use Rattle.mst_trees.specs.Agrees.{AreOf, Known, KnownInternal};
-ghost use Rattle.mst_trees.specs.Forest.{IsForest, IsSettledOnce, KeepsBounds, SettlesNoUnused, msti_vector, msti_settlings, designated_in, settlings_in, trees_seen};
-ghost use Rattle.mst_trees.specs.Mstis.{AreHeld, AreOutcomes, outcomes};
-ghost use Rattle.mst_trees.specs.Numbered.{IsSettledBy};
-ghost use Rattle.mst_trees.specs.Seen.{cist_seen, seen_internal};
-ghost use Rattle.mst_trees.specs.Wirings.{msti_wires};
-ghost use Rattle.mst_nested.specs.Trees.{IsSettled};
+ghost use Rattle.mst_trees.specs.Forest.{msti_vector, designated_in, settlings_in};
+ghost use Rattle.mst_trees.specs.Mstis.{AreHeld, outcomes};
+ghost use Rattle.mst_trees.specs.Seen.{seen_internal};
 
-use crate::cist::{cist_wiring, repaired_cist};
-use crate::laws::{has_outcome, nested};
-use crate::msti::{internal_ports, is_internal, msti_wiring};
-use crate::mstis::{Mstis, repaired_mstis};
+use crate::internal::is_internal;
 use indexmap::IndexMap;
 use mst_config::Regions;
-use mst_ids::{BridgeNo, LanNo, Name, PortName, PortNo, Tree};
+use mst_ids::{BridgeNo, LanNo, PortNo, Tree};
 use mst_lag::{PortInView, View};
 use mst_outcome::SpanningTree;
-use mst_outcome::laws::renamed;
 use mst_topology::Wiring;
 use mst_vector::{CistMetric, CistPort, CistVector, MstiMetric, MstiPort, MstiVector};
-use std::alloc::{AllocError, Global};
+use std::alloc::Global;
 use std::marker::Model;
+
+/// The MSTIs by their numbers.
+pub type Mstis = IndexMap<Tree, SpanningTree<MstiMetric>>;
 
 /// The trees of a network, settled: the CIST, and each MSTI that some bridge has. They go by two wirings of its logical
 /// ports: the CIST by that of the enabled ones, and the MSTIs by that of those whose LAN belongs to the region of their
@@ -79,88 +73,41 @@ impl Forest {
         }
     }
 
-    /// Settles the trees of a network, by its view and its regions. `AllocError`: memory was wanted and refused.
-    pub fn new(alloc: Global, view: &View, regions: &Regions) -> Result<Forest, AllocError>
-        requires { Known view.now regions.now }
-        ensures outcome { IfOk result (λ forest. (net : Net) (numbers : Numbers) → AreOf net numbers view.now regions.now → IsForest net numbers forest) }
-        ensures nested { IfOk result (λ forest. IsSettled (trees_seen view.now forest)) }
-        ensures once { IfOk result IsSettledOnce }
+    /// The forest of these trees, each on its wiring, settled for these regions.
+    pub fn of(
+        regions: Regions,
+        cist_wiring: Wiring<CistPort>,
+        cist: SpanningTree<CistMetric>,
+        msti_wiring: Wiring<MstiPort>,
+        mstis: Mstis,
+    ) -> Forest
+        requires cist { IsHeld cist_rules cist_wiring cist }
+        requires mstis { AreHeld msti_wiring mstis.entries }
+        ensures { result ≡ record { regions = regions; cist = cist.outcome; mstis = outcomes mstis.entries } }
     {
-        let nothing = Forest::empty(alloc);
-        nothing.repaired(alloc, view, regions)
-    }
-
-    /// The trees of another network, each repaired from the one that stands: a copy is repaired, and this forest
-    /// stays. What is settled for a tree that stays the same is shared. `AllocError`: memory was wanted and refused.
-    pub fn repaired(
-        &self,
-        alloc: Global,
-        view: &View,
-        regions: &Regions,
-    ) -> Result<Forest, AllocError>
-        requires { Known view.now regions.now }
-        ensures outcome { IfOk result (λ forest. (net : Net) (numbers : Numbers) → AreOf net numbers view.now regions.now → IsForest net numbers forest) }
-        ensures nested { IfOk result (λ forest. IsSettled (trees_seen view.now forest)) }
-        ensures bounds { IfOk result (KeepsBounds self.now) }
-        ensures unused { IfOk result (λ forest. (net : Net) (numbers : Numbers) → AreOf net numbers view.now regions.now → SettlesNoUnused net (msti_settlings forest)) }
-    {
-        has_outcome();
-        nested();
-        renamed::<CistMetric, Name, Name, PortName, BridgeNo, LanNo, PortNo>();
-        renamed::<MstiMetric, Name, Name, PortName, BridgeNo, LanNo, PortNo>();
-        let (cist_wiring, cist) = self.next_cist(alloc, view, regions)?;
-        let internal = internal_ports(alloc, view, regions, &cist)?;
-        let msti_wiring = msti_wiring(alloc, internal.as_slice())?;
-        let mstis = self.next_mstis(alloc, view, internal.as_slice(), &msti_wiring)?;
-        Ok(Forest {
-            regions: regions.copy()?,
+        Forest {
+            regions,
             cist_wiring,
             cist,
             msti_wiring,
             mstis,
-        })
+        }
     }
 
-    /// The CIST of another network, repaired from the one that stands, on its wiring.
-    fn next_cist(
-        &self,
-        alloc: Global,
-        view: &View,
-        regions: &Regions,
-    ) -> Result<(Wiring<CistPort>, SpanningTree<CistMetric>), AllocError>
-        requires { Known view.now regions.now }
-        ensures settled { IfOk result (λ r. IsSettledBy cist_rules (cist_seen view.now regions.now) (vector_of self.now.cist) r.1.outcome) }
-        ensures held { IfOk result (λ r. IsHeld cist_rules r.0 r.1) }
+    /// The CIST, with the wiring that it is on.
+    pub fn cist_wired(&self) -> (&Wiring<CistPort>, &SpanningTree<CistMetric>)
+        ensures outcome { result.1.now.outcome ≡ self.now.cist }
+        ensures held { IsHeld cist_rules result.0.now result.1.now }
     {
-        let wiring = cist_wiring(alloc, view)?;
-        let cist = repaired_cist(alloc, &self.cist, &self.cist_wiring, &wiring, view, regions)?;
-        Ok((wiring, cist))
+        (&self.cist_wiring, &self.cist)
     }
 
-    /// The MSTIs of another network of whose view these are the internal ports, on their wiring: each is repaired from
-    /// the one that stands, if there is one.
-    fn next_mstis(
-        &self,
-        alloc: Global,
-        view: &View,
-        internal: &[PortInView],
-        wiring: &Wiring<MstiPort>,
-    ) -> Result<Mstis, AllocError>
-        requires known { KnownInternal view.now internal.now }
-        requires wiring { wiring.now ≡ msti_wires internal.now }
-        ensures settled { IfOk result (λ mstis. AreOutcomes view.now internal.now self.now.mstis (outcomes mstis.entries)) }
-        ensures held { IfOk result (λ mstis. AreHeld wiring.now mstis.entries) }
+    /// The MSTIs by their numbers, with the wiring that they are on.
+    pub fn mstis_wired(&self) -> (&Wiring<MstiPort>, &Mstis)
+        ensures outcomes { outcomes result.1.now.entries ≡ self.now.mstis }
+        ensures held { AreHeld result.0.now result.1.now.entries }
     {
-        let nothing = Wiring::new(alloc);
-        repaired_mstis(
-            alloc,
-            &self.mstis,
-            view,
-            internal,
-            &nothing,
-            &self.msti_wiring,
-            wiring,
-        )
+        (&self.msti_wiring, &self.mstis)
     }
 
     /// The root priority vector of a bridge in the CIST, or nothing where the bridge is off or isn't there.

@@ -6,11 +6,14 @@ ghost use Rattle.mst_lag.specs.Viewed.{named_port};
 ghost use Rattle.mst_trees.specs.Cist.{cist_port as port_in_cist};
 ghost use Rattle.mst_trees.specs.InUse.{id_in};
 ghost use Rattle.mst_trees.specs.Msti.{msti_port as port_in_msti};
+ghost use Rattle.mst_trees.specs.Seen.{seen_cist_bridge, seen_msti_bridge};
 
-use mst_ids::{BridgeId, PortId, Tree, auto_cost};
-use mst_lag::{BridgeInView, PortInView};
+use mst_config::Regions;
+use mst_ids::{BridgeId, BridgeNo, PortId, Tree, auto_cost};
+use mst_lag::{BridgeInView, PortInView, View};
+use mst_lang::Kind;
 use mst_net::TreeSettings;
-use mst_vector::{CistPort, MstiPort};
+use mst_vector::{CistBridge, CistPort, MstiBridge, MstiPort};
 
 /// The identifier of a bridge in a tree: its priority there, the tree and its MAC.
 pub fn bridge_id(settings: &TreeSettings, tree: Tree, bridge: &BridgeInView) -> BridgeId
@@ -18,6 +21,43 @@ pub fn bridge_id(settings: &TreeSettings, tree: Tree, bridge: &BridgeInView) -> 
 {
     let priority = settings.tree_priority(&bridge.name, tree);
     BridgeId::new(priority, tree, bridge.bridge.mac)
+}
+
+/// What the CIST has to know of a bridge, under its number, where it is on.
+pub fn cist_bridge(
+    settings: &TreeSettings,
+    regions: &Regions,
+    seen: &BridgeInView,
+) -> Option<(BridgeNo, CistBridge)>
+    ensures { result ≡ seen_cist_bridge settings.now.set regions.now seen.now }
+{
+    if !seen.bridge.is_on() {
+        return None;
+    }
+    let region = regions.region(seen.bridge.number)?;
+    let is_rstp = match seen.bridge.kind {
+        Kind::Mstp => false,
+        Kind::Rstp => true,
+    };
+    let bridge = CistBridge {
+        id: bridge_id(settings, Tree::cist(), seen),
+        region,
+        is_rstp,
+    };
+    Some((seen.bridge.number, bridge))
+}
+
+/// What an MSTI has to know of a bridge, under its number, where it is on and has the tree.
+pub fn msti_bridge(view: &View, tree: Tree, seen: &BridgeInView) -> Option<(BridgeNo, MstiBridge)>
+    ensures { result ≡ seen_msti_bridge view.now tree seen.now }
+{
+    if !seen.bridge.is_on() || !view.has_tree(seen.bridge.number, tree) {
+        return None;
+    }
+    let bridge = MstiBridge {
+        id: bridge_id(view.settings(), tree, seen),
+    };
+    Some((seen.bridge.number, bridge))
 }
 
 /// The identifier of a logical port in a tree: its priority there and its number.

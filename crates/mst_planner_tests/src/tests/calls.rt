@@ -11,7 +11,7 @@ use mst_ids::{BridgeId, BridgeNo, Tree, Vid};
 use mst_kinds::{Kind, TreeLine};
 use mst_lag::{View, view};
 use mst_net::{Contents, Network, laws as net_laws};
-use mst_report::{Forest, Role, Settler, active, forwards, role};
+use mst_report::{Forest, Role, Settler, active, forest_of, forwards, role};
 use mst_rows::{Counts, Value, put};
 use mst_topology::{Bridges, ByNumber, Topology, Wiring};
 use mst_vector::{CistBridge, CistMetric};
@@ -36,7 +36,7 @@ fn planned(alloc: Global, network: &Network) -> Result<(View, Forest), AllocErro
     network.known();
     let view = view(alloc, network)?;
     let regions = regions_of(alloc, network)?;
-    let forest = Forest::new(alloc, &view, &regions)?;
+    let forest = forest_of(alloc, &view, &regions)?;
     Ok((view, forest))
 }
 

@@ -1,7 +1,7 @@
 use Rattle.mst_plan.proofs.plan.next_trees.Goals as goal
 
-pub repaired-requires : goal.repaired-requires
-repaired-requires g c =
+pub repaired_forest-requires : goal.repaired_forest-requires
+repaired_forest-requires g c =
     let tables = g.C.Contents.tables c.args.contents.now in
     record {
       net = tables.net;

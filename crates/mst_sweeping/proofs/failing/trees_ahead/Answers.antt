@@ -1,8 +1,8 @@
 use Rattle.mst_sweeping.proofs.Swept.{if_ok}
 use Rattle.mst_sweeping.proofs.failing.trees_ahead.Goals as goal
 
-pub repaired-requires : goal.repaired-requires
-repaired-requires g c =
+pub repaired_forest-requires : goal.repaired_forest-requires
+repaired_forest-requires g c =
     let tables = g.C.Contents.tables c.args.contents.now in
     record {
       net = tables.net;
@@ -13,11 +13,11 @@ repaired-requires g c =
 pub returns-clause-trees : goal.returns-clause-trees
 returns-clause-trees g c =
     let tables = g.C.Contents.tables c.args.contents.now in
-    if_ok c.repaired.result _ _ (λ trees is.
+    if_ok c.repaired_forest.result _ _ (λ trees is.
     let forest = is tables.net tables.numbers (record { network = c.known.ensures.network; numbered = c.known.ensures.numbered; view = c.in_ok-renew.ensures; regions = c.requires.regions }) in
     record {
       of = record { network = c.known.ensures.network; numbered = c.known.ensures.numbered; view = c.in_ok-renew.ensures; regions = forest.regions };
       regions = c.requires.regions;
       forest = forest;
     })
-    c.repaired.ensures.outcome
+    c.repaired_forest.ensures.outcome

@@ -11,7 +11,7 @@ use Rattle.mst_trees.proofs.Keeping.{keeps_bounds}
 use Rattle.mst_trees.proofs.OnWiring.{internal_numbers}
 use Rattle.mst_trees.proofs.SettledTrees.{same_internal, is_settled_seen}
 use Rattle.mst_trees.proofs.Unused.{settles_no_unused}
-use Rattle.mst_trees.proofs.forest.Forest.repaired.Goals as goal
+use Rattle.mst_trees.proofs.settling.repaired_forest.Goals as goal
 
 pub msti_wiring-requires : goal.msti_wiring-requires
 msti_wiring-requires c =
@@ -49,13 +49,13 @@ next_mstis-requires c =
     }
 
 pub returns-clause-outcome : goal.returns-clause-outcome
-returns-clause-outcome c = λ net numbers of.
+returns-clause-outcome c = rw c.of.ensures (λ net numbers of.
     let v = c.args.view.now in
     let region_ids = c.args.regions.now in
     let o = c.has_outcome.ensures net of.network in
-    let f : Forest = record { regions = c.in_ok-copy.field-0; cist = c.in_ok-cist_wiring.cist.outcome; mstis = outcomes c.in_ok-mstis.mstis.entries } in
+    let f : Forest = record { regions = c.in_ok-regions.regions; cist = c.in_ok-cist_wiring.cist.outcome; mstis = outcomes c.in_ok-mstis.mstis.entries } in
     is_forest net numbers v region_ids of c.renamed.ensures.vectors c.renamed.ensures.ports c.renamed-2.ensures.vectors c.renamed-2.ensures.ports o.0 o.1
-    f c.in_ok-copy.ensures c.in_ok-cist_wiring.ensures.settled.outcome c.as_slice-2.result.now (c.as_slice-2.ensures.value ∙ c.in_ok-internal.ensures) c.args.self.now.mstis c.in_ok-mstis.ensures.settled
+    f c.in_ok-regions.ensures c.in_ok-cist_wiring.ensures.settled.outcome c.as_slice-2.result.now (c.as_slice-2.ensures.value ∙ c.in_ok-internal.ensures) c.args.standing.now.mstis c.in_ok-mstis.ensures.settled)
 
 pub returns-clause-nested : goal.returns-clause-nested
 returns-clause-nested c =
@@ -63,18 +63,18 @@ returns-clause-nested c =
     let k = c.requires in
     let o = c.has_outcome.ensures k.net k.of.network in
     let cist = c.in_ok-cist_wiring.cist.outcome in
-    let regions = sym c.in_ok-copy.ensures in
-    let f : Forest = record { regions = c.in_ok-copy.field-0; cist = cist; mstis = outcomes c.in_ok-mstis.mstis.entries } in
-    is_settled_seen k.net k.numbers v f (subst (AreOf k.net k.numbers v) regions k.of)
+    let regions = sym c.in_ok-regions.ensures in
+    let f : Forest = record { regions = c.in_ok-regions.regions; cist = cist; mstis = outcomes c.in_ok-mstis.mstis.entries } in
+    rw c.of.ensures (is_settled_seen k.net k.numbers v f (subst (AreOf k.net k.numbers v) regions k.of)
     c.renamed.ensures.vectors c.renamed.ensures.ports c.renamed.ensures.topology c.renamed-2.ensures.topology o.0 o.1 (c.nested.ensures.settled k.net o.0 k.of.network o.1)
-    (subst (λ region_ids. IsSettledFor cist_rules (cist_seen v region_ids) cist) regions c.in_ok-cist_wiring.ensures.settled.outcome) c.args.self.now.mstis
-    (same_internal (c.as_slice-2.ensures.value ∙ c.in_ok-internal.ensures ∙ (λ i. internal_seen v (regions i) (designated_of cist))) c.in_ok-mstis.ensures.settled)
+    (subst (λ region_ids. IsSettledFor cist_rules (cist_seen v region_ids) cist) regions c.in_ok-cist_wiring.ensures.settled.outcome) c.args.standing.now.mstis
+    (same_internal (c.as_slice-2.ensures.value ∙ c.in_ok-internal.ensures ∙ (λ i. internal_seen v (regions i) (designated_of cist))) c.in_ok-mstis.ensures.settled))
 
 pub returns-clause-bounds : goal.returns-clause-bounds
 returns-clause-bounds c =
-    let f : Forest = record { regions = c.in_ok-copy.field-0; cist = c.in_ok-cist_wiring.cist.outcome; mstis = outcomes c.in_ok-mstis.mstis.entries } in
-    keeps_bounds c.args.self.now f c.args.view.now c.args.regions.now c.in_ok-cist_wiring.ensures.settled c.as_slice-2.result.now c.in_ok-mstis.ensures.settled
+    let f : Forest = record { regions = c.in_ok-regions.regions; cist = c.in_ok-cist_wiring.cist.outcome; mstis = outcomes c.in_ok-mstis.mstis.entries } in
+    rw c.of.ensures (keeps_bounds c.args.standing.now f c.args.view.now c.args.regions.now c.in_ok-cist_wiring.ensures.settled c.as_slice-2.result.now c.in_ok-mstis.ensures.settled)
 
 pub returns-clause-unused : goal.returns-clause-unused
-returns-clause-unused c = λ net numbers of.
-    settles_no_unused net numbers c.args.view.now c.args.regions.now of c.as_slice-2.result.now c.args.self.now.mstis (outcomes c.in_ok-mstis.mstis.entries) c.in_ok-mstis.ensures.settled
+returns-clause-unused c = rw c.of.ensures (λ net numbers of.
+    settles_no_unused net numbers c.args.view.now c.args.regions.now of c.as_slice-2.result.now c.args.standing.now.mstis (outcomes c.in_ok-mstis.mstis.entries) c.in_ok-mstis.ensures.settled)

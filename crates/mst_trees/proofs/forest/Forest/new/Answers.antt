@@ -1,5 +1,0 @@
-use Rattle.mst_trees.proofs.Keeping.{settled_once}
-use Rattle.mst_trees.proofs.forest.Forest.new.Goals as goal
-
-pub returns-clause-once : goal.returns-clause-once
-returns-clause-once c = settled_once c.empty-nothing.result c.empty-nothing.ensures.cist c.empty-nothing.ensures.mstis c.repaired.result c.repaired.ensures.bounds
