@@ -7,9 +7,9 @@ use Rattle.std.specs.FinMap as fin
 use Rattle.mst_outcome.specs.Assignment.{designated_of}
 use Rattle.mst_lag.specs.Viewed.{named_port}
 use Rattle.mst_lag.specs.declared.in_view.PortInView.{PortInView}
-use Rattle.mst_sweeping.specs.plan.trees.Forest.{designated_in, msti_designated}
-use Rattle.mst_sweeping.specs.plan.trees.Settled.{SettledNet, IsSettledNet, name_of_port, outcome_of}
-use Rattle.mst_sweeping.proofs.plan_lemmas.trees_lemmas.Seen.{port_seen}
+use Rattle.mst_forest.specs.Forest.{designated_in, msti_designated}
+use Rattle.mst_forest.specs.Settled.{SettledNet, IsSettledNet, name_of_port, outcome_of}
+use Rattle.mst_forest.proofs.Seen.{port_seen}
 use Rattle.mst_advise.specs.InQuestion.{designated_beside}
 
 module _ (s : SettledNet) (is : IsSettledNet s) (tree : ℕ) (p : PortInView) (there : Contains s.view.ports p) where

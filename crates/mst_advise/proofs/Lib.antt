@@ -1,6 +1,5 @@
 pub use Rattle.mst_explain.proofs as explain_lemmas
 pub use Rattle.mst_verify.proofs.tree_judges_lemmas as tree_judges_lemmas
-pub use Rattle.mst_sweeping.proofs.sweep_lemmas.facts_lemmas as facts_lemmas
 pub mod ContestRows
 pub mod PortsNamed
 pub mod ForwardingPort

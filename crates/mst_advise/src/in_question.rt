@@ -2,9 +2,9 @@ ghost use Rattle.std.specs.Prelude.{◌≡◌, ◌==◌, ◌||◌, ◌++◌, [],
 ghost use Rattle.std.specs.List.{Contains};
 ghost use Rattle.std.specs.Option.{option_map_or};
 ghost use Rattle.mst_lag.specs.Viewed.{named_port};
-ghost use Rattle.mst_sweeping.specs.plan.trees.Roles.{role_in};
-ghost use Rattle.mst_sweeping.specs.plan.trees.Msti.{has_msti};
-ghost use Rattle.mst_sweeping.specs.plan.trees.Settled.{name_of_port, outcome_of};
+ghost use Rattle.mst_forest.specs.Roles.{role_in};
+ghost use Rattle.mst_forest.specs.Msti.{has_msti};
+ghost use Rattle.mst_forest.specs.Settled.{name_of_port, outcome_of};
 ghost use Rattle.mst_advise.specs.Costs.{against, greatest_cost, port_named as port_of_name};
 ghost use Rattle.mst_advise.specs.InQuestion.{AreInQuestion, AreInQuestionBy, AreInQuestionOf, beside, by_contest, designated_beside as designated_of, extremes, in_question as question_of};
 
@@ -18,7 +18,7 @@ use mst_explain::laws::some_explained;
 use mst_explain::put_explanation;
 use mst_ids::{PortName, PortNo, Tree};
 use mst_lag::PortInView;
-use mst_sweeping::{Settled, role_of};
+use mst_forest::{Settled, role_of};
 use std::alloc::{AllocError, Global};
 
 /// The name of the port of this number.

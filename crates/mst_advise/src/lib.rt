@@ -29,9 +29,7 @@ pub use goal::Goal;
 pub use hindrance::{Hindrance, apart, hindered_by};
 pub use holding::holds;
 pub use in_question::port_settings;
-pub use mst_explain::{
-    Settled, has_tree, laws as explain_laws, put_explanation, put_explanations, trees_laws,
-};
+pub use mst_explain::{laws as explain_laws, put_explanation, put_explanations};
 pub use mst_sweeping::{SweepPart, laws as sweeping_laws, sweep_network, sweep_pairs};
 pub use named::port_named;
 pub use priorities::root_settings;

@@ -5,7 +5,7 @@ ghost use Rattle.mst_net.specs.tables.Tables.{port_eq};
 
 use mst_ids::PortName;
 use mst_lag::PortInView;
-use mst_sweeping::Settled;
+use mst_forest::Settled;
 
 /// The logical port of a name.
 pub fn port_named<'a>(plan: &'a Settled, name: &PortName) -> Option<&'a PortInView>

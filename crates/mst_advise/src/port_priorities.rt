@@ -4,7 +4,7 @@ ghost use Rattle.mst_advise.specs.Priorities.{greatest_upto};
 
 use crate::setting::Setting;
 use mst_ids::{PortId, PortName, PortNumber, Priority, Tree};
-use mst_sweeping::Settled;
+use mst_forest::Settled;
 use std::alloc::AllocError;
 
 /// The identifier of a port in a tree.

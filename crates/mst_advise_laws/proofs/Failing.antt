@@ -3,7 +3,7 @@ use Rattle.std.proofs.Common.{◌≡◌, ◌≢◌, ◌⊎◌, inl, inr, ℕ, ze
 use Rattle.std.specs.List.{Contains, find, list_all}
 use Rattle.std.proofs.lemmas.Bool.{cases_eq}
 use Rattle.mst_graph.proofs.Members.{here, there}
-use Rattle.mst_advise.proofs.facts_lemmas.trees_lemmas.Lists.{no_some, some_is}
+use Rattle.mst_forest.proofs.Lists.{no_some, some_is}
 use Rattle.mst_advise.specs.Priorities.{greatest_upto}
 use Rattle.mst_advise.proofs.GreatestUpto.{greatest_here, greatest_below}
 

@@ -12,9 +12,9 @@ use Rattle.mst_lag.specs.Aggregation.{same_name}
 use Rattle.mst_tables.specs.ByTree.{priority_in}
 use Rattle.mst_tables.specs.Tables.{Net, BridgeRow, IsNetwork, bridge_tree_cmp}
 use Rattle.mst_rows.specs.Rows.{Row}
-use Rattle.mst_advise.specs.verify.summary.facts.trees.Outcome.{Outcome, IsOutcome}
-use Rattle.mst_advise.proofs.facts_lemmas.trees_lemmas.Lists.{no_some}
-use Rattle.mst_advise.proofs.facts_lemmas.trees_lemmas.Views.{same_mac}
+use Rattle.mst_forest.specs.Outcome.{Outcome, IsOutcome}
+use Rattle.mst_forest.proofs.Lists.{no_some}
+use Rattle.mst_forest.proofs.Views.{same_mac}
 use Rattle.mst_advise.specs.verify.tree_judges.judged.reasons.Holds.{IsOneRoot}
 use Rattle.mst_advise.specs.verify.tree_judges.judged.reasons.Roots.{concerned, identifier, is_concerned}
 use Rattle.mst_advise.proofs.tree_judges_lemmas.Keys.{keys_once}

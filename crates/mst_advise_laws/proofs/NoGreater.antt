@@ -15,15 +15,15 @@ use Rattle.mst_tables.specs.After.{refusal_of}
 use Rattle.mst_tables.specs.ByTree.{by_tree, priority_in}
 use Rattle.mst_tables.specs.Tables.{Net, AreBridges, BridgeRow, IsNetwork}
 use Rattle.mst_config.specs.Regions.{same_region}
-use Rattle.mst_advise.specs.verify.summary.facts.trees.InUse.{id_in}
-use Rattle.mst_advise.specs.verify.summary.facts.trees.Outcome.{Outcome, IsOutcome}
-use Rattle.mst_advise.proofs.facts_lemmas.trees_lemmas.Lists.{all_contained, some_is}
-use Rattle.mst_advise.proofs.facts_lemmas.trees_lemmas.Views.{bridges_are, same_mac}
+use Rattle.mst_forest.specs.InUse.{id_in}
+use Rattle.mst_forest.specs.Outcome.{Outcome, IsOutcome}
+use Rattle.mst_forest.proofs.Lists.{all_contained, some_is}
+use Rattle.mst_forest.proofs.Views.{bridges_are, same_mac}
 use Rattle.mst_advise.specs.verify.summary.facts.Roots.{named_by, root_of}
 use Rattle.mst_advise.specs.verify.tree_judges.judged.reasons.Holds.{IsOneRoot}
 use Rattle.mst_advise.specs.verify.tree_judges.judged.reasons.Roots.{concerned, identifier, is_concerned}
 use Rattle.mst_advise.proofs.tree_judges_lemmas.Keys.{key_there}
-use Rattle.mst_advise.proofs.facts_lemmas.trees_lemmas.Sights.{changed_from}
+use Rattle.mst_forest.proofs.Sights.{changed_from}
 use Rattle.mst_advise.specs.Made.{Has}
 use Rattle.mst_advise.specs.Priorities.{comes_first, greatest_priority, others, priorities}
 use Rattle.mst_advise.specs.declared.goal.Goal.TheVariants.{Root}

@@ -18,16 +18,16 @@ use Rattle.mst_topology.specs.Topology.{HasBridge}
 use Rattle.mst_tables.specs.ByTree.{by_tree}
 use Rattle.mst_tables.specs.Tables.{Net, BridgeRow, IsNetwork}
 use Rattle.mst_config.specs.Regions.{region_of}
-use Rattle.mst_advise.specs.verify.summary.facts.trees.Cist.{cist_bridge, cist_of, cist_sight}
-use Rattle.mst_advise.specs.verify.summary.facts.trees.InUse.{id_in}
-use Rattle.mst_advise.specs.verify.summary.facts.trees.Msti.{has_msti, msti_bridge, msti_of, msti_sight}
-use Rattle.mst_advise.specs.verify.summary.facts.trees.Outcome.{Outcome, IsOutcome}
-use Rattle.mst_advise.specs.verify.summary.facts.trees.Sight.{named_bridge}
-use Rattle.mst_advise.proofs.facts_lemmas.trees_lemmas.CistTopology.{given, cist_is_sight}
-use Rattle.mst_advise.proofs.facts_lemmas.trees_lemmas.Lists.{kept_in, no_some}
-use Rattle.mst_advise.proofs.facts_lemmas.trees_lemmas.MstiTopology.{msti_is_sight}
-use Rattle.mst_advise.proofs.facts_lemmas.trees_lemmas.Sights.{bridge_from, changed_from}
-use Rattle.mst_advise.proofs.facts_lemmas.trees_lemmas.Views.{entry_there}
+use Rattle.mst_forest.specs.Cist.{cist_bridge, cist_of, cist_sight}
+use Rattle.mst_forest.specs.InUse.{id_in}
+use Rattle.mst_forest.specs.Msti.{has_msti, msti_bridge, msti_of, msti_sight}
+use Rattle.mst_forest.specs.Outcome.{Outcome, IsOutcome}
+use Rattle.mst_forest.specs.Sight.{named_bridge}
+use Rattle.mst_forest.proofs.CistTopology.{given, cist_is_sight}
+use Rattle.mst_forest.proofs.Lists.{kept_in, no_some}
+use Rattle.mst_forest.proofs.MstiTopology.{msti_is_sight}
+use Rattle.mst_forest.proofs.Sights.{bridge_from, changed_from}
+use Rattle.mst_forest.proofs.Views.{entry_there}
 use Rattle.mst_advise.specs.verify.summary.facts.Roots.{root_of}
 
 -- ---- orders

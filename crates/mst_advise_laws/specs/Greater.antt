@@ -2,7 +2,7 @@
 use Rattle.std.specs.Prelude.{◌≡◌, ℕ, ◌<◌, ◌≤◌, List, [], ◌∷◌, Ok}
 use Rattle.mst_tables.specs.After.{after}
 use Rattle.mst_tables.specs.Tables.{Net}
-use Rattle.mst_advise.specs.verify.summary.facts.trees.Outcome.{Outcome, IsOutcome}
+use Rattle.mst_forest.specs.Outcome.{Outcome, IsOutcome}
 use Rattle.mst_advise.specs.Candidates.{AreCandidates}
 use Rattle.mst_advise.specs.Made.{Has}
 use Rattle.mst_advise.specs.Settings.{edit_of}

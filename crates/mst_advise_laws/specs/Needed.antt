@@ -2,7 +2,7 @@
 use Rattle.std.specs.Prelude.{◌≡◌, ℕ, List, ◌∷◌, ◌++◌, length, map}
 use Rattle.mst_tables.specs.Tables.{Net}
 use Rattle.mst_rows.specs.Rows.{Row}
-use Rattle.mst_advise.specs.verify.summary.facts.trees.Outcome.{Outcome}
+use Rattle.mst_forest.specs.Outcome.{Outcome}
 use Rattle.mst_advise.specs.Made.{Has, Make}
 use Rattle.mst_advise.specs.Told.{setting_row}
 use Rattle.mst_advise.specs.declared.goal.Goal.{Goal}

@@ -2,14 +2,14 @@
 ghost use Rattle.std.specs.Prelude.{ℕ, List};
 ghost use Rattle.mst_tables.specs.Tables.{Net, IsNetwork};
 ghost use Rattle.mst_rows.specs.Rows.{Row};
-ghost use Rattle.mst_advise.specs.verify.summary.facts.trees.Outcome.{Outcome, IsOutcome};
+ghost use Rattle.mst_forest.specs.Outcome.{Outcome, IsOutcome};
 ghost use Rattle.mst_advise.specs.declared.goal.Goal.{Goal as GoalOf};
 ghost use Rattle.mst_advise.specs.Advising.{Advises};
 ghost use Rattle.mst_advise.specs.declared.advising.Advised.TheVariants as advised;
 ghost use Rattle.mst_advise_laws.specs.Greater.{IsAdvised, NoGreaterSuffices};
 ghost use Rattle.mst_advise_laws.specs.Needed.{TellNeeded};
 
-use mst_advise::trees_laws::one_outcome;
+use mst_forest::laws::one_outcome;
 
 /// The priority that is told where a bridge is to be the root of a tree is the greatest: where the one candidate sets the bridge's own priority,
 /// the bridge isn't the one root of those in question with any greater one, whichever settled outcome the network has then.

@@ -6,7 +6,7 @@ ghost use Rattle.mst_diff.specs.declared.diff.Differing.{Differing as Counts};
 ghost use Rattle.mst_rows.specs.Rows.{Row};
 ghost use Rattle.mst_between.specs.Differing.{Differs};
 
-use mst_diff::trees_laws::{has_outcome, one_outcome};
+use mst_forest::laws::{has_outcome, one_outcome};
 
 /// What the change from one network to another does: there is one list of rows and one count of what differs, which the networks
 /// alone settle.

@@ -6,9 +6,9 @@ use Rattle.mst_lag.specs.Trees.{is_among}
 use Rattle.mst_lag.specs.Viewed.{Viewed}
 use Rattle.mst_lag.specs.declared.in_view.BridgeInView.{BridgeInView}
 use Rattle.mst_lag.specs.declared.in_view.PortInView.{PortInView}
-use Rattle.mst_trees.specs.Seen.{trees_at}
-use Rattle.mst_trees.specs.Forest.{Forest, msti_vector}
-use Rattle.mst_trees.specs.SeenRoles.{seen_role}
+use Rattle.mst_forest.specs.Seen.{trees_at}
+use Rattle.mst_forest.specs.Forest.{Forest, msti_vector}
+use Rattle.mst_forest.specs.SeenRoles.{seen_role}
 use Rattle.mst_changes.specs.declared.subject.Item.TheVariants.{Bridge, Port}
 use Rattle.mst_changes.specs.declared.value.VectorOrRole.{VectorOrRole}
 use Rattle.mst_changes.specs.declared.value.VectorOrRole.TheVariants.{InCist, InMsti, HasRole}

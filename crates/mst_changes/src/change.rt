@@ -8,7 +8,7 @@ use crate::value::{VectorOrRole, is_same};
 use mst_ids::{Name, PortName, Tree};
 use mst_kinds::{ChangeLine, Kind};
 use mst_rows::{Rows, Value, Vector, put};
-use mst_trees::Role;
+use mst_forest::Role;
 use std::alloc::AllocError;
 
 /// The root priority vector that an outcome has of a bridge, if it has one.

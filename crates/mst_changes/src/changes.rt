@@ -1,9 +1,9 @@
 ghost use Rattle.std.specs.Prelude.{◌≡◌, ◌<◌, ◌++◌, List, OnOk};
 ghost use Rattle.mst_rows.specs.Rows.{Row};
 ghost use Rattle.mst_tables.specs.Tables.{Net};
-ghost use Rattle.mst_trees.specs.InUse.{AreInUse};
-ghost use Rattle.mst_trees.specs.Outcome.{Outcome};
-ghost use Rattle.mst_trees.specs.Settled.{outcome_of};
+ghost use Rattle.mst_forest.specs.InUse.{AreInUse};
+ghost use Rattle.mst_forest.specs.Outcome.{Outcome};
+ghost use Rattle.mst_forest.specs.Settled.{outcome_of};
 ghost use Rattle.mst_changes.specs.Kept.{AreEntries};
 ghost use Rattle.mst_changes.specs.ChangesText.{all_changes};
 ghost use Rattle.mst_changes.specs.TreeChanges.{tree_changes};
@@ -13,7 +13,7 @@ use crate::merge::put_merged;
 use crate::rows::push_tree;
 use mst_ids::Tree;
 use mst_rows::Rows;
-use mst_trees::{Settled, trees_in_use};
+use mst_forest::{Settled, trees_in_use};
 use std::alloc::{AllocError, Global};
 
 /// Puts the rows of what has changed in one tree. It takes memory for the entries of that tree alone.

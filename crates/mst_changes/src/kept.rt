@@ -1,6 +1,6 @@
 ghost use Rattle.std.specs.Prelude.{◌≡◌, ◌++◌, map, IfOk, OnOk, filter_map};
 ghost use Rattle.std.specs.List.{zip};
-ghost use Rattle.mst_trees.specs.SeenRoles.{seen_role};
+ghost use Rattle.mst_forest.specs.SeenRoles.{seen_role};
 ghost use Rattle.mst_changes.specs.Seen.{seen_vector, seen_bridge_entry, seen_port_entry};
 ghost use Rattle.mst_changes.specs.Stored.{bridge_entry, port_entry, kept_in};
 
@@ -9,7 +9,7 @@ use crate::subject::{Entry, Item};
 use crate::value::VectorOrRole;
 use mst_ids::{Name, PortName, Tree};
 use mst_lag::View;
-use mst_trees::{Forest, Role, port_role};
+use mst_forest::{Forest, Role, port_role};
 use std::alloc::{AllocError, Global};
 
 /// What is kept of a tree: the root priority vectors of the network's bridges and the roles of its logical ports, in

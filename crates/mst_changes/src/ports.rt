@@ -1,13 +1,13 @@
 ghost use Rattle.std.specs.Prelude.{◌≡◌, ◌++◌, List, IfOk};
 ghost use Rattle.mst_rows.specs.Rows.{Row};
-ghost use Rattle.mst_trees.specs.Settled.{outcome_of};
+ghost use Rattle.mst_forest.specs.Settled.{outcome_of};
 ghost use Rattle.mst_changes.specs.PortChanges.{counted, port_change_rows};
 
 use crate::merge::put_merged;
 use crate::rows::push_ports;
 use mst_ids::Tree;
 use mst_rows::Rows;
-use mst_trees::Settled;
+use mst_forest::Settled;
 use std::alloc::{AllocError, Global};
 
 /// Puts the rows of the logical ports of either of two settled networks whose roles in a tree differ, by bridge and

@@ -1,7 +1,7 @@
 //! The entries of a network's outcome.
 ghost use Rattle.std.specs.Prelude.{◌≡◌, ◌++◌, OnOk, filter_map};
-ghost use Rattle.mst_trees.specs.InUse.{AreInUse};
-ghost use Rattle.mst_trees.specs.Settled.{outcome_of};
+ghost use Rattle.mst_forest.specs.InUse.{AreInUse};
+ghost use Rattle.mst_forest.specs.Settled.{outcome_of};
 ghost use Rattle.mst_changes.specs.Kept.{entries_in};
 ghost use Rattle.mst_changes.specs.Seen.{seen_vector, seen_bridge_entry, seen_port_entry};
 
@@ -9,7 +9,7 @@ use crate::subject::{Entry, Item};
 use crate::value::VectorOrRole;
 use mst_ids::{BridgeNo, Tree};
 use mst_lag::{BridgeInView, PortInView, View};
-use mst_trees::{Forest, Settled, is_had, port_role};
+use mst_forest::{Forest, Settled, is_had, port_role};
 use std::alloc::AllocError;
 
 /// The root priority vector of a bridge in a tree, where the bridge is on and has the tree.

@@ -18,20 +18,20 @@ use Rattle.mst_lag.specs.Viewed.{Viewed, named_port}
 use Rattle.mst_lag.specs.declared.in_view.BridgeInView.{BridgeInView}
 use Rattle.mst_lag.proofs.Placing.{pair_found}
 use Rattle.mst_config.specs.Regions.{region_of}
-use Rattle.mst_trees.specs.Sight.{named_bridge as bridge_in_sight}
-use Rattle.mst_trees.specs.Cist.{cist_bridge, cist_sight}
-use Rattle.mst_trees.specs.Outcome.{Outcome, IsOutcome}
-use Rattle.mst_trees.specs.Agrees.{AreOf}
-use Rattle.mst_trees.specs.Seen.{trees_at}
-use Rattle.mst_trees.specs.Forest.{IsForest, Forest}
-use Rattle.mst_trees.specs.Settled.{SettledNet, IsSettledNet, outcome_of}
-use Rattle.mst_trees.proofs.Lists.{some_is, kept_in, all_contained}
-use Rattle.mst_trees.proofs.Views.{IsPort, IsOn, ports_are, row_on, entry_there}
-use Rattle.mst_trees.proofs.Seen.{SeenBridge, SeenPort, bridge_seen, port_seen, port_of_net}
-use Rattle.mst_trees.proofs.Looking.{IsFirst, first_found}
-use Rattle.mst_trees.specs.Roles.{cist_role, role_in, role_of}
-use Rattle.mst_trees.specs.SeenRoles.{seen_role}
-use Rattle.mst_trees.proofs.Named.{own_role, port_same}
+use Rattle.mst_forest.specs.Sight.{named_bridge as bridge_in_sight}
+use Rattle.mst_forest.specs.Cist.{cist_bridge, cist_sight}
+use Rattle.mst_forest.specs.Outcome.{Outcome, IsOutcome}
+use Rattle.mst_forest.specs.Agrees.{AreOf}
+use Rattle.mst_forest.specs.Seen.{trees_at}
+use Rattle.mst_forest.specs.Forest.{IsForest, Forest}
+use Rattle.mst_forest.specs.Settled.{SettledNet, IsSettledNet, outcome_of}
+use Rattle.mst_forest.proofs.Lists.{some_is, kept_in, all_contained}
+use Rattle.mst_forest.proofs.Views.{IsPort, IsOn, ports_are, row_on, entry_there}
+use Rattle.mst_forest.proofs.Seen.{SeenBridge, SeenPort, bridge_seen, port_seen, port_of_net}
+use Rattle.mst_forest.proofs.Looking.{IsFirst, first_found}
+use Rattle.mst_forest.specs.Roles.{cist_role, role_in, role_of}
+use Rattle.mst_forest.specs.SeenRoles.{seen_role}
+use Rattle.mst_forest.proofs.Named.{own_role, port_same}
 use Rattle.mst_bpdu.specs.Differences.{differences_of}
 use Rattle.mst_bpdu.specs.declared.bpdu.Bpdu.{Bpdu}
 use Rattle.mst_bpdu.specs.declared.difference.Difference.{Difference}

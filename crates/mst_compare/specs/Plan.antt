@@ -12,10 +12,10 @@ use Rattle.mst_tables.specs.ByTree.{ByTree, by_tree, priority_in, port_priority_
 use Rattle.mst_tables.specs.After.{table_of}
 use Rattle.mst_lag.specs.Trees.{mstis_of}
 use Rattle.mst_config.specs.Digest.{digest_of}
-use Rattle.mst_trees.specs.Outcome.{Outcome}
-use Rattle.mst_trees.specs.Roles.{role_of, forwards as is_forwarding}
-use Rattle.mst_trees.specs.declared.kind.Role.{Role}
-use Rattle.mst_trees.specs.declared.kind.Role.TheVariants.{Root, Designated, Alternate, Backup, Master, Disabled}
+use Rattle.mst_forest.specs.Outcome.{Outcome}
+use Rattle.mst_forest.specs.Roles.{role_of, forwards as is_forwarding}
+use Rattle.mst_forest.specs.declared.kind.Role.{Role}
+use Rattle.mst_forest.specs.declared.kind.Role.TheVariants.{Root, Designated, Alternate, Backup, Master, Disabled}
 use Rattle.mst_bpdu.specs.declared.flags.RoleCode.{RoleCode}
 use Rattle.mst_bpdu.specs.declared.flags.RoleCode.TheVariants as coded
 use Rattle.mst_bpdu.specs.declared.bpdu.ConfigurationId.{ConfigurationId}

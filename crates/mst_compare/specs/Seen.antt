@@ -10,9 +10,9 @@ use Rattle.mst_tables.specs.Seen.{bridge_row}
 use Rattle.mst_lag.specs.Viewed.{Viewed, named_port}
 use Rattle.mst_lag.specs.declared.in_view.BridgeInView.{BridgeInView}
 use Rattle.mst_lag.specs.declared.in_view.PortInView.{PortInView}
-use Rattle.mst_trees.specs.Seen.{trees_at}
-use Rattle.mst_trees.specs.Forest.{msti_vector, Forest}
-use Rattle.mst_trees.specs.SeenRoles.{seen_role}
+use Rattle.mst_forest.specs.Seen.{trees_at}
+use Rattle.mst_forest.specs.Forest.{msti_vector, Forest}
+use Rattle.mst_forest.specs.SeenRoles.{seen_role}
 use Rattle.mst_bpdu.specs.Sender.{bridge_of, port_of}
 use Rattle.mst_bpdu.specs.declared.bpdu.Bpdu.{Bpdu}
 use Rattle.mst_bpdu.specs.declared.planned.Planned.{Planned}

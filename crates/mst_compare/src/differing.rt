@@ -12,7 +12,7 @@ use crate::senders::{Origin, sender_in};
 use mst_bpdu::{Bpdu, BpduFault, Difference, differences};
 use mst_lag::View;
 use mst_tables::Contents;
-use mst_trees::{Forest, Settled};
+use mst_forest::{Forest, Settled};
 use std::alloc::{AllocError, Global};
 
 /// Where a BPDU differs from what the plan has for the port that sent it, in the order in which fields are compared.

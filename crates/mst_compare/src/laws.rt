@@ -9,7 +9,7 @@ ghost use Rattle.mst_compare.specs.Plan.{configuration_of, octets_of};
 ghost use Rattle.mst_compare.specs.Sender.{sender_of};
 ghost use Rattle.mst_compare.specs.Comparison.{AreDifferences};
 
-use mst_trees::laws::{has_outcome, one_outcome};
+use mst_forest::laws::{has_outcome, one_outcome};
 
 /// A BPDU that has a sender has a list of differences from the plan of a network: the network has an outcome, and each
 /// bridge that is on has a root priority vector in its CIST.

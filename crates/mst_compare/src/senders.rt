@@ -12,7 +12,7 @@ use mst_bpdu::Bpdu;
 use mst_ids::{Mac, Name, PortName};
 use mst_lag::{BridgeInView, PortInView, View};
 use mst_lang::Kind;
-use mst_trees::Settled;
+use mst_forest::Settled;
 
 /// Who sent a BPDU: a bridge of the view, and a logical port of that bridge.
 #[derive(Clone, Copy)]

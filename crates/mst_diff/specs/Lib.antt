@@ -1,5 +1,4 @@
 pub use Rattle.mst_vlan.specs as vlan
-pub use Rattle.mst_facts.specs.trees as trees
 pub mod Regions
 pub mod Roots
 pub mod Ports

@@ -5,7 +5,7 @@ use Rattle.mst_tables.specs.Seen.{bridge_row}
 use Rattle.mst_tables.specs.Tables.{Net}
 use Rattle.mst_lag.specs.Viewed.{Viewed}
 use Rattle.mst_config.specs.Regions.{first_of_region}
-use Rattle.mst_vlan.specs.trees.Settled.{SettledNet, outcome_of}
+use Rattle.mst_forest.specs.Settled.{SettledNet, outcome_of}
 use Rattle.mst_vlan.specs.declared.island.Island.{Island}
 use Rattle.mst_vlan.specs.Seen.{seen_bridge}
 use Rattle.mst_changes.specs.PortChanges.{port_change_rows}

@@ -14,5 +14,5 @@ mod sides;
 mod unlike;
 
 pub use diff::{Differing, put_diff};
-pub use mst_facts::trees_laws;
+
 pub use mst_vlan::laws as vlan_laws;

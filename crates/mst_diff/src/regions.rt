@@ -17,7 +17,7 @@ use mst_lag::{BridgeInView, View};
 use mst_lang::Kind;
 use mst_rows::{RegionSide, Rows, Value, put};
 use mst_tables::Bridge;
-use mst_vlan::{Forest, Settled};
+use mst_forest::{Forest, Settled};
 use std::alloc::{AllocError, Global};
 
 /// A bridge whose region is another one.

@@ -11,11 +11,11 @@ use Rattle.mst_topology.proofs.Below.{one_speaker}
 use Rattle.mst_topology.proofs.Orders.{both}
 use Rattle.mst_tables.specs.Tables.{Net, IsNetwork}
 use Rattle.mst_lag.specs.View.{LogicalPort, view_ports}
-use Rattle.mst_trees.specs.Sight.{Sight, tree_port, tree_of}
-use Rattle.mst_trees.specs.Outcome.{TreeOutcome, IsTreeOutcome}
-use Rattle.mst_trees.proofs.Lists.{no_some, all_contained}
-use Rattle.mst_trees.proofs.Views.{IsPort, ports_are}
-use Rattle.mst_trees.proofs.Sights.{IsSight, bridge_in, port_in, port_from, is_topology}
+use Rattle.mst_forest.specs.Sight.{Sight, tree_port, tree_of}
+use Rattle.mst_forest.specs.Outcome.{TreeOutcome, IsTreeOutcome}
+use Rattle.mst_forest.proofs.Lists.{no_some, all_contained}
+use Rattle.mst_forest.proofs.Views.{IsPort, ports_are}
+use Rattle.mst_forest.proofs.Sights.{IsSight, bridge_in, port_in, port_from, is_topology}
 use Rattle.mst_rows.specs.Rows.{Row}
 use Rattle.mst_explain.specs.declared.claims.Claim.{Claim}
 use Rattle.mst_explain.specs.Claims.{told_rows}

@@ -12,11 +12,11 @@ use Rattle.mst_tables.specs.Tables.{Net, Numbers}
 use Rattle.mst_lag.specs.View.{LogicalPort, view_ports}
 use Rattle.mst_lag.specs.Viewed.{Viewed, named_port}
 use Rattle.mst_lag.specs.declared.in_view.PortInView.{PortInView}
-use Rattle.mst_trees.specs.Sight.{Sight, tree_of, named_bridge}
-use Rattle.mst_trees.specs.Outcome.{TreeOutcome, IsTreeOutcome}
-use Rattle.mst_trees.specs.Agrees.{AreOf}
-use Rattle.mst_trees.proofs.Sights.{IsSight}
-use Rattle.mst_trees.proofs.Seen.{port_seen, port_of_net}
+use Rattle.mst_forest.specs.Sight.{Sight, tree_of, named_bridge}
+use Rattle.mst_forest.specs.Outcome.{TreeOutcome, IsTreeOutcome}
+use Rattle.mst_forest.specs.Agrees.{AreOf}
+use Rattle.mst_forest.proofs.Sights.{IsSight}
+use Rattle.mst_forest.proofs.Seen.{port_seen, port_of_net}
 use Rattle.mst_rows.specs.Rows.{Row}
 use Rattle.mst_explain.specs.Explained.{TellsRoot, TellsContest}
 use Rattle.mst_explain.specs.Fields.{Field}

@@ -14,13 +14,13 @@ use Rattle.mst_topology.proofs.Below.{one_designated}
 use Rattle.mst_tables.specs.Tables.{Net, Numbers}
 use Rattle.mst_lag.specs.Viewed.{Viewed, named_port}
 use Rattle.mst_lag.specs.declared.in_view.PortInView.{PortInView}
-use Rattle.mst_trees.specs.Sight.{Sight, tree_port, tree_of}
-use Rattle.mst_trees.specs.Outcome.{TreeOutcome, IsTreeOutcome}
-use Rattle.mst_trees.specs.Agrees.{IsNameOf, AreOf}
-use Rattle.mst_trees.proofs.Lists.{some_is, no_some, kept_in, kept_from, there_first}
-use Rattle.mst_trees.proofs.Sights.{IsSight, changed_from, port_in}
-use Rattle.mst_trees.proofs.Seen.{port_seen, port_of_net}
-use Rattle.mst_trees.proofs.Looking.{first_found}
+use Rattle.mst_forest.specs.Sight.{Sight, tree_port, tree_of}
+use Rattle.mst_forest.specs.Outcome.{TreeOutcome, IsTreeOutcome}
+use Rattle.mst_forest.specs.Agrees.{IsNameOf, AreOf}
+use Rattle.mst_forest.proofs.Lists.{some_is, no_some, kept_in, kept_from, there_first}
+use Rattle.mst_forest.proofs.Sights.{IsSight, changed_from, port_in}
+use Rattle.mst_forest.proofs.Seen.{port_seen, port_of_net}
+use Rattle.mst_forest.proofs.Looking.{first_found}
 use Rattle.mst_explain.specs.declared.claims.Claim.{Claim}
 use Rattle.mst_explain.specs.Contest.{Gives}
 use Rattle.mst_explain.specs.Seen.{TreeSeen, designated_vector, designated_on, root_path_vector_from, heard, given, claim_of, own_claims, bridge_claim, bridge_claims}

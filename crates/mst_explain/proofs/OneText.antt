@@ -18,14 +18,14 @@ use Rattle.mst_topology.proofs.Below.{one_message, one_speaker, one_designated}
 use Rattle.mst_topology.proofs.Orders.{both}
 use Rattle.mst_tables.specs.Tables.{Net, IsNetwork}
 use Rattle.mst_lag.specs.View.{LogicalPort}
-use Rattle.mst_trees.specs.Cist.{cist_sight, cist_of}
-use Rattle.mst_trees.specs.Msti.{msti_sight, msti_of, is_internal}
-use Rattle.mst_trees.specs.Outcome.{TreeOutcome, Outcome}
-use Rattle.mst_trees.proofs.Lists.{some_is}
-use Rattle.mst_trees.proofs.Sights.{has_port_ids}
-use Rattle.mst_trees.proofs.CistTopology.{cist_is_sight, cist_topology}
-use Rattle.mst_trees.proofs.MstiTopology.{msti_is_sight, msti_topology}
-use Rattle.mst_trees.specs.Roles.{cist_role}
+use Rattle.mst_forest.specs.Cist.{cist_sight, cist_of}
+use Rattle.mst_forest.specs.Msti.{msti_sight, msti_of, is_internal}
+use Rattle.mst_forest.specs.Outcome.{TreeOutcome, Outcome}
+use Rattle.mst_forest.proofs.Lists.{some_is}
+use Rattle.mst_forest.proofs.Sights.{has_port_ids}
+use Rattle.mst_forest.proofs.CistTopology.{cist_is_sight, cist_topology}
+use Rattle.mst_forest.proofs.MstiTopology.{msti_is_sight, msti_topology}
+use Rattle.mst_forest.specs.Roles.{cist_role}
 use Rattle.mst_rows.specs.Rows.{Row}
 use Rattle.mst_explain.specs.declared.lines.Contest.{Contest}
 use Rattle.mst_explain.specs.Contest.{IsFirst, IsRival, IsAlone, IsDesignatedVectorOn, Gives}

@@ -20,19 +20,19 @@ use Rattle.mst_tables.specs.Tables.{Net, IsNetwork, port_eq}
 use Rattle.mst_tables.specs.ByTree.{by_tree}
 use Rattle.mst_lag.specs.Aggregation.{same_name}
 use Rattle.mst_lag.specs.View.{LogicalPort, view_ports}
-use Rattle.mst_trees.specs.Sight.{Sight, tree_port, tree_of}
-use Rattle.mst_trees.specs.Cist.{cist_port, cist_sight, cist_of}
-use Rattle.mst_trees.specs.Msti.{msti_port, msti_sight, msti_of, has_msti, is_internal}
-use Rattle.mst_trees.specs.Outcome.{TreeOutcome, IsTreeOutcome, Outcome, IsOutcome}
-use Rattle.mst_trees.proofs.Lists.{some_is, no_some, all_contained}
-use Rattle.mst_trees.proofs.Views.{IsPort, ports_are}
-use Rattle.mst_trees.proofs.Sights.{IsSight, bridge_in, port_in, port_from, is_topology, has_port_ids}
-use Rattle.mst_trees.proofs.CistTopology.{cist_is_sight}
-use Rattle.mst_trees.proofs.MstiTopology.{msti_is_sight}
-use Rattle.mst_trees.specs.Roles.{beside, role_by, outside, cist_role, msti_role}
-use Rattle.mst_trees.specs.declared.kind.Role.{Role}
-use Rattle.mst_trees.specs.declared.kind.Role.TheVariants.{Root, Designated, Alternate, Backup, Master, Disabled}
-use Rattle.mst_trees.proofs.Named.{port_is, port_same}
+use Rattle.mst_forest.specs.Sight.{Sight, tree_port, tree_of}
+use Rattle.mst_forest.specs.Cist.{cist_port, cist_sight, cist_of}
+use Rattle.mst_forest.specs.Msti.{msti_port, msti_sight, msti_of, has_msti, is_internal}
+use Rattle.mst_forest.specs.Outcome.{TreeOutcome, IsTreeOutcome, Outcome, IsOutcome}
+use Rattle.mst_forest.proofs.Lists.{some_is, no_some, all_contained}
+use Rattle.mst_forest.proofs.Views.{IsPort, ports_are}
+use Rattle.mst_forest.proofs.Sights.{IsSight, bridge_in, port_in, port_from, is_topology, has_port_ids}
+use Rattle.mst_forest.proofs.CistTopology.{cist_is_sight}
+use Rattle.mst_forest.proofs.MstiTopology.{msti_is_sight}
+use Rattle.mst_forest.specs.Roles.{beside, role_by, outside, cist_role, msti_role}
+use Rattle.mst_forest.specs.declared.kind.Role.{Role}
+use Rattle.mst_forest.specs.declared.kind.Role.TheVariants.{Root, Designated, Alternate, Backup, Master, Disabled}
+use Rattle.mst_forest.proofs.Named.{port_is, port_same}
 use Rattle.mst_explain.specs.Contest.{IsFirst, IsDesignatedVectorOn, Gives}
 use Rattle.mst_explain.specs.AsTold.{IsDesignatedOn, GivesRoot, IsAsTold}
 use Rattle.mst_explain.proofs.OneText.{TellsReceiver, receiver_of, cist_tells, msti_tells}

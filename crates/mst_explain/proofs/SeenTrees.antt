@@ -15,15 +15,15 @@ use Rattle.mst_lag.specs.View.{LogicalPort}
 use Rattle.mst_lag.specs.Viewed.{Viewed, named_port}
 use Rattle.mst_lag.specs.declared.in_view.BridgeInView.{BridgeInView}
 use Rattle.mst_lag.specs.declared.in_view.PortInView.{PortInView}
-use Rattle.mst_trees.specs.Sight.{Sight, tree_port, tree_of}
-use Rattle.mst_trees.specs.Outcome.{TreeOutcome, IsTreeOutcome}
-use Rattle.mst_trees.specs.Agrees.{Agrees, AreOf}
-use Rattle.mst_trees.proofs.Lists.{some_is, no_some, apart_cases, kept_in, kept_from}
-use Rattle.mst_trees.proofs.Views.{port_names_differ}
-use Rattle.mst_trees.proofs.Sights.{IsSight, changed_from, bridge_from, bridge_in, port_from, port_in, is_topology}
-use Rattle.mst_trees.proofs.Seen.{PortsRise, bridge_seen, port_seen, ports_apart, bridge_there, port_there, port_of_net}
-use Rattle.mst_trees.proofs.Looking.{first_found}
-use Rattle.mst_trees.proofs.Named.{found_in}
+use Rattle.mst_forest.specs.Sight.{Sight, tree_port, tree_of}
+use Rattle.mst_forest.specs.Outcome.{TreeOutcome, IsTreeOutcome}
+use Rattle.mst_forest.specs.Agrees.{Agrees, AreOf}
+use Rattle.mst_forest.proofs.Lists.{some_is, no_some, apart_cases, kept_in, kept_from}
+use Rattle.mst_forest.proofs.Views.{port_names_differ}
+use Rattle.mst_forest.proofs.Sights.{IsSight, changed_from, bridge_from, bridge_in, port_from, port_in, is_topology}
+use Rattle.mst_forest.proofs.Seen.{PortsRise, bridge_seen, port_seen, ports_apart, bridge_there, port_there, port_of_net}
+use Rattle.mst_forest.proofs.Looking.{first_found}
+use Rattle.mst_forest.proofs.Named.{found_in}
 use Rattle.mst_explain.specs.declared.claims.Claim.{Claim}
 use Rattle.mst_explain.specs.Contest.{IsDesignatedVectorOn}
 use Rattle.mst_explain.specs.Seen.{TreeSeen, designated_vector, designated_on, claim_of, lan_claim, lan_claims}

@@ -8,9 +8,9 @@ use Rattle.mst_vector.specs.Rules.{Rules, IsMetric}
 use Rattle.mst_topology.specs.Topology.{TreePort, Topology, IsTopology, HasPort}
 use Rattle.mst_topology.specs.Settled.{IsDesignatedVector, Designates, IsRootPathVector, IsDesignated}
 use Rattle.mst_topology.proofs.Below.{one_message, one_designated}
-use Rattle.mst_trees.specs.Outcome.{TreeOutcome, IsTreeOutcome}
-use Rattle.mst_trees.proofs.Entries.{all_weaker}
-use Rattle.mst_trees.proofs.Lists.{all_there, there_first, there_later}
+use Rattle.mst_forest.specs.Outcome.{TreeOutcome, IsTreeOutcome}
+use Rattle.mst_forest.proofs.Entries.{all_weaker}
+use Rattle.mst_forest.proofs.Lists.{all_there, there_first, there_later}
 use Rattle.mst_explain.specs.declared.claims.Claim.{Claim}
 use Rattle.mst_explain.specs.Contest.{IsDesignatedVectorOn, Gives}
 use Rattle.mst_explain.proofs.Firsts.{Hold}

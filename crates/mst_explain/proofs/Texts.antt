@@ -19,17 +19,17 @@ use Rattle.mst_lag.specs.declared.in_view.BridgeInView.{BridgeInView}
 use Rattle.mst_lag.specs.declared.in_view.PortInView.{PortInView}
 use Rattle.mst_lag.specs.declared.in_view.MemberLan.{MemberLan}
 use Rattle.mst_lag.proofs.Placing.{pair_found}
-use Rattle.mst_trees.specs.Cist.{cist_sight}
-use Rattle.mst_trees.specs.Msti.{has_msti, is_internal}
-use Rattle.mst_trees.specs.Outcome.{Outcome}
-use Rattle.mst_trees.specs.Seen.{seen_internal, trees_at}
-use Rattle.mst_trees.specs.Settled.{SettledNet, outcome_of, IsSettledNet}
-use Rattle.mst_trees.proofs.Entries.{all_weaker}
-use Rattle.mst_trees.proofs.Lists.{all_contained, all_there}
-use Rattle.mst_trees.proofs.CistTopology.{cist_is_sight}
-use Rattle.mst_trees.proofs.Seen.{SeenPort, port_seen}
-use Rattle.mst_trees.specs.Roles.{cist_role, msti_role, role_in}
-use Rattle.mst_trees.specs.declared.kind.Role.{Role}
+use Rattle.mst_forest.specs.Cist.{cist_sight}
+use Rattle.mst_forest.specs.Msti.{has_msti, is_internal}
+use Rattle.mst_forest.specs.Outcome.{Outcome}
+use Rattle.mst_forest.specs.Seen.{seen_internal, trees_at}
+use Rattle.mst_forest.specs.Settled.{SettledNet, outcome_of, IsSettledNet}
+use Rattle.mst_forest.proofs.Entries.{all_weaker}
+use Rattle.mst_forest.proofs.Lists.{all_contained, all_there}
+use Rattle.mst_forest.proofs.CistTopology.{cist_is_sight}
+use Rattle.mst_forest.proofs.Seen.{SeenPort, port_seen}
+use Rattle.mst_forest.specs.Roles.{cist_role, msti_role, role_in}
+use Rattle.mst_forest.specs.declared.kind.Role.{Role}
 use Rattle.mst_rows.specs.Rows.{Row}
 use Rattle.mst_explain.specs.Fields.{cist_fields, msti_fields}
 use Rattle.mst_explain.specs.Lines.{explain_rows, boundary_rows, disabled_rows}

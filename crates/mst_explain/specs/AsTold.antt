@@ -4,9 +4,9 @@ use Rattle.mst_ids.specs.declared.name.PortName.{PortName}
 use Rattle.mst_vector.specs.Rules.{Rules}
 use Rattle.mst_topology.specs.Topology.{Topology, HasBridge}
 use Rattle.mst_lag.specs.View.{LogicalPort}
-use Rattle.mst_trees.specs.Outcome.{TreeOutcome}
-use Rattle.mst_trees.specs.declared.kind.Role.{Role}
-use Rattle.mst_trees.specs.declared.kind.Role.TheVariants.{Root, Designated, Alternate, Backup}
+use Rattle.mst_forest.specs.Outcome.{TreeOutcome}
+use Rattle.mst_forest.specs.declared.kind.Role.{Role}
+use Rattle.mst_forest.specs.declared.kind.Role.TheVariants.{Root, Designated, Alternate, Backup}
 use Rattle.mst_explain.specs.Contest.{IsFirst, IsRival, IsDesignatedVectorOn, Gives}
 use Rattle.mst_explain.specs.Fields.{Field, decided, TellsLower}
 

@@ -10,11 +10,11 @@ use Rattle.mst_topology.specs.Topology.{Topology, HasBridge}
 use Rattle.mst_tables.specs.Tables.{Net}
 use Rattle.mst_lag.specs.Trees.{mstis_of}
 use Rattle.mst_lag.specs.View.{LogicalPort, is_on, is_up}
-use Rattle.mst_trees.specs.Cist.{cist_of}
-use Rattle.mst_trees.specs.Msti.{msti_of, is_internal}
-use Rattle.mst_trees.specs.Outcome.{Outcome, TreeOutcome}
-use Rattle.mst_trees.specs.Roles.{cist_role, role_in}
-use Rattle.mst_trees.specs.declared.kind.Role.{Role}
+use Rattle.mst_forest.specs.Cist.{cist_of}
+use Rattle.mst_forest.specs.Msti.{msti_of, is_internal}
+use Rattle.mst_forest.specs.Outcome.{Outcome, TreeOutcome}
+use Rattle.mst_forest.specs.Roles.{cist_role, role_in}
+use Rattle.mst_forest.specs.declared.kind.Role.{Role}
 use Rattle.mst_rows.specs.Rows.{Row}
 use Rattle.mst_explain.specs.Contest.{IsFirst, IsRival, IsAlone, IsDesignatedVectorOn, Gives}
 use Rattle.mst_explain.specs.Fields.{Field, cist_fields, msti_fields, decided}

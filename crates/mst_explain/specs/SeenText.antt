@@ -9,10 +9,10 @@ use Rattle.mst_tables.specs.Seen.{bridge_row}
 use Rattle.mst_lag.specs.Aggregation.{same_name}
 use Rattle.mst_lag.specs.Viewed.{Viewed, named_port}
 use Rattle.mst_lag.specs.declared.in_view.PortInView.{PortInView}
-use Rattle.mst_trees.specs.Seen.{seen_internal}
-use Rattle.mst_trees.specs.Forest.{designated_in}
-use Rattle.mst_trees.specs.Settled.{SettledNet, outcome_of}
-use Rattle.mst_trees.specs.Roles.{role_in}
+use Rattle.mst_forest.specs.Seen.{seen_internal}
+use Rattle.mst_forest.specs.Forest.{designated_in}
+use Rattle.mst_forest.specs.Settled.{SettledNet, outcome_of}
+use Rattle.mst_forest.specs.Roles.{role_in}
 use Rattle.mst_rows.specs.Rows.{Row}
 use Rattle.mst_explain.specs.Fields.{cist_fields, msti_fields}
 use Rattle.mst_explain.specs.Lines.{explain_rows, boundary_rows, disabled_rows}

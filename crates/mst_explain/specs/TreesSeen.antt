@@ -16,11 +16,11 @@ use Rattle.mst_lag.specs.Trees.{is_among}
 use Rattle.mst_lag.specs.Viewed.{Viewed, named_port}
 use Rattle.mst_lag.specs.declared.in_view.BridgeInView.{BridgeInView}
 use Rattle.mst_lag.specs.declared.in_view.PortInView.{PortInView}
-use Rattle.mst_trees.specs.Cist.{cist_bridge, cist_port}
-use Rattle.mst_trees.specs.Msti.{msti_bridge, msti_port}
-use Rattle.mst_trees.specs.Seen.{trees_at, seen_internal}
-use Rattle.mst_trees.specs.Forest.{msti_vector, designated_in}
-use Rattle.mst_trees.specs.Settled.{SettledNet}
+use Rattle.mst_forest.specs.Cist.{cist_bridge, cist_port}
+use Rattle.mst_forest.specs.Msti.{msti_bridge, msti_port}
+use Rattle.mst_forest.specs.Seen.{trees_at, seen_internal}
+use Rattle.mst_forest.specs.Forest.{msti_vector, designated_in}
+use Rattle.mst_forest.specs.Settled.{SettledNet}
 use Rattle.mst_explain.specs.Seen.{TreeSeen}
 
 abbrev pub bridge_found : Viewed → ℕ → Option BridgeInView

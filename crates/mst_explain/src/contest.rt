@@ -13,7 +13,7 @@ use crate::lines::{
 use mst_ids::Tree;
 use mst_lag::PortInView;
 use mst_rows::Rows;
-use mst_trees::Settled;
+use mst_forest::Settled;
 use std::alloc::{AllocError, Global};
 
 /// Puts the row of the first of some claims, against its rival, if there is one.

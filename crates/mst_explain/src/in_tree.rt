@@ -1,7 +1,7 @@
 ghost use Rattle.std.specs.Prelude.{◌≡◌, ℕ, List};
 ghost use Rattle.std.specs.Option.{option_and_then, option_copied};
-ghost use Rattle.mst_trees.specs.Forest.{designated_in};
-ghost use Rattle.mst_trees.specs.Settled.{SettledNet};
+ghost use Rattle.mst_forest.specs.Forest.{designated_in};
+ghost use Rattle.mst_forest.specs.Settled.{SettledNet};
 ghost use Rattle.mst_explain.specs.Fields.{Field, cist_fields, msti_fields, decided};
 ghost use Rattle.mst_explain.specs.Seen.{CanStep, TreeSeen, designated_on as seen_designated};
 ghost use Rattle.mst_explain.specs.SeenText.{port_found};
@@ -13,7 +13,7 @@ use crate::settings::{cist_bridge, cist_port, msti_bridge, msti_port};
 use mst_ids::{BridgeNo, LanNo, Name, PortName, Tree};
 use mst_lag::PortInView;
 use mst_outcome::laws::costs_bounded;
-use mst_trees::Settled;
+use mst_forest::Settled;
 use mst_vector::{CistMetric, Metric, MstiMetric};
 
 /// The designated port of a LAN in a tree.

@@ -13,4 +13,4 @@ mod lines;
 mod settings;
 
 pub use explained::{put_explanation, put_explanations};
-pub use mst_trees::{Settled, has_tree, laws as trees_laws};
+

@@ -9,7 +9,7 @@ use crate::field::{Difference, Values};
 use mst_ids::{Name, PortName, Tree};
 use mst_kinds::{ContestLine, ExplainLine, Kind};
 use mst_rows::{Rows, Value, put};
-use mst_trees::Role;
+use mst_forest::Role;
 use std::alloc::AllocError;
 
 /// What is told for a port in a tree, of which some vector is the first: the lines of its rows.

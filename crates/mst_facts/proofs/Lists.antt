@@ -3,7 +3,7 @@ use Rattle.std.proofs.Common.{◌≡◌, ◌||◌, Bool, true, false, cond, List
 use Rattle.std.specs.List.{AllByRecursion, Contains, find, filter_map, flat_map, cons_option, list_any}
 use Rattle.std.specs.Option.{option_map, option_map_or, option_and_then}
 use Rattle.mst_graph.proofs.Members.{here, there}
-use Rattle.mst_trees.proofs.Lists.{some_is, no_some}
+use Rattle.mst_forest.proofs.Lists.{some_is, no_some}
 
 -- the texts of what is kept
 pub flat_map-filter_map : {A B C : Type 0} (g : B → List C) (h : A → Option B) (xs : List A) → flat_map g (filter_map h xs) ≡ flat_map (λ x. option_map_or g (h x) []) xs

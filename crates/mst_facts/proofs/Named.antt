@@ -20,16 +20,16 @@ use Rattle.mst_lag.specs.Viewed.{Viewed, named_bridge}
 use Rattle.mst_lag.specs.declared.in_view.BridgeInView.{BridgeInView}
 use Rattle.mst_config.specs.Shared.{same_in}
 use Rattle.mst_config.specs.Regions.{same_region, first_of_region}
-use Rattle.mst_trees.specs.Agrees.{AreOf}
-use Rattle.mst_trees.specs.Forest.{Forest, IsForest, msti_vector}
-use Rattle.mst_trees.specs.InUse.{id_in}
-use Rattle.mst_trees.specs.Msti.{has_msti}
-use Rattle.mst_trees.specs.Outcome.{Outcome}
-use Rattle.mst_trees.specs.Seen.{trees_at}
-use Rattle.mst_trees.proofs.Entries.{all_weaker}
-use Rattle.mst_trees.proofs.Lists.{mapped_twice}
-use Rattle.mst_trees.proofs.Looking.{has_tree_at}
-use Rattle.mst_trees.proofs.Seen.{SeenBridge, bridge_seen, bridges_seen}
+use Rattle.mst_forest.specs.Agrees.{AreOf}
+use Rattle.mst_forest.specs.Forest.{Forest, IsForest, msti_vector}
+use Rattle.mst_forest.specs.InUse.{id_in}
+use Rattle.mst_forest.specs.Msti.{has_msti}
+use Rattle.mst_forest.specs.Outcome.{Outcome}
+use Rattle.mst_forest.specs.Seen.{trees_at}
+use Rattle.mst_forest.proofs.Entries.{all_weaker}
+use Rattle.mst_forest.proofs.Lists.{mapped_twice}
+use Rattle.mst_forest.proofs.Looking.{has_tree_at}
+use Rattle.mst_forest.proofs.Seen.{SeenBridge, bridge_seen, bridges_seen}
 use Rattle.mst_lag.specs.View.{bridge_names}
 use Rattle.mst_facts.specs.declared.roots.Identified.{Identified}
 use Rattle.mst_facts.specs.Roots.{root_of, named_by, root_name}

@@ -1,4 +1,3 @@
-pub use Rattle.mst_trees.specs as trees
 pub mod Both
 pub mod Roots
 pub mod Named

@@ -8,9 +8,9 @@ use Rattle.mst_lag.specs.Trees.{is_among}
 use Rattle.mst_lag.specs.Viewed.{Viewed}
 use Rattle.mst_lag.specs.declared.in_view.BridgeInView.{BridgeInView}
 use Rattle.mst_config.specs.Shared.{same_in}
-use Rattle.mst_trees.specs.Forest.{Forest, msti_vector}
-use Rattle.mst_trees.specs.InUse.{id_in}
-use Rattle.mst_trees.specs.Seen.{trees_at}
+use Rattle.mst_forest.specs.Forest.{Forest, msti_vector}
+use Rattle.mst_forest.specs.InUse.{id_in}
+use Rattle.mst_forest.specs.Seen.{trees_at}
 use Rattle.mst_facts.specs.declared.roots.Identified.{Identified}
 
 -- the first bridge of a bridge's region

@@ -5,9 +5,9 @@ use Rattle.std.specs.Option.{option_map, option_and_then}
 use Rattle.std.specs.FinMap as fin
 use Rattle.mst_tables.specs.Tables.{Net}
 use Rattle.mst_tables.specs.ByTree.{by_tree}
-use Rattle.mst_trees.specs.InUse.{id_in}
-use Rattle.mst_trees.specs.Msti.{has_msti}
-use Rattle.mst_trees.specs.Outcome.{Outcome}
+use Rattle.mst_forest.specs.InUse.{id_in}
+use Rattle.mst_forest.specs.Msti.{has_msti}
+use Rattle.mst_forest.specs.Outcome.{Outcome}
 
 -- the identifier of a bridge's root in the CIST, and of its regional root in an MSTI, where it is there, has the tree
 -- and has a vector. One that is off has none

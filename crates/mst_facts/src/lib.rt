@@ -6,6 +6,6 @@ mod planned;
 mod roots;
 
 pub use both::{Both, bridges_of_both};
-pub use mst_trees::laws as trees_laws;
+
 pub use planned::Planned;
 pub use roots::{Identified, root, root_of};

@@ -1,5 +1,5 @@
 use mst_lag::View;
-use mst_trees::Forest;
+use mst_forest::Forest;
 
 /// A network's view and its settled trees.
 #[derive(Clone, Copy)]

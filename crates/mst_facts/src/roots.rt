@@ -1,13 +1,13 @@
 ghost use Rattle.std.specs.Prelude.{◌≡◌, map};
 ghost use Rattle.std.specs.List.{Contains};
-ghost use Rattle.mst_trees.specs.Settled.{outcome_of};
+ghost use Rattle.mst_forest.specs.Settled.{outcome_of};
 ghost use Rattle.mst_facts.specs.Roots.{root_of as root_in};
 ghost use Rattle.mst_facts.specs.Named.{seen_root};
 
 use crate::planned::Planned;
 use mst_ids::{BridgeId, BridgeNo, Name, Tree};
 use mst_lag::BridgeInView;
-use mst_trees::Settled;
+use mst_forest::Settled;
 
 /// A bridge's identifier in a tree, and its name.
 #[derive(Clone, Copy)]

@@ -13,9 +13,9 @@ use Rattle.mst_lag.specs.Viewed.{Viewed}
 use Rattle.mst_policy.specs.declared.item.NameItem.{NameItem}
 use Rattle.mst_lag.specs.View.{bridge_names}
 use Rattle.mst_tables.specs.Tables.{IsNetwork, Net}
-use Rattle.mst_judged.specs.reasons.sweep.facts.trees.Outcome.{Outcome}
-use Rattle.mst_judged.specs.reasons.sweep.facts.trees.Settled.{IsSettledNet, outcome_of, SettledNet}
-use Rattle.mst_judged.proofs.reasons_lemmas.sweep_lemmas.facts_lemmas.trees_lemmas.Lists.{no_some, some_is}
+use Rattle.mst_forest.specs.Outcome.{Outcome}
+use Rattle.mst_forest.specs.Settled.{IsSettledNet, outcome_of, SettledNet}
+use Rattle.mst_forest.proofs.Lists.{no_some, some_is}
 use Rattle.mst_judged.specs.reasons.sweep.vlan.Reach.{AreIslandsOf, bridges_on, lans_up, vid_links}
 use Rattle.mst_judged.specs.reasons.sweep.Baseline.{AreHomes}
 use Rattle.mst_judged.specs.reasons.sweep.Parts.{all_parts, ArePartsOf, staying, stays_at}

@@ -2,7 +2,7 @@
 use Rattle.std.proofs.Common.{Vec, Global, ◌≡◌, ◌⊎◌, inl, inr, ℕ, zero, suc, ◌+◌, ◌-◌, ◌<◌, ◌≤◌, Bool, true, false, List, [], ◌∷◌, ◌++◌, length, get_or, take, map, Some, refl, sym, ap, subst, ◌∙◌, arith}
 use Rattle.std.specs.Prelude.{slice_get}
 use Rattle.std.proofs.lemmas.List.{get_or-map, get_or-take, get_or_append_left, get_or-append_right, length-take-le, take_all}
-use Rattle.mst_judged.proofs.reasons_lemmas.sweep_lemmas.facts_lemmas.trees_lemmas.Lists.{no_some, some_is}
+use Rattle.mst_forest.proofs.Lists.{no_some, some_is}
 use Rattle.mst_judged.specs.reasons.sweep.Cuts.{names_of, parts_at}
 use Rattle.mst_judged.specs.Islands.{AreOfClasses}
 use Rattle.mst_judged.specs.reasons.Reasons.{Parts, group_reasons}

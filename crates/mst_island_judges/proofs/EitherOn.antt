@@ -14,10 +14,10 @@ use Rattle.mst_lag.specs.declared.in_view.BridgeInView.{BridgeInView}
 use Rattle.mst_policy.specs.declared.item.NameItem.{NameItem}
 use Rattle.mst_tables.specs.Seen.{bridge_row}
 use Rattle.mst_tables.specs.Tables.{Net, Numbers, BridgeRow}
-use Rattle.mst_judged.specs.reasons.sweep.facts.trees.Outcome.{Outcome}
-use Rattle.mst_judged.proofs.reasons_lemmas.sweep_lemmas.facts_lemmas.trees_lemmas.Entries.{all_weaker}
-use Rattle.mst_judged.proofs.reasons_lemmas.sweep_lemmas.facts_lemmas.trees_lemmas.Lists.{all_there, filter_mapped, mapped_twice}
-use Rattle.mst_judged.proofs.reasons_lemmas.sweep_lemmas.facts_lemmas.trees_lemmas.Looking.{filter_alike}
+use Rattle.mst_forest.specs.Outcome.{Outcome}
+use Rattle.mst_forest.proofs.Entries.{all_weaker}
+use Rattle.mst_forest.proofs.Lists.{all_there, filter_mapped, mapped_twice}
+use Rattle.mst_forest.proofs.Looking.{filter_alike}
 use Rattle.mst_judged.specs.reasons.sweep.vlan.Reach.{bridges_on, vid_links}
 use Rattle.mst_judged.specs.reasons.Holds.{AreTogether, IsReached}
 use Rattle.mst_judged.specs.reasons.Seen.{names_in}

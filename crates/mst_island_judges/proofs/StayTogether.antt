@@ -6,8 +6,8 @@ use Rattle.std.proofs.lemmas.Bool.{eqb-true, eq-eqb}
 use Rattle.mst_graph.specs.Islands.{Island}
 use Rattle.mst_graph.specs.Lists.{has_any}
 use Rattle.mst_tables.specs.Tables.{Net}
-use Rattle.mst_judged.specs.reasons.sweep.facts.trees.Outcome.{Outcome}
-use Rattle.mst_judged.proofs.reasons_lemmas.sweep_lemmas.facts_lemmas.trees_lemmas.Lists.{kept_in, kept_from, some_is}
+use Rattle.mst_forest.specs.Outcome.{Outcome}
+use Rattle.mst_forest.proofs.Lists.{kept_in, kept_from, some_is}
 use Rattle.mst_judged.specs.reasons.sweep.vlan.Reach.{AreIslandsOf, bridges_on}
 use Rattle.mst_judged.specs.reasons.sweep.Parts.{all_parts, home, staying, stays_at}
 use Rattle.mst_judged.specs.reasons.sweep.declared.parts.Stays.{Stays}

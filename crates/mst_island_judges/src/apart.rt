@@ -1,6 +1,6 @@
 ghost use Rattle.std.specs.Prelude.{◌≡◌, ◌+◌, ◌<◌, IfOk, filter, length, map, slice_index, true, vec_len};
 ghost use Rattle.std.specs.List.{list_any};
-ghost use Rattle.mst_judged.specs.reasons.sweep.facts.trees.Settled.{outcome_of};
+ghost use Rattle.mst_forest.specs.Settled.{outcome_of};
 ghost use Rattle.mst_judged.specs.reasons.sweep.Cuts.{names_of};
 ghost use Rattle.mst_judged.specs.reasons.Named.{named as named_in, is_named as is_named_of};
 ghost use Rattle.mst_judged.specs.Islands.{AreKept, AreOfClasses};

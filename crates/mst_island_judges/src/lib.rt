@@ -11,8 +11,6 @@ mod reaching;
 mod together;
 
 pub use apart::apart_reasons;
-pub use mst_judged::{
-    Beside, Follower, Judged, Missing, Prior, Reason, note_text_laws, trees_laws, vlan_laws,
-};
+pub use mst_judged::{Beside, Follower, Judged, Missing, Prior, Reason, note_text_laws, vlan_laws};
 pub use reaching::reach_reasons;
 pub use together::together_reasons;

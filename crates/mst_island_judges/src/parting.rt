@@ -1,6 +1,6 @@
 ghost use Rattle.std.specs.Prelude.{◌≡◌, ◌+◌, ◌<◌, IfOk, MatchOption, length, map, slice_index, ⊤};
 ghost use Rattle.mst_graph.specs.Groups.{AreGroups};
-ghost use Rattle.mst_judged.specs.reasons.sweep.facts.trees.Settled.{outcome_of};
+ghost use Rattle.mst_forest.specs.Settled.{outcome_of};
 ghost use Rattle.mst_judged.specs.reasons.sweep.vlan.classes.AllVids.{NumberEach};
 ghost use Rattle.mst_judged.specs.reasons.sweep.Cuts.{names_of, parts_at as parts_at_vid};
 ghost use Rattle.mst_judged.specs.reasons.Named.{vids_in};

@@ -1,6 +1,6 @@
 ghost use Rattle.std.specs.Prelude.{◌≡◌, ◌+◌, ◌<◌, IfOk, MatchOption, Some, false, filter, filter_map, length, map, slice_index, slice_index_or, true, vec_len, ⊤};
 ghost use Rattle.mst_judged.specs.reasons.sweep.facts.Both.{seen_both};
-ghost use Rattle.mst_judged.specs.reasons.sweep.facts.trees.Settled.{outcome_of};
+ghost use Rattle.mst_forest.specs.Settled.{outcome_of};
 ghost use Rattle.mst_judged.specs.reasons.sweep.Cuts.{names_of};
 ghost use Rattle.mst_judged.specs.reasons.sweep.Parts.{all_parts as all_parts_of};
 ghost use Rattle.mst_judged.specs.reasons.sweep.Seen.{seen_stays};

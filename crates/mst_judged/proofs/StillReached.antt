@@ -14,12 +14,12 @@ use Rattle.mst_lag.specs.Viewed.{Viewed, named_port}
 use Rattle.mst_lag.specs.declared.in_view.PortInView.{PortInView}
 use Rattle.mst_tables.specs.ByTree.{vlans_in}
 use Rattle.mst_tables.specs.Tables.{IsNetwork, Net, Numbers}
-use Rattle.mst_reasons.specs.sweep.facts.trees.Agrees.{AreOf}
-use Rattle.mst_reasons.specs.sweep.facts.trees.Forest.{Forest, IsForest}
-use Rattle.mst_reasons.specs.sweep.facts.trees.Outcome.{Outcome}
-use Rattle.mst_reasons.specs.sweep.facts.trees.Settled.{SettledNet, IsSettledNet, outcome_of}
-use Rattle.mst_reasons.proofs.sweep_lemmas.facts_lemmas.trees_lemmas.Lists.{filter_mapped}
-use Rattle.mst_reasons.proofs.sweep_lemmas.facts_lemmas.trees_lemmas.SettledNet.{forest_of}
+use Rattle.mst_forest.specs.Agrees.{AreOf}
+use Rattle.mst_forest.specs.Forest.{Forest, IsForest}
+use Rattle.mst_forest.specs.Outcome.{Outcome}
+use Rattle.mst_forest.specs.Settled.{SettledNet, IsSettledNet, outcome_of}
+use Rattle.mst_forest.proofs.Lists.{filter_mapped}
+use Rattle.mst_forest.proofs.SettledNet.{forest_of}
 use Rattle.mst_reasons.specs.sweep.vlan.Active.{active_ports}
 use Rattle.mst_reasons.specs.sweep.vlan.Reach.{bridges_on, lans_up, is_member, link_of, vid_links}
 use Rattle.mst_reasons.specs.sweep.vlan.Seen.{seen_active, seen_member}

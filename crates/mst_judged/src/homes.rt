@@ -1,6 +1,6 @@
 ghost use Rattle.std.specs.Prelude.{◌≡◌, ◌<◌, ◌+◌, IfOk, MatchOption, [], length, ⊤};
 ghost use Rattle.std.specs.List.{All};
-ghost use Rattle.mst_reasons.specs.sweep.facts.trees.Settled.{outcome_of, SettledNet};
+ghost use Rattle.mst_forest.specs.Settled.{outcome_of, SettledNet};
 ghost use Rattle.mst_reasons.specs.sweep.vlan.classes.Classes.{AreClasses};
 ghost use Rattle.mst_reasons.specs.sweep.Baseline.{AreHomes};
 ghost use Rattle.mst_judged.specs.Islands.{AreAlike, AreKept, AreMade, AreMadeBy, HasHomesBy, HasIslandsOf};
@@ -9,7 +9,8 @@ use crate::before::Before;
 use crate::vids::classes_asked;
 use indexmap::IndexMap;
 use mst_ids::{BridgeNo, Vid, VidSet};
-use mst_reasons::{Carriage, Planned, Settled, differing, homes_by, homes_of};
+use mst_reasons::{Carriage, Planned, differing, homes_by, homes_of};
+use mst_forest::Settled;
 use std::alloc::{AllocError, Global};
 
 /// The islands of some classes of VIDs in a network, made once for all expectations that ask for them.

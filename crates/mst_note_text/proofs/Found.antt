@@ -4,9 +4,9 @@ use Rattle.std.specs.Prelude.{Result, Ok, Err}
 use Rattle.std.specs.Result.{IfOk}
 use Rattle.mst_tables.specs.Tables.{Net, Numbers}
 use Rattle.mst_lag.specs.Viewed.{Viewed}
-use Rattle.mst_trees.specs.Agrees.{AreOf}
-use Rattle.mst_trees.specs.Forest.{IsForest, Forest}
-use Rattle.mst_trees.specs.Outcome.{trees_of}
+use Rattle.mst_forest.specs.Agrees.{AreOf}
+use Rattle.mst_forest.specs.Forest.{IsForest, Forest}
+use Rattle.mst_forest.specs.Outcome.{trees_of}
 use Rattle.mst_nested.specs.Trees.{IsSettled}
 use Rattle.mst_note_text.specs.Depths.{InternalDepth, ExternalDepth}
 use Rattle.mst_note_text.specs.Places.{HasDepths, depths_at}

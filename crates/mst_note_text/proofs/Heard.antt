@@ -11,13 +11,13 @@ use Rattle.mst_tables.specs.Tables.{Net, Numbers}
 use Rattle.mst_lag.specs.View.{LogicalPort}
 use Rattle.mst_lag.specs.Viewed.{Viewed, named_port}
 use Rattle.mst_lag.specs.declared.in_view.PortInView.{PortInView}
-use Rattle.mst_trees.specs.Sight.{Sight, tree_of, tree_port}
-use Rattle.mst_trees.specs.Outcome.{TreeOutcome, IsTreeOutcome}
-use Rattle.mst_trees.specs.Agrees.{Agrees, IsNameOf, AreOf}
-use Rattle.mst_trees.proofs.Lists.{some_is, no_some}
-use Rattle.mst_trees.proofs.Sights.{IsSight, PortOf, port_from, port_in, is_topology}
-use Rattle.mst_trees.proofs.Seen.{SeenPort, port_seen, port_there, port_of_net}
-use Rattle.mst_trees.proofs.Looking.{IsThere, is_there}
+use Rattle.mst_forest.specs.Sight.{Sight, tree_of, tree_port}
+use Rattle.mst_forest.specs.Outcome.{TreeOutcome, IsTreeOutcome}
+use Rattle.mst_forest.specs.Agrees.{Agrees, IsNameOf, AreOf}
+use Rattle.mst_forest.proofs.Lists.{some_is, no_some}
+use Rattle.mst_forest.proofs.Sights.{IsSight, PortOf, port_from, port_in, is_topology}
+use Rattle.mst_forest.proofs.Seen.{SeenPort, port_seen, port_there, port_of_net}
+use Rattle.mst_forest.proofs.Looking.{IsThere, is_there}
 use Rattle.mst_note_text.specs.Depths.{HasParent}
 
 module _ {B P V : Type 0} (net : Net) (numbers : Numbers) (v : Viewed) (region_ids : List (ℕ × ℕ)) (of : AreOf net numbers v region_ids) (m : Rules B P V) (law : IsMetric m) (s : Sight B P) (sight : IsSight net m s)

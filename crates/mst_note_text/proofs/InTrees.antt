@@ -21,18 +21,18 @@ use Rattle.mst_lag.specs.Trees.{is_among}
 use Rattle.mst_lag.specs.Viewed.{Viewed, named_port}
 use Rattle.mst_lag.specs.declared.in_view.BridgeInView.{BridgeInView}
 use Rattle.mst_lag.specs.declared.in_view.PortInView.{PortInView}
-use Rattle.mst_trees.specs.Sight.{Sight, tree_of}
-use Rattle.mst_trees.specs.Cist.{cist_port, cist_sight}
-use Rattle.mst_trees.specs.Msti.{msti_bridge, msti_port, msti_sight, has_msti, is_internal}
-use Rattle.mst_trees.specs.Seen.{seen_internal, trees_at}
-use Rattle.mst_trees.specs.Outcome.{TreeOutcome, IsTreeOutcome, Outcome, trees_of}
-use Rattle.mst_trees.specs.Agrees.{Agrees, AreOf}
-use Rattle.mst_trees.specs.Forest.{IsForest, msti_vector, msti_designated, designated_in, Forest}
-use Rattle.mst_trees.proofs.Seen.{bridge_seen, port_seen, bridge_there}
-use Rattle.mst_trees.proofs.Sights.{IsSight, bridge_from}
-use Rattle.mst_trees.proofs.Looking.{internal_same, has_tree_at}
-use Rattle.mst_trees.proofs.CistTopology.{given, cist_is_sight}
-use Rattle.mst_trees.proofs.MstiTopology.{msti_is_sight, msti_port_is}
+use Rattle.mst_forest.specs.Sight.{Sight, tree_of}
+use Rattle.mst_forest.specs.Cist.{cist_port, cist_sight}
+use Rattle.mst_forest.specs.Msti.{msti_bridge, msti_port, msti_sight, has_msti, is_internal}
+use Rattle.mst_forest.specs.Seen.{seen_internal, trees_at}
+use Rattle.mst_forest.specs.Outcome.{TreeOutcome, IsTreeOutcome, Outcome, trees_of}
+use Rattle.mst_forest.specs.Agrees.{Agrees, AreOf}
+use Rattle.mst_forest.specs.Forest.{IsForest, msti_vector, msti_designated, designated_in, Forest}
+use Rattle.mst_forest.proofs.Seen.{bridge_seen, port_seen, bridge_there}
+use Rattle.mst_forest.proofs.Sights.{IsSight, bridge_from}
+use Rattle.mst_forest.proofs.Looking.{internal_same, has_tree_at}
+use Rattle.mst_forest.proofs.CistTopology.{given, cist_is_sight}
+use Rattle.mst_forest.proofs.MstiTopology.{msti_is_sight, msti_port_is}
 use Rattle.mst_nested.specs.Trees.{IsSettled}
 use Rattle.mst_note_text.specs.Depths.{HasParent}
 use Rattle.mst_note_text.specs.declared.member.Member.{Member}

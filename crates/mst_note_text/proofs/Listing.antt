@@ -20,15 +20,15 @@ use Rattle.mst_vector.specs.Cist.{cist_rules}
 use Rattle.mst_vector.specs.declared.cist.CistBridge.{CistBridge}
 use Rattle.mst_topology.specs.Topology.{HasBridge}
 use Rattle.mst_nested.specs.Trees.{HasTree, SameRegion}
-use Rattle.mst_trees.specs.Apart.{Apart}
-use Rattle.mst_trees.specs.Cist.{cist_sight, cist_of, cist_bridge}
-use Rattle.mst_trees.specs.Agrees.{AreOf}
-use Rattle.mst_trees.specs.Forest.{designated_in, Forest}
-use Rattle.mst_trees.specs.Outcome.{Outcome, trees_of}
-use Rattle.mst_trees.proofs.Lists.{some_is, all_contained, apart_kept, kept_from, kept_in}
-use Rattle.mst_trees.proofs.Seen.{BridgesRise, bridge_seen, port_seen, bridges_apart}
-use Rattle.mst_trees.proofs.Sights.{bridge_from}
-use Rattle.mst_trees.proofs.CistTopology.{given, cist_is_sight}
+use Rattle.mst_forest.specs.Apart.{Apart}
+use Rattle.mst_forest.specs.Cist.{cist_sight, cist_of, cist_bridge}
+use Rattle.mst_forest.specs.Agrees.{AreOf}
+use Rattle.mst_forest.specs.Forest.{designated_in, Forest}
+use Rattle.mst_forest.specs.Outcome.{Outcome, trees_of}
+use Rattle.mst_forest.proofs.Lists.{some_is, all_contained, apart_kept, kept_from, kept_in}
+use Rattle.mst_forest.proofs.Seen.{BridgesRise, bridge_seen, port_seen, bridges_apart}
+use Rattle.mst_forest.proofs.Sights.{bridge_from}
+use Rattle.mst_forest.proofs.CistTopology.{given, cist_is_sight}
 use Rattle.mst_note_text.specs.Depths.{ParentIn}
 use Rattle.mst_note_text.specs.Places.{IsParent}
 use Rattle.mst_note_text.specs.Listed.{IsListed}

@@ -23,17 +23,17 @@ use Rattle.mst_lag.specs.Viewed.{Viewed, named_bridge}
 use Rattle.mst_lag.specs.declared.in_view.BridgeInView.{BridgeInView}
 use Rattle.mst_lag.proofs.Lists.{mapped_twice}
 use Rattle.mst_config.specs.Regions.{region_of}
-use Rattle.mst_trees.specs.Cist.{cist_bridge, cist_sight}
-use Rattle.mst_trees.specs.Msti.{msti_bridge, msti_sight, has_msti}
-use Rattle.mst_trees.specs.Agrees.{AreOf}
-use Rattle.mst_trees.specs.Forest.{IsForest, msti_vector, Forest}
-use Rattle.mst_trees.specs.Outcome.{Outcome, trees_of}
-use Rattle.mst_trees.proofs.Lists.{some_is, all_contained, all_there, kept_from}
-use Rattle.mst_trees.proofs.Entries.{all_weaker}
-use Rattle.mst_trees.proofs.Seen.{bridge_seen, bridge_there}
-use Rattle.mst_trees.proofs.Sights.{bridge_from}
-use Rattle.mst_trees.proofs.CistTopology.{given, cist_is_sight}
-use Rattle.mst_trees.proofs.MstiTopology.{msti_is_sight}
+use Rattle.mst_forest.specs.Cist.{cist_bridge, cist_sight}
+use Rattle.mst_forest.specs.Msti.{msti_bridge, msti_sight, has_msti}
+use Rattle.mst_forest.specs.Agrees.{AreOf}
+use Rattle.mst_forest.specs.Forest.{IsForest, msti_vector, Forest}
+use Rattle.mst_forest.specs.Outcome.{Outcome, trees_of}
+use Rattle.mst_forest.proofs.Lists.{some_is, all_contained, all_there, kept_from}
+use Rattle.mst_forest.proofs.Entries.{all_weaker}
+use Rattle.mst_forest.proofs.Seen.{bridge_seen, bridge_there}
+use Rattle.mst_forest.proofs.Sights.{bridge_from}
+use Rattle.mst_forest.proofs.CistTopology.{given, cist_is_sight}
+use Rattle.mst_forest.proofs.MstiTopology.{msti_is_sight}
 use Rattle.mst_nested.specs.Trees.{Trees, IsSettled, HasTree}
 use Rattle.mst_rows.specs.Rows.{Row}
 use Rattle.mst_note_text.specs.Depths.{InternalDepth, ExternalDepth}

@@ -9,14 +9,14 @@ use Rattle.mst_outcome.specs.Assignment.{vector_of, designated_of}
 use Rattle.mst_lag.specs.Trees.{is_among}
 use Rattle.mst_lag.specs.Viewed.{Viewed, named_port}
 use Rattle.mst_lag.specs.declared.in_view.PortInView.{PortInView}
-use Rattle.mst_trees.specs.Cist.{cist_port}
-use Rattle.mst_trees.specs.Msti.{msti_port}
-use Rattle.mst_trees.specs.Seen.{trees_at, seen_internal}
-use Rattle.mst_trees.specs.Forest.{Forest, msti_vector, designated_in}
-use Rattle.mst_trees.specs.Roles.{outside}
-use Rattle.mst_trees.specs.SeenRoles.{seen_beside, seen_role_by, seen_cist_role, seen_msti_role, seen_role}
-use Rattle.mst_trees.specs.declared.kind.Role.{Role}
-use Rattle.mst_trees.specs.declared.kind.Role.TheVariants.{Root, Designated, Alternate, Backup, Master, Disabled}
+use Rattle.mst_forest.specs.Cist.{cist_port}
+use Rattle.mst_forest.specs.Msti.{msti_port}
+use Rattle.mst_forest.specs.Seen.{trees_at, seen_internal}
+use Rattle.mst_forest.specs.Forest.{Forest, msti_vector, designated_in}
+use Rattle.mst_forest.specs.Roles.{outside}
+use Rattle.mst_forest.specs.SeenRoles.{seen_beside, seen_role_by, seen_cist_role, seen_msti_role, seen_role}
+use Rattle.mst_forest.specs.declared.kind.Role.{Role}
+use Rattle.mst_forest.specs.declared.kind.Role.TheVariants.{Root, Designated, Alternate, Backup, Master, Disabled}
 use Rattle.mst_note_text.specs.SeenTree.{is_root}
 
 -- a vector came by the port of this identifier

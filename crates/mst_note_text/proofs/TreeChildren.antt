@@ -9,10 +9,10 @@ use Rattle.mst_tables.specs.Tables.{Net, Numbers, BridgeRow}
 use Rattle.mst_lag.specs.Viewed.{Viewed, named_bridge}
 use Rattle.mst_lag.specs.declared.in_view.BridgeInView.{BridgeInView}
 use Rattle.mst_nested.specs.Trees.{IsSettled}
-use Rattle.mst_trees.specs.Agrees.{AreOf}
-use Rattle.mst_trees.specs.Forest.{Forest, IsForest}
-use Rattle.mst_trees.specs.Outcome.{trees_of}
-use Rattle.mst_trees.proofs.Lists.{contains_mapped, kept_in, mapped_twice}
+use Rattle.mst_forest.specs.Agrees.{AreOf}
+use Rattle.mst_forest.specs.Forest.{Forest, IsForest}
+use Rattle.mst_forest.specs.Outcome.{trees_of}
+use Rattle.mst_forest.proofs.Lists.{contains_mapped, kept_in, mapped_twice}
 use Rattle.mst_note_text.specs.Children.{AreChildren, IsChild}
 use Rattle.mst_note_text.specs.Depths.{ParentIn}
 use Rattle.mst_note_text.specs.Listed.{IsListed}

@@ -9,10 +9,10 @@ use Rattle.mst_ids.specs.Names.{name_cmp}
 use Rattle.mst_lag.specs.Viewed.{Viewed}
 use Rattle.mst_lag.specs.declared.in_view.PortInView.{PortInView}
 use Rattle.mst_config.specs.Shared.{same_in}
-use Rattle.mst_trees.specs.Apart.{Apart}
-use Rattle.mst_trees.specs.Forest.{designated_in, Forest}
-use Rattle.mst_trees.proofs.Lists.{some_is, no_some, all_at}
-use Rattle.mst_trees.proofs.Views.{names_differ}
+use Rattle.mst_forest.specs.Apart.{Apart}
+use Rattle.mst_forest.specs.Forest.{designated_in, Forest}
+use Rattle.mst_forest.proofs.Lists.{some_is, no_some, all_at}
+use Rattle.mst_forest.proofs.Views.{names_differ}
 use Rattle.mst_note_text.specs.declared.parent.Parent.{Parent}
 use Rattle.mst_note_text.specs.SeenTree.{is_root_port, designated_at, parent_by, members_in, name_at}
 use Rattle.mst_note_text.specs.SeenTree as seen_tree

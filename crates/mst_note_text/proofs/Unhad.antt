@@ -9,13 +9,13 @@ use Rattle.mst_vector.specs.declared.msti.MstiVector.{MstiVector}
 use Rattle.mst_lag.specs.Trees.{is_among}
 use Rattle.mst_lag.specs.Viewed.{Viewed}
 use Rattle.mst_lag.specs.declared.in_view.BridgeInView.{BridgeInView}
-use Rattle.mst_trees.specs.Agrees.{AreOf}
-use Rattle.mst_trees.specs.Forest.{IsForest, Forest}
-use Rattle.mst_trees.specs.InUse.{is_in_use}
-use Rattle.mst_trees.specs.Seen.{trees_at}
-use Rattle.mst_trees.specs.Outcome.{Outcome, trees_of}
-use Rattle.mst_trees.proofs.Seen.{bridge_seen}
-use Rattle.mst_trees.proofs.Looking.{has_tree_at}
+use Rattle.mst_forest.specs.Agrees.{AreOf}
+use Rattle.mst_forest.specs.Forest.{IsForest, Forest}
+use Rattle.mst_forest.specs.InUse.{is_in_use}
+use Rattle.mst_forest.specs.Seen.{trees_at}
+use Rattle.mst_forest.specs.Outcome.{Outcome, trees_of}
+use Rattle.mst_forest.proofs.Seen.{bridge_seen}
+use Rattle.mst_forest.proofs.Looking.{has_tree_at}
 use Rattle.mst_nested.specs.Trees.{IsSettled}
 use Rattle.mst_rows.specs.Rows.{Row}
 use Rattle.mst_note_text.specs.AreDepths.{TreeDepths}

@@ -11,10 +11,10 @@ use Rattle.mst_lag.specs.Viewed.{Viewed}
 use Rattle.mst_lag.specs.declared.in_view.BridgeInView.{BridgeInView}
 use Rattle.mst_lag.specs.declared.in_view.PortInView.{PortInView}
 use Rattle.mst_config.specs.Shared.{same_in}
-use Rattle.mst_trees.specs.Forest.{msti_vector, designated_in, Forest}
-use Rattle.mst_trees.specs.SeenRoles.{seen_role}
-use Rattle.mst_trees.specs.declared.kind.Role.{Role}
-use Rattle.mst_trees.specs.declared.kind.Role.TheVariants.{Root}
+use Rattle.mst_forest.specs.Forest.{msti_vector, designated_in, Forest}
+use Rattle.mst_forest.specs.SeenRoles.{seen_role}
+use Rattle.mst_forest.specs.declared.kind.Role.{Role}
+use Rattle.mst_forest.specs.declared.kind.Role.TheVariants.{Root}
 use Rattle.mst_note_text.specs.declared.children.Child.{Child}
 use Rattle.mst_note_text.specs.declared.parent.Depths.{Depths}
 use Rattle.mst_note_text.specs.declared.parent.Parent.{Parent}

@@ -1,6 +1,6 @@
 ghost use Rattle.std.specs.Prelude.{◌≡◌, ◌<◌, ℕ, length, IfOk};
-ghost use Rattle.mst_trees.specs.Outcome.{trees_of};
-ghost use Rattle.mst_trees.specs.Settled.{outcome_of};
+ghost use Rattle.mst_forest.specs.Outcome.{trees_of};
+ghost use Rattle.mst_forest.specs.Settled.{outcome_of};
 ghost use Rattle.mst_note_text.specs.Depths.{InternalDepth, ExternalDepth};
 ghost use Rattle.mst_note_text.specs.Places.{depths_at};
 ghost use Rattle.mst_note_text.specs.SeenTree.{members_in, name_at};
@@ -11,8 +11,8 @@ use crate::parent::Depths;
 use crate::parents::parents_of;
 use crate::places::places_of;
 use mst_ids::Tree;
-use mst_trees::Settled;
-use mst_trees::laws::nested;
+use mst_forest::Settled;
+use mst_forest::laws::nested;
 use std::alloc::{AllocError, Global};
 
 /// The depths of the bridges of a tree.

@@ -2,8 +2,8 @@ ghost use Rattle.std.specs.List.{flat_map};
 ghost use Rattle.std.specs.Prelude.{◌≡◌, ◌<◌, ◌++◌, ℕ, List, false, length, OnOk, slice_index_or};
 ghost use Rattle.mst_lag.specs.declared.in_view.BridgeInView.{BridgeInView as BridgeOf};
 ghost use Rattle.mst_lag.specs.Viewed.{named_port};
-ghost use Rattle.mst_trees.specs.Outcome.{trees_of};
-ghost use Rattle.mst_trees.specs.Settled.{outcome_of};
+ghost use Rattle.mst_forest.specs.Outcome.{trees_of};
+ghost use Rattle.mst_forest.specs.Settled.{outcome_of};
 ghost use Rattle.mst_rows.specs.Rows.{Row};
 ghost use Rattle.mst_note_text.specs.AreDepths.{TreeDepths, AreDepths};
 ghost use Rattle.mst_note_text.specs.NotesText.{trees_notes, restricted_note, AreNoteRows};
@@ -16,8 +16,8 @@ use crate::tree::put_tree;
 use mst_ids::Tree;
 use mst_lag::{PortInView, View};
 use mst_rows::Rows;
-use mst_trees::laws::nested;
-use mst_trees::{Settled, trees_in_use};
+use mst_forest::laws::nested;
+use mst_forest::{Settled, trees_in_use};
 use std::alloc::{AllocError, Global};
 
 /// Puts the notes on a settled network: for each tree in rising order, and each bridge that is on and has it, in byte

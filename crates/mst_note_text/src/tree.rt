@@ -1,7 +1,7 @@
 ghost use Rattle.std.specs.Prelude.{◌++◌, List, OnOk};
 ghost use Rattle.mst_lag.specs.declared.in_view.BridgeInView.{BridgeInView as BridgeOf};
-ghost use Rattle.mst_trees.specs.Outcome.{trees_of};
-ghost use Rattle.mst_trees.specs.Settled.{outcome_of};
+ghost use Rattle.mst_forest.specs.Outcome.{trees_of};
+ghost use Rattle.mst_forest.specs.Settled.{outcome_of};
 ghost use Rattle.mst_rows.specs.Rows.{Row};
 ghost use Rattle.mst_note_text.specs.AreDepths.{TreeDepths, AreDepths};
 ghost use Rattle.mst_note_text.specs.NotesText.{tree_notes};
@@ -13,8 +13,8 @@ use crate::member::members_of;
 use crate::places::Macs;
 use mst_ids::Tree;
 use mst_rows::Rows;
-use mst_trees::Settled;
-use mst_trees::laws::nested;
+use mst_forest::Settled;
+use mst_forest::laws::nested;
 use std::alloc::{AllocError, Global};
 
 /// Puts the notes on a tree. It goes once over the view's bridges and once over its ports.

@@ -1,6 +1,6 @@
 ghost use Rattle.std.specs.Prelude.{◌≡◌, ℕ, ◌++◌, List, OnOk};
 ghost use Rattle.std.specs.List.{Contains, flat_map};
-ghost use Rattle.mst_summary.specs.vlan.trees.Settled.{outcome_of};
+ghost use Rattle.mst_forest.specs.Settled.{outcome_of};
 ghost use Rattle.mst_graph.specs.Islands.{Island as NamedIsland};
 ghost use Rattle.mst_summary.specs.vlan.Reach.{AreIslandsOf};
 ghost use Rattle.mst_picture.specs.VlanPicture.{node_line, node_end as node_end_by, cluster_opening, clusters};
@@ -11,7 +11,8 @@ use crate::pieces::push_pieces;
 use itoa::Buffer;
 use mst_ids::{BridgeNo, Name, Tree, Vid, push_bytes};
 use mst_lag::BridgeInView;
-use mst_summary::{Island, Settled, active_ports, has_bridge, reach_from, vid_tree};
+use mst_summary::{Island, active_ports, has_bridge, reach_from};
+use mst_forest::{Settled, vid_tree};
 use std::alloc::{AllocError, Global};
 
 /// The end of a node's text, which has two borders for a root.

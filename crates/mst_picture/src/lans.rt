@@ -1,6 +1,6 @@
 ghost use Rattle.std.specs.Prelude.{◌≡◌, ◌++◌, ℕ, List, map, IfOk, OnOk};
 ghost use Rattle.std.specs.List.{flat_map};
-ghost use Rattle.mst_summary.specs.vlan.trees.Settled.{outcome_of};
+ghost use Rattle.mst_forest.specs.Settled.{outcome_of};
 ghost use Rattle.mst_summary.specs.slips.Kept.{kept_at};
 ghost use Rattle.mst_summary.specs.Seen.{seen_on};
 ghost use Rattle.mst_picture.specs.Lans.{link_line, link_text, box_line, down_line, up_line, end_line, box_text, ends_on, lan_text};
@@ -11,7 +11,8 @@ use crate::pieces::push_pieces;
 use indexmap::IndexMap;
 use mst_ids::{Name, push_bytes};
 use mst_lag::{LanInView, PortInView};
-use mst_summary::{Settled, kept_for, ports_by_lan};
+use mst_forest::Settled;
+use mst_summary::{kept_for, ports_by_lan};
 use std::alloc::{AllocError, Global};
 
 /// Appends the line from one end of a LAN to the other.

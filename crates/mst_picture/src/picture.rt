@@ -1,5 +1,5 @@
 ghost use Rattle.std.specs.Prelude.{◌≡◌, ◌++◌, OnOk};
-ghost use Rattle.mst_summary.specs.vlan.trees.Settled.{outcome_of};
+ghost use Rattle.mst_forest.specs.Settled.{outcome_of};
 ghost use Rattle.mst_picture.specs.Picture.{opening, picture};
 
 use crate::bridges::push_bridges;
@@ -8,7 +8,7 @@ use crate::lans::push_lans;
 use crate::pieces::push_pieces;
 use itoa::Buffer;
 use mst_ids::{Tree, push_bytes};
-use mst_summary::Settled;
+use mst_forest::Settled;
 use std::alloc::{AllocError, Global};
 
 /// Appends the first lines, which name a tree or a VLAN by this word and this number.

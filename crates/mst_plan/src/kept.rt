@@ -4,7 +4,7 @@ ghost use Rattle.mst_net.specs.tables.Contents.{CanCommit, ahead_of};
 ghost use Rattle.mst_plan.specs.Kept.{HasRegions, IsKept, WasKept, is_settled_of, regions_stand_in, settled_by, standing_in};
 ghost use Rattle.mst_plan.specs.Plan.{IsPlan};
 ghost use Rattle.mst_plan.specs.Standing.{KeepsBounds, msti_settlings, settlings_of, standing_of};
-ghost use Rattle.mst_trees.specs.Forest.{SettlesNoUnused};
+ghost use Rattle.mst_trees.specs.Bound.{SettlesNoUnused};
 
 use crate::plan::{Plan, next_trees, plan_from, regions_now};
 use mst_config::laws::regions_stay;
@@ -12,7 +12,7 @@ use mst_config::{Regions, regions_of, touches_regions};
 use mst_ids::Tree;
 use mst_lang::Edit;
 use mst_net::{Contents, Network, Ready};
-use mst_trees::Forest;
+use mst_forest::Forest;
 use std::alloc::{AllocError, Global};
 use std::mem::replace;
 

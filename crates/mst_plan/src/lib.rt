@@ -6,8 +6,5 @@ pub mod laws;
 mod plan;
 
 pub use kept::KeptPlan;
-pub use mst_trees::{
-    Forest, Role, Settled, Settler, bridge_id, cist_port, forest_of, is_had, laws as trees_laws,
-    msti_port, repaired_forest, role_of, trees_in_use,
-};
+pub use mst_trees::{Settler, forest_of, repaired_forest};
 pub use plan::{Plan, plan_beside};

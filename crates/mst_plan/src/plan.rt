@@ -3,14 +3,15 @@ ghost use Rattle.mst_config.specs.Shared.{AreRegions};
 ghost use Rattle.mst_plan.specs.Plan.{IsPlan, AreTrees, WasViewed};
 ghost use Rattle.mst_lag.specs.Viewed.{IsView};
 ghost use Rattle.mst_plan.specs.Standing.{standing_of, msti_settlings, KeepsBounds};
-ghost use Rattle.mst_trees.specs.Forest.{SettlesNoUnused};
+ghost use Rattle.mst_trees.specs.Bound.{SettlesNoUnused};
 
 use mst_config::{Regions, regions_of};
 use mst_lag::laws::{bridge_alone, lan_alone, port_alone, ports_alone, set_alone};
 use mst_lag::{View, leaves_key, leaves_links, leaves_tables, view};
 use mst_lang::Edit;
 use mst_net::{Contents, Network};
-use mst_trees::{Forest, repaired_forest};
+use mst_forest::Forest;
+use mst_trees::repaired_forest;
 use std::alloc::{AllocError, Global};
 
 /// What follows from a network: its view, its regions, and its trees, settled.

@@ -6,15 +6,14 @@ use Rattle.mst_lag.specs.Trees.{is_among}
 use Rattle.mst_lag.specs.Viewed.{Viewed, named_bridge}
 use Rattle.mst_lag.specs.declared.in_view.BridgeInView.{BridgeInView}
 use Rattle.mst_tables.specs.Tables.{Net, Numbers, BridgeRow}
-use Rattle.mst_text.specs.trees.Agrees.{AreOf}
-use Rattle.mst_text.specs.trees.InUse.{is_in_use, seen_mstis}
-use Rattle.mst_text.specs.trees.Msti.{has_msti}
-use Rattle.mst_text.specs.trees.Seen.{trees_at}
-use Rattle.mst_text.specs.trees.Forest.{Forest}
-use Rattle.mst_text.proofs.trees_lemmas.Entries.{all_weaker}
-use Rattle.mst_text.proofs.trees_lemmas.Looking.{has_tree_at}
-use Rattle.mst_text.proofs.trees_lemmas.Seen.{SeenBridge, bridges_seen}
-use Rattle.mst_text.specs.trees.Msti.{is_had}
+use Rattle.mst_forest.specs.Agrees.{AreOf}
+use Rattle.mst_forest.specs.InUse.{is_in_use, seen_mstis}
+use Rattle.mst_forest.specs.Msti.{has_msti, is_had}
+use Rattle.mst_forest.specs.Seen.{trees_at}
+use Rattle.mst_forest.specs.Forest.{Forest}
+use Rattle.mst_forest.proofs.Entries.{all_weaker}
+use Rattle.mst_forest.proofs.Looking.{has_tree_at}
+use Rattle.mst_forest.proofs.Seen.{SeenBridge, bridges_seen}
 use Rattle.mst_plan_text.specs.PlanText.{mstis}
 
 any_alike : {A : Type 0} (f g : A → Bool) (xs : List A) → AllByRecursion (λ x. f x ≡ g x) xs → list_any f xs ≡ list_any g xs

@@ -5,7 +5,8 @@ ghost use Rattle.mst_rows.specs.Rows.{Row};
 ghost use Rattle.mst_questions.specs.Explaining.{Explains, has_tree as has_tree_in, has_asked, unexplained_of, code_of, text_of};
 
 use mst_advise::explain_laws::some_explained;
-use mst_advise::{Settled, port_named, put_explanation, put_explanations};
+use mst_forest::Settled;
+use mst_advise::{port_named, put_explanation, put_explanations};
 use mst_ids::{PortName, Tree};
 use mst_lag::PortInView;
 use mst_rows::Rows;
@@ -111,7 +112,7 @@ fn has_tree(plan: &Settled, port: &PortInView, tree: Tree) -> bool
     ensures { result ≡ has_tree_in plan.now.net port.now.name.bridge tree }
 {
     plan.known();
-    mst_advise::has_tree(plan.view(), port.bridge, tree)
+    mst_forest::has_tree(plan.view(), port.bridge, tree)
 }
 
 /// Puts the rows of a port that is explained.

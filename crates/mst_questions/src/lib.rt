@@ -20,7 +20,7 @@ pub use advising::put_advice;
 pub use asked::{Asked, Question};
 pub use asks::{Answer, QuestionWord, answer_to, ask, ask_from, ask_within, put_answer};
 pub use explaining::{Unexplained, put_explanation_of, unexplained_in};
-pub use mst_advise::{laws as advise_laws, sweeping_laws, trees_laws};
+pub use mst_advise::{laws as advise_laws, sweeping_laws};
 pub use mst_tool::{
     CheckWord, Engine, Form, Input, Planner, Reply, RunWord, Shape, Side, check, check_within,
     laws as engine_laws, print, report_laws, run, run_from, run_within, serve, status,

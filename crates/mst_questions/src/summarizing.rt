@@ -2,7 +2,7 @@ ghost use Rattle.std.specs.Prelude.{◌≡◌, ◌++◌, true, List, OnOk};
 ghost use Rattle.mst_rows.specs.Rows.{Row};
 ghost use Rattle.mst_questions.specs.Summarizing.{Summarizes};
 
-use mst_advise::Settled;
+use mst_forest::Settled;
 use mst_picture::put_summary;
 use mst_rows::Rows;
 use mst_tool::Planner;

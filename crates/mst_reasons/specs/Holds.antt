@@ -14,10 +14,10 @@ use Rattle.mst_lag.specs.View.{LogicalPort}
 use Rattle.mst_note_text.specs.Children.{HasSteps}
 use Rattle.mst_note_text.specs.Depths.{ParentIn}
 use Rattle.mst_note_text.specs.NotesText.{AreNoteRows}
-use Rattle.mst_sweep.specs.facts.trees.Outcome.{Outcome, trees_of}
-use Rattle.mst_sweep.specs.facts.trees.Roles.{role_in}
-use Rattle.mst_sweep.specs.facts.trees.declared.kind.Role.{Role}
-use Rattle.mst_sweep.specs.facts.trees.declared.kind.Role.TheVariants.{Root, Designated, Alternate, Backup, Master, Disabled}
+use Rattle.mst_forest.specs.Outcome.{Outcome, trees_of}
+use Rattle.mst_forest.specs.Roles.{role_in}
+use Rattle.mst_forest.specs.declared.kind.Role.{Role}
+use Rattle.mst_forest.specs.declared.kind.Role.TheVariants.{Root, Designated, Alternate, Backup, Master, Disabled}
 use Rattle.mst_sweep.specs.vlan.Reach.{bridges_on, vid_links}
 use Rattle.mst_graph.specs.Lists.{has_any}
 use Rattle.mst_sweep.specs.facts.Roots.{root_name}

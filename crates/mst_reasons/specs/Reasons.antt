@@ -19,13 +19,13 @@ use Rattle.mst_lag.specs.View.{LogicalPort}
 use Rattle.mst_note_text.specs.Children.{HasSteps}
 use Rattle.mst_note_text.specs.Depths.{ParentIn}
 use Rattle.mst_note_text.specs.NotesText.{AreNoteRows}
-use Rattle.mst_sweep.specs.facts.trees.Outcome.{Outcome, trees_of}
-use Rattle.mst_sweep.specs.facts.trees.Roles.{role_in}
-use Rattle.mst_sweep.specs.facts.trees.declared.kind.Role.{Role}
-use Rattle.mst_sweep.specs.facts.trees.declared.kind.Role.TheVariants as a_role
+use Rattle.mst_forest.specs.Outcome.{Outcome, trees_of}
+use Rattle.mst_forest.specs.Roles.{role_in}
+use Rattle.mst_forest.specs.declared.kind.Role.{Role}
+use Rattle.mst_forest.specs.declared.kind.Role.TheVariants as a_role
 use Rattle.mst_sweep.specs.vlan.Reach.{bridges_on}
 use Rattle.mst_sweep.specs.Parts.{ArePartsOf}
-use Rattle.mst_sweep.specs.facts.trees.RoleNumbers.{role_number}
+use Rattle.mst_forest.specs.RoleNumbers.{role_number}
 use Rattle.mst_graph.specs.Lists.{has_any}
 use Rattle.mst_policy.specs.declared.expectation.Expectation.{Expectation}
 use Rattle.mst_policy.specs.declared.expectation.Expectation.TheVariants as expect

@@ -1,6 +1,6 @@
 use crate::lists::{BridgeNames, Parts, PortNames, Word};
 use mst_ids::{Name, Tree, VidSet};
-use mst_sweep::Role;
+use mst_forest::Role;
 
 /// Why an expectation doesn't hold.
 #[derive(Drop)]

@@ -7,7 +7,7 @@ mod planner;
 mod rows;
 
 pub use answers::asks_plan;
-pub use mst_plan::{Forest, Role, Settler, forest_of};
+pub use mst_plan::{Settler, forest_of};
 pub use mst_save::{laws as save_laws, put_saved};
-pub use mst_vlan::{active, forwards, role};
+pub use mst_vlan::active;
 pub use planner::Planner;

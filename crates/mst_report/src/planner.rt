@@ -2,8 +2,9 @@ ghost use Rattle.std.specs.Prelude.{◌≡◌, ◌≢◌, ◌≤◌, ◌<◌, �
 ghost use Rattle.mst_net.specs.tables.After.{after};
 ghost use Rattle.mst_net.specs.tables.Contents.{SameContents, CanCommit, Commits, room_for};
 ghost use Rattle.std.specs.Option.{option_map};
-ghost use Rattle.mst_plan.specs.trees.Agrees.{AreOf};
-ghost use Rattle.mst_plan.specs.trees.Forest.{IsForest, SettlesNoUnused};
+ghost use Rattle.mst_forest.specs.Agrees.{AreOf};
+ghost use Rattle.mst_forest.specs.Forest.{IsForest};
+ghost use Rattle.mst_trees.specs.Bound.{SettlesNoUnused};
 ghost use Rattle.mst_lag.specs.Viewed.{IsView};
 ghost use Rattle.mst_changes.specs.Stored.{kept_entries};
 
@@ -13,7 +14,8 @@ use mst_ids::Tree;
 use mst_lag::View;
 use mst_lang::Edit;
 use mst_net::{Contents, Network, Refusal};
-use mst_plan::{Forest, KeptPlan, Plan, Settled};
+use mst_forest::{Forest, Settled};
+use mst_plan::{KeptPlan, Plan};
 use std::alloc::{AllocError, Global};
 use std::marker::Model;
 use std::mem;

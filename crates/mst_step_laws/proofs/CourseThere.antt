@@ -9,7 +9,7 @@ use Rattle.mst_net.specs.tables.After.{after}
 use Rattle.mst_net.specs.tables.Tables.{IsNetwork, Net}
 use Rattle.mst_policy.specs.declared.policy.PolicyLine.{PolicyLine}
 use Rattle.mst_rows.specs.Rows.{Row}
-use Rattle.mst_diff.specs.vlan.trees.Outcome.{IsOutcome, Outcome}
+use Rattle.mst_forest.specs.Outcome.{IsOutcome, Outcome}
 use Rattle.mst_verdict.specs.sweeping.declared.step.Deed.TheVariants as deed
 use Rattle.mst_verdict.specs.reasons.Named.{Prior}
 use Rattle.mst_verdict.specs.telling.Steps.{start_rows}

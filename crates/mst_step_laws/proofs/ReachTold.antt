@@ -12,7 +12,7 @@ use Rattle.mst_net.specs.tables.Tables.{Net, IsNetwork}
 use Rattle.mst_lag.specs.Aggregation.{same_name}
 use Rattle.mst_rows.specs.Rows.{Row}
 use Rattle.mst_diff.specs.vlan.Reach.{AreIslandsOf, bridges_on, lans_up}
-use Rattle.mst_diff.specs.vlan.trees.Outcome.{Outcome, IsOutcome}
+use Rattle.mst_forest.specs.Outcome.{Outcome, IsOutcome}
 use Rattle.mst_lag.specs.View.{bridge_names}
 use Rattle.mst_diff.specs.vlan.classes.AllVids.{all_vids}
 use Rattle.mst_diff.specs.DiffText.{AreDiffRowsOf, diff_row}
@@ -25,7 +25,7 @@ use Rattle.mst_diff.specs.declared.diff.Differing.{Differing}
 use Rattle.mst_diff.proofs.vlan_lemmas.OneList.{OneList}
 use Rattle.mst_diff.proofs.SameSides.{names_decide}
 use Rattle.mst_diff.proofs.vlan_lemmas.classes_lemmas.VidPlaces.{is_vid_there}
-use Rattle.mst_diff.proofs.vlan_lemmas.trees_lemmas.Lists.{kept_from, some_is}
+use Rattle.mst_forest.proofs.Lists.{kept_from, some_is}
 use Rattle.mst_verdict.specs.sweep.Cuts.{runs_of}
 use Rattle.mst_verdict.specs.sweep.Parts.{AreParts, all_parts, home, staying, stays_at}
 use Rattle.mst_verdict.proofs.sweep_lemmas.CutApart.{both_true, not_true, stays_is, two_apart}

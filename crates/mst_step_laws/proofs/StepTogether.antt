@@ -9,11 +9,11 @@ use Rattle.mst_lag.specs.Trees.{is_among}
 use Rattle.mst_net.specs.tables.Tables.{Net}
 use Rattle.mst_policy.specs.declared.item.NameItem.TheVariants.{Any}
 use Rattle.mst_rows.specs.Rows.{Row}
-use Rattle.mst_diff.specs.vlan.trees.Outcome.{Outcome}
+use Rattle.mst_forest.specs.Outcome.{Outcome}
 use Rattle.mst_lag.specs.View.{bridge_names}
 use Rattle.mst_diff.specs.vlan.classes.AllVids.{all_vids}
 use Rattle.mst_graph.specs.Lists.{has_any}
-use Rattle.mst_diff.proofs.vlan_lemmas.trees_lemmas.Pieces.{flat_map-flat_map}
+use Rattle.mst_forest.proofs.Pieces.{flat_map-flat_map}
 use Rattle.mst_diff.proofs.vlan_lemmas.classes_lemmas.VidPlaces.{is_vid_there}
 use Rattle.mst_verdict.specs.sweep.Cuts.{AreCutsBy, cut_row, group_rows, runs_of}
 use Rattle.mst_verdict.specs.sweep.Parts.{AreParts, ArePartsOf}

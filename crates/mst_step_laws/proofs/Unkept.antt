@@ -5,7 +5,7 @@ use Rattle.std.specs.List.{AllByRecursion, AllZip, Contains, count_by, sum_by}
 use Rattle.std.proofs.lemmas.List.Sums.{sum_by-cons}
 use Rattle.mst_change.specs.Reading.{IsInRange, LineRead}
 use Rattle.mst_change.specs.Steps.{all_lines}
-use Rattle.mst_diff.specs.vlan.trees.Outcome.{IsOutcome}
+use Rattle.mst_forest.specs.Outcome.{IsOutcome}
 use Rattle.mst_graph.specs.Lists.{has_any}
 use Rattle.mst_graph.proofs.Members.{cases, from_filter, in_none}
 use Rattle.mst_lang.specs.Ranges.{InRange}

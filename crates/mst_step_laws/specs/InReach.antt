@@ -3,7 +3,7 @@ use Rattle.std.specs.Prelude.{ℕ, List}
 use Rattle.std.specs.List.{Contains}
 use Rattle.mst_net.specs.tables.Tables.{Net, IsNetwork}
 use Rattle.mst_rows.specs.Rows.{Row}
-use Rattle.mst_diff.specs.vlan.trees.Outcome.{Outcome, IsOutcome}
+use Rattle.mst_forest.specs.Outcome.{Outcome, IsOutcome}
 use Rattle.mst_diff.specs.DiffText.{AreDiffRowsOf}
 use Rattle.mst_diff.specs.Reach.{AreSides, Sides, reach_row}
 use Rattle.mst_diff.specs.declared.diff.Differing.{Differing}

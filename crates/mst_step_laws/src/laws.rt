@@ -9,7 +9,7 @@ ghost use Rattle.mst_net.specs.tables.Tables.{Net, IsNetwork};
 ghost use Rattle.mst_policy.specs.declared.policy.PolicyLine.{PolicyLine as LineOf};
 ghost use Rattle.mst_verdict.specs.Setting.{after_lines, after_steps};
 ghost use Rattle.mst_verdict.specs.Stepping.{AreWatched, Steps};
-ghost use Rattle.mst_diff.specs.vlan.trees.Outcome.{IsOutcome, Outcome};
+ghost use Rattle.mst_forest.specs.Outcome.{IsOutcome, Outcome};
 ghost use Rattle.mst_step_laws.specs.Together.{AreAllVids, as_cut, together_all};
 ghost use Rattle.mst_verdict.specs.sweep.Cuts.{AreCutsBy};
 ghost use Rattle.mst_verdict.specs.sweep.Parts.{AreParts};
@@ -23,7 +23,7 @@ ghost use Rattle.mst_rows.specs.Rows.{Row};
 ghost use Rattle.mst_step_laws.specs.InReach.{IsInDiff, StepAndDiff};
 
 use mst_change::laws::no_line_is_left;
-use mst_diff::trees_laws::{has_outcome, one_outcome};
+use mst_forest::laws::{has_outcome, one_outcome};
 use mst_diff::vlan_laws::islands_of_vid;
 use mst_graph::laws::group_lists;
 use mst_ids::Vid;

@@ -1,4 +1,3 @@
-pub use Rattle.mst_vlan.proofs as vlan_lemmas
 pub mod Lists
 pub mod Named
 pub mod OverSeen

@@ -4,7 +4,7 @@ use Rattle.std.specs.List.{range_with_len}
 use Rattle.std.specs.Option.{option_map_or, unwrap_or}
 use Rattle.mst_lag.specs.Aggregation.{same_name}
 use Rattle.mst_lag.specs.Viewed.{Viewed}
-use Rattle.mst_vlan.specs.trees.Forest.{Forest}
+use Rattle.mst_forest.specs.Forest.{Forest}
 use Rattle.mst_vlan.specs.Carried.{seen_is_link}
 use Rattle.mst_summary.specs.declared.crossing.Crossing.{Crossing}
 

@@ -9,13 +9,13 @@ use Rattle.mst_lag.specs.Aggregation.{same_name}
 use Rattle.mst_lag.specs.Viewed.{Viewed, named_port}
 use Rattle.mst_lag.specs.declared.in_view.BridgeInView.{BridgeInView}
 use Rattle.mst_lag.specs.declared.in_view.PortInView.{PortInView}
-use Rattle.mst_vlan.specs.trees.Forest.{Forest}
-use Rattle.mst_vlan.specs.trees.InUse.{id_in, seen_has}
-use Rattle.mst_vlan.specs.trees.Settled.{SettledNet, outcome_of}
-use Rattle.mst_vlan.specs.trees.SeenRoles.{seen_forwards}
+use Rattle.mst_forest.specs.Forest.{Forest}
+use Rattle.mst_forest.specs.InUse.{id_in, seen_has}
+use Rattle.mst_forest.specs.Settled.{SettledNet, outcome_of}
+use Rattle.mst_forest.specs.SeenRoles.{seen_forwards}
 use Rattle.mst_vlan.specs.Seen.{seen_member}
 use Rattle.mst_vlan.specs.declared.island.Island.{Island}
-use Rattle.mst_vlan.specs.trees.AllTrees.{all_trees}
+use Rattle.mst_forest.specs.AllTrees.{all_trees}
 use Rattle.mst_graph.specs.Lists.{has_any}
 use Rattle.mst_slips.specs.Seen.{seen_first}
 use Rattle.mst_summary.specs.declared.roots.Follower.{Follower}

@@ -2,7 +2,7 @@ ghost use Rattle.std.specs.Prelude.{◌≡◌, ◌++◌, ◌∷◌, [], List, If
 ghost use Rattle.std.specs.List.{Contains};
 ghost use Rattle.mst_lag.specs.Viewed.{named_port};
 ghost use Rattle.mst_rows.specs.Rows.{Row};
-ghost use Rattle.mst_vlan.specs.trees.Settled.{outcome_of};
+ghost use Rattle.mst_forest.specs.Settled.{outcome_of};
 ghost use Rattle.mst_summary.specs.Blocked.{stops as stops_of, is_blocked as blocks, blocked_row};
 ghost use Rattle.mst_summary.specs.Seen.{blocked_of};
 
@@ -11,7 +11,7 @@ use mst_ids::{PortName, Tree};
 use mst_kinds::{Kind, SummaryLine};
 use mst_lag::PortInView;
 use mst_rows::{Rows, Value, put};
-use mst_vlan::{Role, Settled};
+use mst_forest::{Role, Settled};
 use std::alloc::{AllocError, Global};
 
 /// Whether there is a role, and it doesn't forward.

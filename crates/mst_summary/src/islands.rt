@@ -2,7 +2,7 @@ ghost use Rattle.std.specs.Prelude.{◌≡◌, ◌++◌, ◌∷◌, [], ◌+◌,
 ghost use Rattle.std.specs.List.{All, AllZip, flat_map};
 ghost use Rattle.mst_rows.specs.Rows.{Row};
 ghost use Rattle.mst_vlan.specs.Carried.{with_trees};
-ghost use Rattle.mst_vlan.specs.trees.Settled.{outcome_of};
+ghost use Rattle.mst_forest.specs.Settled.{outcome_of};
 ghost use Rattle.mst_vlan.specs.classes.AllVids.{NumberEach};
 ghost use Rattle.mst_vlan.specs.classes.Classes.{AreClasses};
 ghost use Rattle.mst_summary.specs.Kept.{count_at};
@@ -13,7 +13,8 @@ use mst_graph::{Numbering, groups_by_body};
 use mst_ids::Vid;
 use mst_kinds::{Kind, SummaryLine};
 use mst_rows::{Rows, Value, put};
-use mst_vlan::{Carriage, Island, Settled, has_bridge, set_of, vids};
+use mst_vlan::{Carriage, Island, has_bridge, set_of, vids};
+use mst_forest::Settled;
 use std::alloc::{AllocError, Global};
 
 /// How many of these islands have a bridge.

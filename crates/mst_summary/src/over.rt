@@ -7,7 +7,8 @@ ghost use Rattle.mst_summary.specs.Seen.{seen_carries, seen_joins, seen_over};
 
 use mst_ids::Vid;
 use mst_lag::PortInView;
-use mst_vlan::{Settled, is_member, port_forwards};
+use mst_forest::{Settled, port_forwards};
+use mst_vlan::is_member;
 use std::alloc::{AllocError, Global};
 
 /// Whether a port is active for a VID and a member of its VLAN.

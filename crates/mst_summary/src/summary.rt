@@ -2,7 +2,7 @@ ghost use Rattle.std.specs.Prelude.{◌≡◌, ◌++◌, ℕ, List, OnOk};
 ghost use Rattle.std.specs.List.{flat_map};
 ghost use Rattle.mst_config.specs.Shared.{AreRegions};
 ghost use Rattle.mst_rows.specs.Rows.{Row};
-ghost use Rattle.mst_vlan.specs.trees.Settled.{outcome_of};
+ghost use Rattle.mst_forest.specs.Settled.{outcome_of};
 ghost use Rattle.mst_summary.specs.Seen.{seen_tree_rows};
 ghost use Rattle.mst_summary.specs.SummaryText.{AreSummaryRows};
 
@@ -16,7 +16,8 @@ use mst_config::Regions;
 use mst_ids::Tree;
 use mst_rows::Rows;
 use mst_slips::put_slips;
-use mst_vlan::{Carriage, Settled, classes_of_vids};
+use mst_vlan::{Carriage, classes_of_vids};
+use mst_forest::Settled;
 use std::alloc::{AllocError, Global};
 
 /// Puts the rows of a tree.

@@ -8,9 +8,9 @@ use Rattle.mst_graph.specs.Numbers.{AreNumbers}
 use Rattle.mst_net.specs.tables.ByTree.{table_in, vlans_in}
 use Rattle.mst_net.specs.tables.Tables.{Net, Numbers}
 use Rattle.mst_lag.specs.Viewed.{Viewed}
-use Rattle.mst_vlan.specs.trees.Agrees.{AreOf}
-use Rattle.mst_vlan.specs.trees.Forest.{Forest, IsForest}
-use Rattle.mst_vlan.specs.trees.Outcome.{Outcome}
+use Rattle.mst_forest.specs.Agrees.{AreOf}
+use Rattle.mst_forest.specs.Forest.{Forest, IsForest}
+use Rattle.mst_forest.specs.Outcome.{Outcome}
 use Rattle.mst_vlan.specs.Reach.{AreIslandsOf}
 use Rattle.mst_vlan.specs.classes.Alike.{TellApart}
 use Rattle.mst_sweep.specs.Parts.{home}

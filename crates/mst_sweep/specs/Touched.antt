@@ -3,12 +3,12 @@ use Rattle.std.specs.Prelude.{◌≡◌, ℕ, ◌<◌, ◌==◌, ◌&&◌, not, 
 use Rattle.std.specs.List.{Contains, list_any}
 use Rattle.mst_lag.specs.Viewed.{Viewed}
 use Rattle.mst_lag.specs.declared.in_view.PortInView.{PortInView}
-use Rattle.mst_vlan.specs.trees.Forest.{Forest}
-use Rattle.mst_vlan.specs.trees.InUse.{seen_mstis}
-use Rattle.mst_vlan.specs.trees.SeenRoles.{seen_role, seen_forwards}
-use Rattle.mst_vlan.specs.trees.declared.kind.Role.{Role}
+use Rattle.mst_forest.specs.Forest.{Forest}
+use Rattle.mst_forest.specs.InUse.{seen_mstis}
+use Rattle.mst_forest.specs.SeenRoles.{seen_role, seen_forwards}
+use Rattle.mst_forest.specs.declared.kind.Role.{Role}
 use Rattle.mst_vlan.specs.Seen.{seen_member}
-use Rattle.mst_vlan.specs.trees.RoleNumbers.{role_number}
+use Rattle.mst_forest.specs.RoleNumbers.{role_number}
 
 -- ---- roles
 -- two roles aren't the same, or just one of them is there

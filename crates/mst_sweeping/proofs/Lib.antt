@@ -1,4 +1,3 @@
-pub use Rattle.mst_plan.proofs as plan_lemmas
 pub use Rattle.mst_sweep.proofs as sweep_lemmas
 pub mod Swept
 pub mod SweptParts

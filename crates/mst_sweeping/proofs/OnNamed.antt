@@ -6,9 +6,9 @@ use Rattle.mst_net.specs.tables.Tables.{Net, Numbers, BridgeRow}
 use Rattle.mst_lag.specs.Aggregation.{same_name}
 use Rattle.mst_lag.specs.Viewed.{Viewed, named_bridge}
 use Rattle.mst_lag.specs.declared.in_view.BridgeInView.{BridgeInView}
-use Rattle.mst_plan.specs.trees.Agrees.{AreOf}
-use Rattle.mst_plan.specs.trees.Forest.{Forest}
-use Rattle.mst_plan.proofs.trees_lemmas.Lists.{filter_mapped, mapped_twice}
+use Rattle.mst_forest.specs.Agrees.{AreOf}
+use Rattle.mst_forest.specs.Forest.{Forest}
+use Rattle.mst_forest.proofs.Lists.{filter_mapped, mapped_twice}
 use Rattle.mst_sweep.proofs.facts_lemmas.Lists.{list_any-map}
 use Rattle.mst_sweep.specs.vlan.Reach.{bridges_on}
 use Rattle.mst_sweeping.specs.Links.{is_on, stays}

@@ -4,7 +4,7 @@ use Rattle.std.specs.List.{AllZip, count_by, flat_map, range_with_len}
 use Rattle.mst_net.specs.tables.After.{after}
 use Rattle.mst_net.specs.tables.Tables.{Net, Numbers}
 use Rattle.mst_rows.specs.Rows.{Row}
-use Rattle.mst_plan.specs.trees.Outcome.{Outcome, IsOutcome}
+use Rattle.mst_forest.specs.Outcome.{Outcome, IsOutcome}
 use Rattle.mst_sweep.specs.declared.failure.Failure.{Failure}
 use Rattle.mst_sweep.specs.Failures.{edit_of}
 use Rattle.mst_sweep.specs.Pairs.{failed}

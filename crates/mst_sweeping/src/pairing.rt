@@ -1,7 +1,7 @@
 ghost use Rattle.std.specs.Prelude.{◌≡◌, ◌≤◌, ◌-◌, ◌*◌, ◌/◌, List, [], ◌∷◌, IfOk, OnOk, length, map};
 ghost use Rattle.std.specs.List.{AllByRecursion};
 ghost use Rattle.mst_lag.specs.Viewed.{IsView};
-ghost use Rattle.mst_plan.specs.trees.Forest.{IsForest};
+ghost use Rattle.mst_forest.specs.Forest.{IsForest};
 ghost use Rattle.mst_plan.specs.Plan.{IsPlan, AreTrees};
 ghost use Rattle.mst_sweeping.specs.Pairing.{SweepsPairs, AreSingles, HasHomes, IsSingle, IsPairing, ArePairsTold, TellsPair};
 ghost use Rattle.mst_sweeping.specs.Sweeping.{Puts};
@@ -14,7 +14,8 @@ use crate::sweeping::baseline_of;
 use mst_config::laws::regions_stay;
 use mst_lag::{View, view};
 use mst_net::Network;
-use mst_plan::{Forest, Plan};
+use mst_forest::Forest;
+use mst_plan::Plan;
 use mst_rows::Rows;
 use mst_sweep::{
     Baseline, Failing, Failure, Planned, Single, SweepPart, failures, kept_alone,

@@ -1,7 +1,7 @@
 ghost use Rattle.std.specs.Prelude.{◌≡◌, ◌≤◌, ◌*◌, IfOk, filter_map, length};
 ghost use Rattle.std.specs.List.{count_by};
-ghost use Rattle.mst_plan.specs.trees.Agrees.{Known};
-ghost use Rattle.mst_plan.specs.trees.InUse.{AreInUse};
+ghost use Rattle.mst_forest.specs.Agrees.{Known};
+ghost use Rattle.mst_forest.specs.InUse.{AreInUse};
 ghost use Rattle.mst_lag.specs.View.{port_names};
 ghost use Rattle.mst_sweep.specs.Between.{OfNetworks};
 ghost use Rattle.mst_sweep.specs.Moved.{port_moved as port_moved_in, moved_ports as all_moved_ports};
@@ -10,8 +10,9 @@ ghost use Rattle.mst_sweeping.specs.Seen.{seen_both_ports, seen_port_in_both, se
 use indexmap::IndexMap;
 use mst_ids::{PortName, Tree};
 use mst_lag::{PortInView, View};
-use mst_plan::{is_had, trees_in_use};
-use mst_sweep::{Planned, changes_role, port_role};
+use mst_forest::{is_had, trees_in_use};
+use mst_sweep::{Planned, changes_role};
+use mst_forest::port_role;
 use std::alloc::{AllocError, Global};
 
 /// A logical port that two networks have, by name.

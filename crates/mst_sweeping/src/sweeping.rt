@@ -1,8 +1,8 @@
 ghost use Rattle.std.specs.Prelude.{List, IfOk, OnOk};
 ghost use Rattle.std.specs.List.{AllByRecursion};
 ghost use Rattle.mst_rows.specs.Rows.{Row};
-ghost use Rattle.mst_plan.specs.trees.Agrees.{Known};
-ghost use Rattle.mst_plan.specs.trees.Forest.{IsForest};
+ghost use Rattle.mst_forest.specs.Agrees.{Known};
+ghost use Rattle.mst_forest.specs.Forest.{IsForest};
 ghost use Rattle.mst_sweep.specs.Baseline.{IsBaseline};
 ghost use Rattle.mst_sweep.specs.SweepText.{IsTold};
 ghost use Rattle.mst_lag.specs.Viewed.{IsView};

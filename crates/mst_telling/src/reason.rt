@@ -7,7 +7,8 @@ ghost use Rattle.mst_telling.specs.Rows.{front_cells, kind_at, limit_cells, name
 
 use mst_ids::{Name, Tree, VidSet};
 use mst_kinds::{Kind, VerifyLine};
-use mst_reasons::{Failure, Parts, Reason, Role, Word};
+use mst_reasons::{Failure, Parts, Reason, Word};
+use mst_forest::Role;
 use mst_rows::{Rows, Value, put};
 use std::alloc::{AllocError, Global};
 

@@ -1,5 +1,4 @@
 pub use Rattle.mst_vlan.proofs as vlan_lemmas
-pub use Rattle.mst_vlan.proofs.trees_lemmas as trees_lemmas
 mod TreeNamed
 pub mod VlanNamed
 mod VlanOnce

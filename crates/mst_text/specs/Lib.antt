@@ -1,4 +1,3 @@
-pub use Rattle.mst_vlan.specs.trees as trees
 pub use Rattle.mst_vlan.specs as vlan
 pub mod Holders
 pub mod Held

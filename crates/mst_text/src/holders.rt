@@ -9,7 +9,7 @@ use indexmap::IndexMap;
 use mst_ids::{BridgeId, Mac, Name};
 use mst_lag::BridgeInView;
 use mst_rows::Value;
-use mst_vlan::Settled;
+use mst_forest::Settled;
 use std::alloc::{AllocError, Global};
 
 /// The names of the bridges of a network by their MAC addresses: which bridge an identifier is of.

@@ -11,7 +11,7 @@ use mst_lag::PortInView;
 use mst_rows::{Rows, Value, put};
 use mst_tables::TreeSettings;
 use mst_vector::{CistPort, MstiPort};
-use mst_vlan::{Role, Settled, cist_port, msti_port, role_of};
+use mst_forest::{Role, Settled, cist_port, msti_port, role_of};
 use std::alloc::AllocError;
 
 /// Puts the row of a logical port, if its bridge has the tree.

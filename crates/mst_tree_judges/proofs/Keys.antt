@@ -13,16 +13,16 @@ use Rattle.mst_vector.specs.declared.cist.CistBridge.{CistBridge}
 use Rattle.mst_vector.specs.declared.msti.MstiBridge.{MstiBridge}
 use Rattle.mst_topology.specs.Topology.{HasBridge}
 use Rattle.mst_config.specs.Regions.{region_of}
-use Rattle.mst_judged.specs.reasons.sweep.facts.trees.Apart.{Apart}
-use Rattle.mst_judged.specs.reasons.sweep.facts.trees.Cist.{cist_bridge, cist_of, cist_sight}
-use Rattle.mst_judged.specs.reasons.sweep.facts.trees.InUse.{id_in}
-use Rattle.mst_judged.specs.reasons.sweep.facts.trees.Msti.{has_msti, msti_bridge, msti_of, msti_sight}
-use Rattle.mst_judged.specs.reasons.sweep.facts.trees.Outcome.{Outcome, IsOutcome, trees_of}
-use Rattle.mst_judged.proofs.reasons_lemmas.sweep_lemmas.facts_lemmas.trees_lemmas.CistTopology.{given, cist_is_sight}
-use Rattle.mst_judged.proofs.reasons_lemmas.sweep_lemmas.facts_lemmas.trees_lemmas.Lists.{all_contained, apart_filtered, apart_mapped}
-use Rattle.mst_judged.proofs.reasons_lemmas.sweep_lemmas.facts_lemmas.trees_lemmas.MstiTopology.{msti_is_sight}
-use Rattle.mst_judged.proofs.reasons_lemmas.sweep_lemmas.facts_lemmas.trees_lemmas.Sights.{bridge_from}
-use Rattle.mst_judged.proofs.reasons_lemmas.sweep_lemmas.facts_lemmas.trees_lemmas.Views.{bridges_are, bridges_rise, entry_there, names_differ}
+use Rattle.mst_forest.specs.Apart.{Apart}
+use Rattle.mst_forest.specs.Cist.{cist_bridge, cist_of, cist_sight}
+use Rattle.mst_forest.specs.InUse.{id_in}
+use Rattle.mst_forest.specs.Msti.{has_msti, msti_bridge, msti_of, msti_sight}
+use Rattle.mst_forest.specs.Outcome.{Outcome, IsOutcome, trees_of}
+use Rattle.mst_forest.proofs.CistTopology.{given, cist_is_sight}
+use Rattle.mst_forest.proofs.Lists.{all_contained, apart_filtered, apart_mapped}
+use Rattle.mst_forest.proofs.MstiTopology.{msti_is_sight}
+use Rattle.mst_forest.proofs.Sights.{bridge_from}
+use Rattle.mst_forest.proofs.Views.{bridges_are, bridges_rise, entry_there, names_differ}
 use Rattle.mst_nested.specs.Trees.{HasTree}
 use Rattle.mst_judged.specs.reasons.sweep.vlan.Reach.{bridges_on}
 use Rattle.mst_judged.specs.reasons.note_text.Depths.{ParentIn}

@@ -11,10 +11,10 @@ use Rattle.mst_lag.specs.declared.in_view.BridgeInView.{BridgeInView}
 use Rattle.mst_tables.specs.Tables.{Net, Numbers, BridgeRow}
 use Rattle.mst_config.specs.Regions.{same_configuration, same_region}
 use Rattle.mst_config.specs.Shared.{same_in}
-use Rattle.mst_judged.specs.reasons.sweep.facts.trees.Agrees.{AreOf}
-use Rattle.mst_judged.proofs.reasons_lemmas.sweep_lemmas.facts_lemmas.trees_lemmas.Lists.{no_some, some_is}
-use Rattle.mst_judged.proofs.reasons_lemmas.sweep_lemmas.facts_lemmas.trees_lemmas.Looking.{first_found}
-use Rattle.mst_judged.proofs.reasons_lemmas.sweep_lemmas.facts_lemmas.trees_lemmas.Seen.{bridge_seen}
+use Rattle.mst_forest.specs.Agrees.{AreOf}
+use Rattle.mst_forest.proofs.Lists.{no_some, some_is}
+use Rattle.mst_forest.proofs.Looking.{first_found}
+use Rattle.mst_forest.proofs.Seen.{bridge_seen}
 use Rattle.mst_tree_judges.proofs.Keys.{key_there}
 use Rattle.mst_judged.proofs.reasons_lemmas.NamedIn.{names_are}
 

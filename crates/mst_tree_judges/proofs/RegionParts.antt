@@ -11,8 +11,8 @@ use Rattle.mst_lag.specs.Viewed.{Viewed}
 use Rattle.mst_lag.specs.declared.in_view.BridgeInView.{BridgeInView}
 use Rattle.mst_tables.specs.Tables.{Net, Numbers}
 use Rattle.mst_config.specs.Regions.{region_of, same_region}
-use Rattle.mst_judged.specs.reasons.sweep.facts.trees.Agrees.{AreOf}
-use Rattle.mst_judged.specs.reasons.sweep.facts.trees.Forest.{Forest}
+use Rattle.mst_forest.specs.Agrees.{AreOf}
+use Rattle.mst_forest.specs.Forest.{Forest}
 use Rattle.mst_config.proofs.SameRegion.{told}
 use Rattle.mst_judged.specs.reasons.Seen.{names_in}
 use Rattle.mst_judged.specs.reasons.Reasons.{Parts}

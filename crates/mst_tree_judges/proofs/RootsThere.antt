@@ -8,10 +8,10 @@ use Rattle.mst_tables.specs.Tables.{Net, IsNetwork}
 use Rattle.mst_vector.specs.declared.cist.CistVector.{CistVector}
 use Rattle.mst_vector.specs.declared.msti.MstiVector.{MstiVector}
 use Rattle.mst_nested.specs.Trees.{IsSettled}
-use Rattle.mst_judged.specs.reasons.sweep.facts.trees.Msti.{has_msti}
-use Rattle.mst_judged.specs.reasons.sweep.facts.trees.Outcome.{Outcome, trees_of}
+use Rattle.mst_forest.specs.Msti.{has_msti}
+use Rattle.mst_forest.specs.Outcome.{Outcome, trees_of}
 use Rattle.mst_judged.specs.reasons.sweep.facts.Roots.{root_of}
-use Rattle.mst_judged.proofs.reasons_lemmas.sweep_lemmas.facts_lemmas.trees_lemmas.Lists.{no_some, some_is}
+use Rattle.mst_forest.proofs.Lists.{no_some, some_is}
 use Rattle.mst_judged.proofs.reasons_lemmas.sweep_lemmas.vlan_lemmas.Names.{tests}
 use Rattle.mst_judged.proofs.reasons_lemmas.note_text_lemmas.Tops.{internal_depth, external_depth, ends_cist, ends_msti}
 use Rattle.mst_tree_judges.proofs.Keys.{InNet, cist_there, msti_there}

@@ -13,11 +13,11 @@ use Rattle.mst_lag.specs.Aggregation.{same_name}
 use Rattle.mst_lag.specs.Viewed.{Viewed}
 use Rattle.mst_lag.specs.declared.in_view.PortInView.{PortInView}
 use Rattle.mst_judged.specs.reasons.note_text.declared.children.Child.{Child}
-use Rattle.mst_judged.specs.reasons.sweep.facts.trees.Forest.{Forest}
-use Rattle.mst_judged.specs.reasons.sweep.facts.trees.InUse.{id_in}
-use Rattle.mst_judged.specs.reasons.sweep.facts.trees.Outcome.{Outcome}
-use Rattle.mst_judged.specs.reasons.sweep.facts.trees.SeenRoles.{seen_role}
-use Rattle.mst_judged.specs.reasons.sweep.facts.trees.declared.kind.Role.{Role}
+use Rattle.mst_forest.specs.Forest.{Forest}
+use Rattle.mst_forest.specs.InUse.{id_in}
+use Rattle.mst_forest.specs.Outcome.{Outcome}
+use Rattle.mst_forest.specs.SeenRoles.{seen_role}
+use Rattle.mst_forest.specs.declared.kind.Role.{Role}
 use Rattle.mst_graph.specs.Lists.{has_any}
 use Rattle.mst_judged.specs.reasons.summary.Roots.{follower}
 use Rattle.mst_judged.specs.reasons.summary.declared.roots.Follower.{Follower}

@@ -7,7 +7,8 @@ ghost use Rattle.mst_judged.specs.reasons.Reasons.{AreRegionReasons, has_two as 
 
 use mst_graph::groups;
 use mst_ids::Name;
-use mst_judged::{Judged, Parts, Reason, Settled, has_two, named};
+use mst_judged::{Judged, Parts, Reason, has_two, named};
+use mst_forest::Settled;
 use mst_lag::BridgeInView;
 use mst_policy::NameList;
 use std::alloc::{AllocError, Global};

@@ -5,7 +5,7 @@ ghost use Rattle.indexmap.specs.IndexMap.{get};
 ghost use Rattle.mst_lag.specs.Aggregation.{same_name};
 ghost use Rattle.mst_lag.specs.Viewed.{named_bridge};
 ghost use Rattle.mst_config.specs.Regions.{same_region};
-ghost use Rattle.mst_judged.specs.reasons.sweep.facts.trees.Settled.{outcome_of};
+ghost use Rattle.mst_forest.specs.Settled.{outcome_of};
 ghost use Rattle.mst_graph.specs.Lists.{has_any};
 ghost use Rattle.mst_judged.specs.reasons.summary.Roots.{least as least_of};
 ghost use Rattle.mst_judged.specs.reasons.summary.declared.roots.Follower.{Follower as FollowerOf};
@@ -14,8 +14,9 @@ ghost use Rattle.mst_tree_judges.specs.Seen.{concerned_follower, concerned_follo
 
 use indexmap::IndexMap;
 use mst_ids::{Name, Tree};
-use mst_judged::trees_laws::nested;
-use mst_judged::{Follower, Judged, Reason, Settled, as_follower, bridge_id, least};
+use mst_forest::laws::nested;
+use mst_judged::{Follower, Judged, Reason, as_follower, least};
+use mst_forest::{Settled, bridge_id};
 use mst_lag::BridgeInView;
 use std::alloc::{AllocError, Global};
 

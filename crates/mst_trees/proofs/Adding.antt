@@ -3,9 +3,9 @@ use Rattle.std.proofs.Common.{◌≡◌, ◌≢◌, ℕ, List, [], ◌∷◌, �
 use Rattle.std.specs.List.{Contains}
 use Rattle.std.proofs.lemmas.List.{append-nil}
 use Rattle.mst_topology.specs.Topology.{TreePort}
-use Rattle.mst_trees.specs.Apart.{Apart}
+use Rattle.mst_forest.specs.Apart.{Apart}
 use Rattle.mst_trees.specs.Wirings.{HaveNumbers}
-use Rattle.mst_trees.proofs.Lists.{apart_before}
+use Rattle.mst_forest.proofs.Lists.{apart_before}
 
 -- an element moves from those that are left to those that are there
 pub moved : {A : Type 0} (there left all : List A) (x : A) → there ++ x ∷ left ≡ all → (there ++ x ∷ []) ++ left ≡ all

@@ -11,12 +11,12 @@ use Rattle.mst_outcome.specs.Assignment.{Assignment, vector_of, designated_of, I
 use Rattle.mst_net.specs.tables.Tables.{Net, Numbers, IsNetwork}
 use Rattle.mst_net.specs.tables.Contents.{IsNumbered}
 use Rattle.mst_lag.specs.Viewed.{Viewed, IsView}
-use Rattle.mst_trees.specs.Sight.{Sight, tree_of}
-use Rattle.mst_trees.specs.Outcome.{TreeOutcome, IsTreeOutcome}
-use Rattle.mst_trees.specs.Agrees.{Agrees, IsNameOf}
-use Rattle.mst_trees.proofs.Lists.{some_is}
-use Rattle.mst_trees.proofs.Sights.{IsSight, is_topology}
-use Rattle.mst_trees.proofs.Numbering.{numbering, number_tree, tree_renamed, bridge_number, HasKeys, has_keys}
+use Rattle.mst_forest.specs.Sight.{Sight, tree_of}
+use Rattle.mst_forest.specs.Outcome.{TreeOutcome, IsTreeOutcome}
+use Rattle.mst_forest.specs.Agrees.{Agrees, IsNameOf}
+use Rattle.mst_forest.proofs.Lists.{some_is}
+use Rattle.mst_forest.proofs.Sights.{IsSight, is_topology}
+use Rattle.mst_forest.proofs.Numbering.{numbering, number_tree, tree_renamed, bridge_number, HasKeys, has_keys}
 
 -- the laws on renamed topologies, from names to numbers
 abbrev pub RenamedVectors : {B P V : Type 0} → Rules B P V → Type 0

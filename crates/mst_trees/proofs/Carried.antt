@@ -10,7 +10,7 @@ use Rattle.mst_topology.specs.Topology.{TreePort, Topology, IsTopology, HasBridg
 use Rattle.mst_topology.specs.Settled.{Designates, IsDesignated}
 use Rattle.mst_outcome.specs.Renamed.{Renaming, renamed, IsRenamed}
 use Rattle.mst_nested.specs.Trees.{Trees, IsLanOf, IsInternal, HasTree, IsNested}
-use Rattle.mst_trees.proofs.Lists.{some_is, no_some}
+use Rattle.mst_forest.proofs.Lists.{some_is, no_some}
 
 -- what each LAN's designated port is, under the former keys and the new ones
 pub record AreDesignated {N L K O M J B P V : Type 0} (m : Rules B P V) (t : Topology N L K B P) (u : Topology O M J B P) (r : Renaming N L K O M J) (v : N → Option V) (w : O → Option V) : Type 0 where

@@ -20,20 +20,20 @@ use Rattle.mst_lag.specs.declared.in_view.BridgeInView.{BridgeInView}
 use Rattle.mst_lag.specs.declared.in_view.PortInView.{PortInView}
 use Rattle.mst_lag.specs.Trees.{is_among}
 use Rattle.mst_config.specs.Shared.{AreRegions}
-use Rattle.mst_trees.specs.Cist.{cist_sight, cist_of}
-use Rattle.mst_trees.specs.Msti.{msti_bridge, has_msti, msti_sight, msti_of}
-use Rattle.mst_trees.specs.Outcome.{TreeOutcome, IsTreeOutcome, Outcome, IsOutcome}
-use Rattle.mst_trees.specs.Seen.{cist_seen, internal_seen, trees_at}
-use Rattle.mst_trees.specs.Agrees.{Agrees, AreOf, internal_ports_of}
+use Rattle.mst_forest.specs.Cist.{cist_sight, cist_of}
+use Rattle.mst_forest.specs.Msti.{msti_bridge, has_msti, msti_sight, msti_of}
+use Rattle.mst_forest.specs.Outcome.{TreeOutcome, IsTreeOutcome, Outcome, IsOutcome}
+use Rattle.mst_forest.specs.Seen.{cist_seen, internal_seen, trees_at}
+use Rattle.mst_forest.specs.Agrees.{Agrees, AreOf, internal_ports_of}
 use Rattle.mst_trees.specs.Mstis.{AreOutcomes}
-use Rattle.mst_trees.specs.Forest.{IsForest, Forest}
-use Rattle.mst_trees.proofs.Lists.{all_contained}
-use Rattle.mst_trees.proofs.CistTopology.{given, cist_is_sight}
-use Rattle.mst_trees.proofs.MstiTopology.{msti_is_sight, msti_topology}
-use Rattle.mst_trees.proofs.Sights.{bridge_from}
-use Rattle.mst_trees.proofs.Seen.{bridge_seen, bridge_there}
+use Rattle.mst_forest.specs.Forest.{IsForest, Forest}
+use Rattle.mst_forest.proofs.Lists.{all_contained}
+use Rattle.mst_forest.proofs.CistTopology.{given, cist_is_sight}
+use Rattle.mst_forest.proofs.MstiTopology.{msti_is_sight, msti_topology}
+use Rattle.mst_forest.proofs.Sights.{bridge_from}
+use Rattle.mst_forest.proofs.Seen.{bridge_seen, bridge_there}
 use Rattle.mst_trees.proofs.Agreeing.{RenamedVectors, RenamedPorts, agrees}
-use Rattle.mst_trees.proofs.Looking.{cist_is_seen, has_tree_at, internal_is_seen, msti_is_seen}
+use Rattle.mst_forest.proofs.Looking.{cist_is_seen, has_tree_at, internal_is_seen, msti_is_seen}
 
 module _ (net : Net) (numbers : Numbers) (v : Viewed) (region_ids : List (ℕ × ℕ)) (of : AreOf net numbers v region_ids) where
   -- the CIST that is settled by numbers is the one by names

@@ -20,12 +20,12 @@ use Rattle.mst_outcome.specs.Assignment.{Assignment, vector_of}
 use Rattle.mst_topology.specs.Repair.{WithinBounds, CountsVectors}
 use Rattle.mst_lag.specs.Viewed.{Viewed}
 use Rattle.mst_lag.specs.declared.in_view.PortInView.{PortInView}
-use Rattle.mst_trees.specs.Numbered.{IsSettledBy}
-use Rattle.mst_trees.specs.Seen.{cist_seen}
+use Rattle.mst_trees.specs.SettledBy.{IsSettledBy}
+use Rattle.mst_forest.specs.Seen.{cist_seen}
 use Rattle.mst_trees.specs.Mstis.{AreOutcomes}
-use Rattle.mst_trees.specs.Bound.{KeepsBound}
-use Rattle.mst_trees.specs.Forest.{IsSettledOnce, KeepsBounds, msti_vector, msti_settlings, Forest}
-use Rattle.mst_trees.proofs.Lists.{no_some, all_there, all_contained, all_passing, length_filtered, contains_filtered}
+use Rattle.mst_trees.specs.Bound.{KeepsBound, IsSettledOnce, KeepsBounds}
+use Rattle.mst_forest.specs.Forest.{msti_vector, msti_settlings, Forest}
+use Rattle.mst_forest.proofs.Lists.{no_some, all_there, all_contained, all_passing, length_filtered, contains_filtered}
 
 -- what passes is an element, and passes
 from_filtered : {A : Type 0} (test : A → Bool) (xs : List A) (x : A) → Contains (filter test xs) x → Contains xs x × (test x ≡ true)

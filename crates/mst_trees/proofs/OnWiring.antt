@@ -24,21 +24,23 @@ use Rattle.mst_net.specs.tables.Seen.{bridge_row}
 use Rattle.mst_lag.specs.Trees.{is_among}
 use Rattle.mst_lag.specs.Viewed.{Viewed, named_port}
 use Rattle.mst_lag.specs.declared.in_view.PortInView.{PortInView}
-use Rattle.mst_trees.specs.Apart.{Apart}
-use Rattle.mst_trees.specs.Agrees.{AreOf, KnownInternal}
-use Rattle.mst_trees.specs.Cist.{cist_sight}
-use Rattle.mst_trees.specs.Msti.{msti_bridge, msti_port, is_internal, msti_sight}
-use Rattle.mst_trees.specs.Numbered.{BridgesDiffer, PortsDiffer, CanSettle, IsSettledBy, topology_by_number}
-use Rattle.mst_trees.specs.Seen.{seen_tree_port, cist_seen, trees_at, seen_msti_bridge, seen_msti_port, msti_seen}
+use Rattle.mst_forest.specs.Apart.{Apart}
+use Rattle.mst_forest.specs.Agrees.{AreOf}
+use Rattle.mst_trees.specs.Internal.{KnownInternal}
+use Rattle.mst_forest.specs.Cist.{cist_sight}
+use Rattle.mst_forest.specs.Msti.{msti_bridge, msti_port, is_internal, msti_sight}
+use Rattle.mst_forest.specs.Numbered.{BridgesDiffer, PortsDiffer, CanSettle, topology_by_number}
+use Rattle.mst_trees.specs.SettledBy.{IsSettledBy}
+use Rattle.mst_forest.specs.Seen.{seen_tree_port, cist_seen, trees_at, seen_msti_bridge, seen_msti_port, msti_seen}
 use Rattle.mst_trees.specs.Wirings.{HaveNumbers, AreOwn, base_port, cist_wires, cist_bridges_seen, msti_wires, msti_bridges_seen}
-use Rattle.mst_trees.proofs.Entries.{all_both}
-use Rattle.mst_trees.proofs.Lists.{there_first, there_later, all_contained, all_mapped, all_passing, apart_cases, apart_filtered, apart_mapped, apart_weaker, contains_mapped, contains_unmapped, kept_in, kept_from}
-use Rattle.mst_trees.proofs.Views.{port_names_differ}
-use Rattle.mst_trees.proofs.CistTopology.{given, cist_is_sight}
-use Rattle.mst_trees.proofs.MstiTopology.{msti_in_range, msti_is_sight}
-use Rattle.mst_trees.proofs.Seen.{SeenPort, PortsRise, ports_seen, ports_apart}
-use Rattle.mst_trees.proofs.Numbering.{can_settle}
-use Rattle.mst_trees.proofs.Looking.{cist_is_seen, msti_is_seen}
+use Rattle.mst_forest.proofs.Entries.{all_both}
+use Rattle.mst_forest.proofs.Lists.{there_first, there_later, all_contained, all_mapped, all_passing, apart_cases, apart_filtered, apart_mapped, apart_weaker, contains_mapped, contains_unmapped, kept_in, kept_from}
+use Rattle.mst_forest.proofs.Views.{port_names_differ}
+use Rattle.mst_forest.proofs.CistTopology.{given, cist_is_sight}
+use Rattle.mst_forest.proofs.MstiTopology.{msti_in_range, msti_is_sight}
+use Rattle.mst_forest.proofs.Seen.{SeenPort, PortsRise, ports_seen, ports_apart}
+use Rattle.mst_forest.proofs.Numbering.{can_settle}
+use Rattle.mst_forest.proofs.Looking.{cist_is_seen, msti_is_seen}
 
 -- ---- an entry that is looked up by its number
 looked_there : {A : Type 0} (n : ℕ) (es : List (ℕ × A)) → is_some (lookup (nat_eq n) es) ≡ true → (x : A) × Contains es (n, x)

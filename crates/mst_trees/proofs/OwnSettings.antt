@@ -16,13 +16,13 @@ use Rattle.mst_net.proofs.tables_lemmas.TreesListed.{all_listed, priority_told, 
 use Rattle.mst_lag.specs.Trees.{is_among}
 use Rattle.mst_lag.specs.Viewed.{Viewed, named_port}
 use Rattle.mst_lag.specs.declared.in_view.PortInView.{PortInView}
-use Rattle.mst_trees.specs.Agrees.{KnownInternal}
-use Rattle.mst_trees.specs.Apart.{Apart}
-use Rattle.mst_trees.specs.Msti.{msti_port}
+use Rattle.mst_trees.specs.Internal.{KnownInternal}
+use Rattle.mst_forest.specs.Apart.{Apart}
+use Rattle.mst_forest.specs.Msti.{msti_port}
 use Rattle.mst_trees.specs.Own.{is_set, noted_at, IsNoted}
 use Rattle.mst_trees.specs.Wirings.{AreOwn, HaveNumbers, own_in, base_settings, base_port, msti_wires}
-use Rattle.mst_trees.proofs.Entries.{all_weaker, all_both}
-use Rattle.mst_trees.proofs.Lists.{apart_unmapped}
+use Rattle.mst_forest.proofs.Entries.{all_weaker, all_both}
+use Rattle.mst_forest.proofs.Lists.{apart_unmapped}
 
 -- ---- the trees that pass a test
 among_kept : (kept first passes x y : Bool) → (first ≡ true → passes ≡ kept) → x ≡ (y && passes) → cond kept (first || x) x ≡ ((first || y) && passes)

@@ -14,20 +14,20 @@ use Rattle.mst_outcome.specs.Assignment.{Assignment, vector_of, designated_of, I
 use Rattle.mst_net.specs.tables.Tables.{Net, Numbers}
 use Rattle.mst_lag.specs.Viewed.{Viewed}
 use Rattle.mst_lag.specs.declared.in_view.PortInView.{PortInView}
-use Rattle.mst_trees.specs.Cist.{cist_sight, cist_of}
-use Rattle.mst_trees.specs.Msti.{msti_sight, msti_of}
-use Rattle.mst_trees.specs.Outcome.{Outcome, IsOutcome, trees_of}
+use Rattle.mst_forest.specs.Cist.{cist_sight, cist_of}
+use Rattle.mst_forest.specs.Msti.{msti_sight, msti_of}
+use Rattle.mst_forest.specs.Outcome.{Outcome, IsOutcome, trees_of}
 use Rattle.mst_nested.specs.Trees.{IsTree, IsSettled}
-use Rattle.mst_trees.specs.Seen.{cist_seen, internal_seen, msti_seen}
-use Rattle.mst_trees.specs.Agrees.{AreOf, internal_ports_of}
+use Rattle.mst_forest.specs.Seen.{cist_seen, internal_seen, msti_seen}
+use Rattle.mst_forest.specs.Agrees.{AreOf, internal_ports_of}
 use Rattle.mst_trees.specs.Mstis.{AreOutcomes}
-use Rattle.mst_trees.specs.Forest.{trees_seen, Forest}
-use Rattle.mst_trees.proofs.Lists.{no_some}
-use Rattle.mst_trees.proofs.CistTopology.{cist_is_sight}
-use Rattle.mst_trees.proofs.MstiTopology.{msti_is_sight}
-use Rattle.mst_trees.proofs.Numbering.{numbering, tree_renamed}
+use Rattle.mst_forest.specs.Forest.{trees_seen, Forest}
+use Rattle.mst_forest.proofs.Lists.{no_some}
+use Rattle.mst_forest.proofs.CistTopology.{cist_is_sight}
+use Rattle.mst_forest.proofs.MstiTopology.{msti_is_sight}
+use Rattle.mst_forest.proofs.Numbering.{numbering, tree_renamed}
 use Rattle.mst_trees.proofs.Agreeing.{RenamedVectors, RenamedPorts}
-use Rattle.mst_trees.proofs.Looking.{cist_is_seen, msti_is_seen}
+use Rattle.mst_forest.proofs.Looking.{cist_is_seen, msti_is_seen}
 use Rattle.mst_trees.proofs.Growing.{internal_agrees, no_bridge}
 use Rattle.mst_trees.proofs.Carried.{AreRenamed, nested_renamed}
 

@@ -10,15 +10,15 @@ use Rattle.mst_lag.specs.Trees.{is_among}
 use Rattle.mst_lag.specs.Viewed.{Viewed}
 use Rattle.mst_lag.specs.declared.in_view.BridgeInView.{BridgeInView}
 use Rattle.mst_lag.specs.declared.in_view.PortInView.{PortInView}
-use Rattle.mst_trees.specs.Agrees.{AreOf}
-use Rattle.mst_trees.specs.Forest.{SettlesNoUnused}
-use Rattle.mst_trees.specs.InUse.{is_in_use}
+use Rattle.mst_forest.specs.Agrees.{AreOf}
+use Rattle.mst_trees.specs.Bound.{SettlesNoUnused}
+use Rattle.mst_forest.specs.InUse.{is_in_use}
 use Rattle.mst_trees.specs.Mstis.{AreOutcomes}
-use Rattle.mst_trees.specs.Msti.{has_msti}
-use Rattle.mst_trees.specs.Seen.{trees_at}
-use Rattle.mst_trees.proofs.Entries.{all_weaker}
-use Rattle.mst_trees.proofs.Looking.{has_tree_at}
-use Rattle.mst_trees.proofs.Seen.{SeenBridge, bridges_seen}
+use Rattle.mst_forest.specs.Msti.{has_msti}
+use Rattle.mst_forest.specs.Seen.{trees_at}
+use Rattle.mst_forest.proofs.Entries.{all_weaker}
+use Rattle.mst_forest.proofs.Looking.{has_tree_at}
+use Rattle.mst_forest.proofs.Seen.{SeenBridge, bridges_seen}
 
 none_any : {A : Type 0} (test : A → Bool) (xs : List A) → AllByRecursion (λ x. test x ≡ false) xs → list_any test xs ≡ false
 none_any test [] h = refl

@@ -1,7 +1,12 @@
 -- How often bridges of a tree were settled, by how many changed.
-use Rattle.std.specs.Prelude.{◌≡◌, ◌≢◌, ◌↔◌, ℕ, ◌*◌, ◌≤◌, List, length, Option, None}
+use Rattle.std.specs.Prelude.{◌≡◌, ◌≢◌, ◌↔◌, ℕ, ◌*◌, ◌≤◌, List, length, Option, None, false}
 use Rattle.std.specs.List.{Contains}
 use Rattle.std.specs.List.Sorted.{IsStrictlyIncreasing}
+use Rattle.mst_outcome.specs.Assignment.{vector_of}
+use Rattle.mst_topology.specs.Repair.{CountsVectors}
+use Rattle.mst_tables.specs.Tables.{Net}
+use Rattle.mst_forest.specs.Msti.{has_msti}
+use Rattle.mst_forest.specs.Forest.{Forest, msti_settlings, msti_vector}
 
 -- how often bridges of one tree were settled, where its vectors were `before` and are `after`: as often at least
 -- as there are bridges whose vector differs and that have one afterwards, and at most twice as often as there are
@@ -16,3 +21,18 @@ pub record KeepsBound {V : Type 0} (before after : ℕ → Option V) (settlings 
   pub at_least : length settled ≤ settlings
   pub at_most : settlings ≤ 2 * length changed
   pub from_nothing : ((n : ℕ) → before n ≡ None) → settlings ≤ length changed
+
+-- in an MSTI that no bridge of the network has no bridge was settled
+abbrev pub SettlesNoUnused : Net → (settlings : ℕ → ℕ) → Type 0
+SettlesNoUnused net settlings = (tree : ℕ) → ((name : List ℕ) → has_msti net tree name ≡ false) → settlings tree ≡ 0
+
+-- each bridge was settled once in each tree that it is in
+pub record IsSettledOnce (f : Forest) : Type 0 where
+  pub cist : CountsVectors (vector_of f.cist) f.cist.settlings
+  pub mstis : (tree : ℕ) → CountsVectors (msti_vector f tree) (msti_settlings f tree)
+
+-- in each tree bridges were settled within the bound, from the vectors of the old forest. A tree that a forest
+-- doesn't have has no vectors and no settlings in it
+pub record KeepsBounds (old new : Forest) : Type 0 where
+  pub cist : KeepsBound (vector_of old.cist) (vector_of new.cist) new.cist.settlings
+  pub mstis : (tree : ℕ) → KeepsBound (msti_vector old tree) (msti_vector new tree) (msti_settlings new tree)

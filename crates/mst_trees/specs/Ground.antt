@@ -6,7 +6,7 @@ use Rattle.mst_topology.specs.Topology.{TreePort}
 use Rattle.mst_settle.specs.Differences.{Wirings}
 use Rattle.mst_lag.specs.Viewed.{Viewed}
 use Rattle.mst_lag.specs.declared.in_view.PortInView.{PortInView}
-use Rattle.mst_trees.specs.Agrees.{KnownInternal}
+use Rattle.mst_trees.specs.Internal.{KnownInternal}
 use Rattle.mst_trees.specs.Wirings.{AreOwn, own_in, msti_wires}
 
 -- its view, the internal ports of that, and the wiring of the MSTIs before

@@ -7,7 +7,7 @@ use Rattle.mst_topology.specs.Places.{in_map}
 use Rattle.mst_net.specs.tables.ByTree.{ByTree, port_priority_in, port_cost_in}
 use Rattle.mst_lag.specs.Viewed.{Viewed, named_port}
 use Rattle.mst_lag.specs.declared.in_view.PortInView.{PortInView}
-use Rattle.mst_trees.specs.Msti.{msti_port}
+use Rattle.mst_forest.specs.Msti.{msti_port}
 use Rattle.mst_trees.specs.Wirings.{own_in}
 
 -- something is set for the port in the tree: a priority other than 8, or a cost

@@ -14,9 +14,9 @@ use Rattle.mst_topology.specs.Topology.{TreePort}
 use Rattle.mst_topology.specs.Wiring.{settings_in}
 use Rattle.mst_lag.specs.Viewed.{Viewed, named_port}
 use Rattle.mst_lag.specs.declared.in_view.PortInView.{PortInView}
-use Rattle.mst_trees.specs.Apart.{Apart}
-use Rattle.mst_trees.specs.Msti.{msti_port}
-use Rattle.mst_trees.specs.Seen.{seen_tree_port, seen_cist_bridge, seen_cist_port, seen_msti_bridge}
+use Rattle.mst_forest.specs.Apart.{Apart}
+use Rattle.mst_forest.specs.Msti.{msti_port}
+use Rattle.mst_forest.specs.Seen.{seen_tree_port, seen_cist_bridge, seen_cist_port, seen_msti_bridge}
 
 -- no two ports have one number
 abbrev pub HaveNumbers : {P : Type 0} → List (TreePort ℕ ℕ ℕ P) → Type 0

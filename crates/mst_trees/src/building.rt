@@ -1,5 +1,5 @@
 ghost use Rattle.std.specs.Prelude.{◌≡◌, ◌≢◌, IfOk};
-ghost use Rattle.mst_trees.specs.Apart.{Apart};
+ghost use Rattle.mst_forest.specs.Apart.{Apart};
 ghost use Rattle.mst_trees.specs.Wirings.{HaveNumbers};
 
 use mst_ids::BridgeNo;

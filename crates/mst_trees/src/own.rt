@@ -1,11 +1,11 @@
 ghost use Rattle.std.specs.Prelude.{ℕ, ◌==◌, IfOk, OnOk};
 ghost use Rattle.mst_net.specs.tables.ByTree.{AreInTrees};
 ghost use Rattle.mst_lag.specs.Trees.{is_among};
-ghost use Rattle.mst_trees.specs.Agrees.{KnownInternal};
+ghost use Rattle.mst_trees.specs.Internal.{KnownInternal};
 ghost use Rattle.mst_trees.specs.Own.{is_set, IsNoted};
 ghost use Rattle.mst_trees.specs.Wirings.{HaveNumbers, AreOwn, own_in, msti_wires};
 
-use crate::settings::msti_port;
+use mst_forest::msti_port;
 use indexmap::IndexMap;
 use mst_ids::Tree;
 use mst_lag::{PortInView, View};

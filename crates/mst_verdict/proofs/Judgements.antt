@@ -30,10 +30,10 @@ use Rattle.mst_policy.specs.declared.expectation.Promise.{Promise}
 use Rattle.mst_policy.specs.declared.item.NameItem.TheVariants.{Is}
 use Rattle.mst_policy.specs.declared.policy.PolicyLine.{PolicyLine}
 use Rattle.mst_sweeping.specs.sweep.vlan.classes.Classes.{AreClasses}
-use Rattle.mst_sweeping.specs.plan.trees.Forest.{Forest}
-use Rattle.mst_sweeping.specs.plan.trees.Outcome.{Outcome, IsOutcome}
-use Rattle.mst_sweeping.specs.plan.trees.Settled.{SettledNet, settled_net}
-use Rattle.mst_sweeping.proofs.plan_lemmas.trees_lemmas.Lists.{mapped_twice}
+use Rattle.mst_forest.specs.Forest.{Forest}
+use Rattle.mst_forest.specs.Outcome.{Outcome, IsOutcome}
+use Rattle.mst_forest.specs.Settled.{SettledNet, settled_net}
+use Rattle.mst_forest.proofs.Lists.{mapped_twice}
 use Rattle.mst_sweeping.specs.sweep.Failures.{edit_of}
 use Rattle.mst_sweeping.specs.sweep.Left.{AreLeft}
 use Rattle.mst_sweeping.specs.sweep.Pairs.{failed}
@@ -57,7 +57,7 @@ use Rattle.mst_verdict.specs.declared.judging.Judging.{Judging}
 use Rattle.mst_sweeping.specs.sweep.vlan.Carried.{ViewWithTrees}
 use Rattle.mst_sweeping.specs.plan.Plan.{IsPlan}
 use Rattle.mst_sweeping.specs.plan.declared.plan.Plan.{Plan}
-use Rattle.mst_sweeping.proofs.plan_lemmas.trees_lemmas.SettledNet.{is_settled_net}
+use Rattle.mst_forest.proofs.SettledNet.{is_settled_net}
 use Rattle.mst_sweeping.proofs.SweepThere.{all_joined}
 
 -- ---- lists

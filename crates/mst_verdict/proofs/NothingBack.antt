@@ -3,7 +3,7 @@ use Rattle.std.proofs.Common.{◌≡◌, true, true≢false, List, [], None, sym
 use Rattle.mst_policy.specs.declared.expectation.Expectation.{Expectation}
 use Rattle.mst_policy.specs.declared.expectation.Expectation.TheVariants as expect
 use Rattle.mst_net.specs.tables.Tables.{Net}
-use Rattle.mst_sweeping.specs.plan.trees.Outcome.{Outcome}
+use Rattle.mst_forest.specs.Outcome.{Outcome}
 use Rattle.mst_verify.specs.tree_judges.judged.reasons.Judged.{looks_back}
 use Rattle.mst_verify.specs.tree_judges.judged.reasons.Reasons.{AreReasons}
 use Rattle.mst_verify.specs.tree_judges.judged.reasons.declared.reason.Reason.{Reason}

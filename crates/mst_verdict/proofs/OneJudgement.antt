@@ -5,7 +5,7 @@ use Rattle.std.specs.List.{AllZip}
 use Rattle.mst_net.specs.tables.Tables.{Net}
 use Rattle.mst_policy.specs.declared.policy.PolicyLine.{PolicyLine}
 use Rattle.mst_rows.specs.Rows.{Row}
-use Rattle.mst_sweeping.specs.plan.trees.Outcome.{Outcome, IsOutcome}
+use Rattle.mst_forest.specs.Outcome.{Outcome, IsOutcome}
 use Rattle.mst_verify.specs.tree_judges.judged.reasons.Named.{OfNetwork, Prior}
 use Rattle.mst_telling.specs.Told.{AreLinesTold, IsLineTold, IsToldThere, IsToldWhereUnkept, is_judged_at}
 use Rattle.mst_verdict.proofs.OneTold.{zip_same, zip_some}

@@ -8,7 +8,7 @@ use Rattle.mst_policy.specs.declared.policy.PolicyLine.{PolicyLine}
 use Rattle.mst_rows.specs.Rows.{Row}
 use Rattle.mst_net.specs.tables.After.{after}
 use Rattle.mst_net.specs.tables.Tables.{Net, IsNetwork}
-use Rattle.mst_sweeping.specs.plan.trees.Outcome.{Outcome, IsOutcome}
+use Rattle.mst_forest.specs.Outcome.{Outcome, IsOutcome}
 use Rattle.mst_sweeping.specs.sweep.Failures.{edit_of, failures}
 use Rattle.mst_sweeping.specs.sweep.declared.failure.Failure.{Failure}
 use Rattle.mst_verify.specs.tree_judges.judged.reasons.Judged.{gone_of, places}

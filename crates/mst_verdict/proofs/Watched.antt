@@ -5,8 +5,8 @@ use Rattle.std.proofs.lemmas.Bool.{eqb-true, eq-eqb}
 use Rattle.mst_net.specs.tables.Tables.{Net}
 use Rattle.mst_policy.specs.declared.policy.PolicyLine.{PolicyLine}
 use Rattle.mst_sweeping.specs.sweep.vlan.Carried.{ViewWithTrees}
-use Rattle.mst_sweeping.specs.plan.trees.Outcome.{IsOutcome, Outcome}
-use Rattle.mst_sweeping.specs.plan.trees.Settled.{outcome_of}
+use Rattle.mst_forest.specs.Outcome.{IsOutcome, Outcome}
+use Rattle.mst_forest.specs.Settled.{outcome_of}
 use Rattle.mst_verify.specs.tree_judges.judged.reasons.Named.{Prior}
 use Rattle.mst_telling.specs.Judged.{told_in}
 use Rattle.mst_telling.specs.declared.judgement.Judgement.{Judgement}

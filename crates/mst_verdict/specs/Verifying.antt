@@ -10,8 +10,8 @@ use Rattle.mst_rows.specs.Rows.{Row}
 use Rattle.mst_policy.specs.declared.expectation.Expectation.{Expectation}
 use Rattle.mst_policy.specs.declared.expectation.Promise.{Promise}
 use Rattle.mst_policy.specs.declared.policy.PolicyLine.{PolicyLine}
-use Rattle.mst_sweeping.specs.plan.trees.Outcome.{Outcome, IsOutcome}
-use Rattle.mst_sweeping.specs.plan.trees.Settled.{SettledNet, outcome_of}
+use Rattle.mst_forest.specs.Outcome.{Outcome, IsOutcome}
+use Rattle.mst_forest.specs.Settled.{SettledNet, outcome_of}
 use Rattle.mst_sweeping.specs.sweep.vlan.classes.Classes.{AreClasses}
 use Rattle.mst_sweeping.specs.sweep.declared.failure.Failure.{Failure}
 use Rattle.mst_verify.specs.tree_judges.judged.Islands.{HasIslandsOf, IsOneOf}

@@ -3,14 +3,14 @@ ghost use Rattle.std.specs.Prelude.{◌≡◌, List, Bool};
 ghost use Rattle.mst_policy.specs.declared.policy.PolicyLine.{PolicyLine as LineOf};
 ghost use Rattle.mst_rows.specs.Rows.{Row};
 ghost use Rattle.mst_net.specs.tables.Tables.{Net, IsNetwork};
-ghost use Rattle.mst_sweeping.specs.plan.trees.Outcome.{Outcome, IsOutcome};
+ghost use Rattle.mst_forest.specs.Outcome.{Outcome, IsOutcome};
 ghost use Rattle.mst_verify.specs.tree_judges.judged.reasons.Named.{OfNetwork, Prior, Prior as PriorOf};
 ghost use Rattle.mst_telling.specs.Told.{IsLineTold, IsToldWhereUnkept};
 ghost use Rattle.mst_telling.specs.Verified.{Counts as PolicyCounts, IsToldWhereBroken, IsVerdict, IsVerified};
 ghost use Rattle.mst_verdict.specs.Verifying.{IsPriorNetwork, Judges, Verifies};
 
 use mst_net::laws::networks;
-use mst_sweeping::trees_laws::{has_outcome, one_outcome};
+use mst_forest::laws::{has_outcome, one_outcome};
 use mst_verify::laws::{reason_lists, told_where_broken};
 
 /// A line has one list of rows in a network, by what is before that, whichever settled outcome it is judged by.

@@ -13,7 +13,7 @@ use Rattle.mst_net.specs.tables.Tables.{Net, IsNetwork}
 use Rattle.mst_config.specs.Regions.{same_region}
 use Rattle.mst_graph.specs.Lists.{has_any}
 use Rattle.mst_nested.specs.Trees.{IsSettled}
-use Rattle.mst_island_judges.specs.judged.reasons.sweep.vlan.trees.Outcome.{Outcome, trees_of}
+use Rattle.mst_forest.specs.Outcome.{Outcome, trees_of}
 use Rattle.mst_island_judges.specs.judged.reasons.sweep.vlan.Reach.{bridges_on}
 use Rattle.mst_island_judges.specs.judged.reasons.note_text.Children.{HasSteps}
 use Rattle.mst_island_judges.specs.judged.reasons.note_text.Depths.{ParentIn}

@@ -13,10 +13,10 @@ use Rattle.mst_island_judges.proofs.judged_lemmas.reasons_lemmas.note_text_lemma
 use Rattle.mst_island_judges.proofs.judged_lemmas.reasons_lemmas.note_text_lemmas.Tops.{external_depth, internal_depth}
 use Rattle.mst_net.specs.tables.Tables.{Net, IsNetwork}
 use Rattle.mst_nested.specs.Trees.{HasTree, IsSettled, Trees}
-use Rattle.mst_island_judges.specs.judged.reasons.sweep.vlan.trees.Outcome.{Outcome, trees_of}
+use Rattle.mst_forest.specs.Outcome.{Outcome, trees_of}
 use Rattle.mst_vector.specs.declared.cist.CistVector.{CistVector}
 use Rattle.mst_vector.specs.declared.msti.MstiVector.{MstiVector}
-use Rattle.mst_island_judges.proofs.judged_lemmas.reasons_lemmas.sweep_lemmas.vlan_lemmas.trees_lemmas.Lists.{no_some}
+use Rattle.mst_forest.proofs.Lists.{no_some}
 use Rattle.mst_island_judges.proofs.judged_lemmas.reasons_lemmas.sweep_lemmas.vlan_lemmas.Names.{tests}
 use Rattle.mst_tree_judges.proofs.Keys.{tree_there}
 

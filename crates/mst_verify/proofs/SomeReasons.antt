@@ -21,7 +21,7 @@ use Rattle.mst_rows.specs.Rows.{Row}
 use Rattle.mst_net.specs.tables.Tables.{Net, IsNetwork}
 use Rattle.mst_config.specs.Regions.{same_region}
 use Rattle.mst_nested.specs.Trees.{IsSettled}
-use Rattle.mst_island_judges.specs.judged.reasons.sweep.vlan.trees.Outcome.{Outcome, trees_of}
+use Rattle.mst_forest.specs.Outcome.{Outcome, trees_of}
 use Rattle.mst_island_judges.specs.judged.reasons.sweep.vlan.Reach.{AreIslandsOf, bridges_on, vid_links}
 use Rattle.mst_island_judges.specs.judged.reasons.sweep.Parts.{home}
 use Rattle.mst_island_judges.proofs.judged_lemmas.reasons_lemmas.sweep_lemmas.Joined.{has_home, home_joined, home_on, joined_home}

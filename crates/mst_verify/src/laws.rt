@@ -6,7 +6,7 @@ ghost use Rattle.mst_policy.specs.declared.expectation.Promise.{Promise as Promi
 ghost use Rattle.mst_policy.specs.declared.item.NameItem.{NameItem as ItemOf};
 ghost use Rattle.mst_rows.specs.Rows.{Row};
 ghost use Rattle.mst_net.specs.tables.Tables.{Net, IsNetwork};
-ghost use Rattle.mst_island_judges.specs.judged.reasons.sweep.vlan.trees.Outcome.{Outcome, IsOutcome};
+ghost use Rattle.mst_forest.specs.Outcome.{Outcome, IsOutcome};
 ghost use Rattle.mst_island_judges.specs.judged.reasons.sweep.Cuts.{AreCuts};
 ghost use Rattle.mst_island_judges.specs.judged.reasons.sweep.Failures.{failures};
 ghost use Rattle.mst_island_judges.specs.judged.reasons.sweep.SweepText.{Told, IsTold};
@@ -21,7 +21,7 @@ ghost use Rattle.mst_verify.specs.Whole.{AreAllVids, Fails, IsWhole, NoneIsCut, 
 ghost use Rattle.mst_island_judges.specs.judged.reasons.declared.reason.Reason.{Reason as ReasonOf};
 
 use mst_island_judges::note_text_laws::notes;
-use mst_island_judges::trees_laws::{has_outcome, nested, one_outcome};
+use mst_forest::laws::{has_outcome, nested, one_outcome};
 use mst_island_judges::vlan_laws::{islands_of_vid, joined_without_loop};
 use mst_net::laws::networks;
 

@@ -24,18 +24,18 @@ use Rattle.mst_tables.specs.ByTree.{by_tree}
 use Rattle.mst_lag.specs.View.{LogicalPort, view_ports}
 use Rattle.mst_trees.specs.config.Regions.{same_region, region_of}
 use Rattle.mst_trees.proofs.config_lemmas.SameRegion.{told}
-use Rattle.mst_trees.specs.Sight.{tree_port}
-use Rattle.mst_trees.specs.Cist.{cist_bridge, cist_port, cist_sight, cist_of}
-use Rattle.mst_trees.specs.Msti.{msti_bridge, msti_sight, has_msti}
-use Rattle.mst_trees.specs.Outcome.{Outcome, trees_of}
-use Rattle.mst_trees.proofs.CistTopology.{given, cist_is_sight}
-use Rattle.mst_trees.proofs.MstiTopology.{msti_is_sight}
-use Rattle.mst_trees.proofs.Lists.{apart_cases}
-use Rattle.mst_trees.proofs.Sights.{bridge_from, bridge_in, port_from}
-use Rattle.mst_trees.proofs.Views.{ports_rise, port_names_differ}
-use Rattle.mst_trees.specs.Roles.{cist_role, msti_role, role_in, forwards, tree_of_vid, forwards_for}
-use Rattle.mst_trees.specs.declared.kind.Role.{Role}
-use Rattle.mst_trees.specs.declared.kind.Role.TheVariants.{Disabled}
+use Rattle.mst_forest.specs.Sight.{tree_port}
+use Rattle.mst_forest.specs.Cist.{cist_bridge, cist_port, cist_sight, cist_of}
+use Rattle.mst_forest.specs.Msti.{msti_bridge, msti_sight, has_msti}
+use Rattle.mst_forest.specs.Outcome.{Outcome, trees_of}
+use Rattle.mst_forest.proofs.CistTopology.{given, cist_is_sight}
+use Rattle.mst_forest.proofs.MstiTopology.{msti_is_sight}
+use Rattle.mst_forest.proofs.Lists.{apart_cases}
+use Rattle.mst_forest.proofs.Sights.{bridge_from, bridge_in, port_from}
+use Rattle.mst_forest.proofs.Views.{ports_rise, port_names_differ}
+use Rattle.mst_forest.specs.Roles.{cist_role, msti_role, role_in, forwards, tree_of_vid, forwards_for}
+use Rattle.mst_forest.specs.declared.kind.Role.{Role}
+use Rattle.mst_forest.specs.declared.kind.Role.TheVariants.{Disabled}
 use Rattle.mst_vlan.specs.Active.{active_ports, port_ends, JoinWithoutLoop}
 use Rattle.mst_vlan.proofs.Carried.{HasEnds, carried}
 use Rattle.mst_vlan.proofs.Names.{tests}

@@ -12,14 +12,14 @@ use Rattle.mst_trees.specs.nested.Trees.{IsSettled, SamePart, HasTree}
 use Rattle.mst_tables.specs.Tables.{Net, IsNetwork}
 use Rattle.mst_tables.specs.ByTree.{by_tree}
 use Rattle.mst_lag.specs.View.{LogicalPort, view_ports}
-use Rattle.mst_trees.specs.Msti.{msti_bridge, has_msti, msti_sight}
-use Rattle.mst_trees.specs.Outcome.{Outcome, trees_of}
-use Rattle.mst_trees.proofs.Lists.{no_some, all_contained}
-use Rattle.mst_trees.proofs.MstiTopology.{msti_is_sight}
-use Rattle.mst_trees.proofs.Sights.{bridge_in}
-use Rattle.mst_trees.proofs.Views.{IsPort, ports_are, row_on}
-use Rattle.mst_trees.specs.Roles.{cist_role, msti_role, role_in, forwards}
-use Rattle.mst_trees.specs.declared.kind.Role.{Role}
+use Rattle.mst_forest.specs.Msti.{msti_bridge, has_msti, msti_sight}
+use Rattle.mst_forest.specs.Outcome.{Outcome, trees_of}
+use Rattle.mst_forest.proofs.Lists.{no_some, all_contained}
+use Rattle.mst_forest.proofs.MstiTopology.{msti_is_sight}
+use Rattle.mst_forest.proofs.Sights.{bridge_in}
+use Rattle.mst_forest.proofs.Views.{IsPort, ports_are, row_on}
+use Rattle.mst_forest.specs.Roles.{cist_role, msti_role, role_in, forwards}
+use Rattle.mst_forest.specs.declared.kind.Role.{Role}
 use Rattle.mst_vlan.specs.Active.{IsEnabled}
 use Rattle.mst_vlan.proofs.ActiveLaw.{Forwarding, not_zero}
 use Rattle.mst_vlan.proofs.Plugs.{plug, enabled_plug}

@@ -1,5 +1,4 @@
 pub use Rattle.mst_classes.proofs as classes_lemmas
-pub use Rattle.mst_trees.proofs as trees_lemmas
 pub mod Names
 pub mod Carried
 pub mod Plugs

@@ -14,14 +14,14 @@ use Rattle.mst_lag.specs.View.{LogicalPort, view_ports}
 use Rattle.mst_lag.specs.Viewed.{Viewed}
 use Rattle.mst_lag.specs.declared.in_view.BridgeInView.{BridgeInView}
 use Rattle.mst_lag.specs.declared.in_view.PortInView.{PortInView}
-use Rattle.mst_trees.specs.Agrees.{AreOf}
-use Rattle.mst_trees.specs.Outcome.{Outcome}
-use Rattle.mst_trees.specs.Forest.{Forest}
-use Rattle.mst_trees.proofs.Entries.{all_weaker}
-use Rattle.mst_trees.proofs.Lists.{all_contained, all_there}
-use Rattle.mst_trees.proofs.Looking.{filter_alike}
-use Rattle.mst_trees.proofs.Seen.{bridge_there, port_there}
-use Rattle.mst_trees.specs.Roles.{role_in, forwards, tree_of_vid, forwards_for}
+use Rattle.mst_forest.specs.Agrees.{AreOf}
+use Rattle.mst_forest.specs.Outcome.{Outcome}
+use Rattle.mst_forest.specs.Forest.{Forest}
+use Rattle.mst_forest.proofs.Entries.{all_weaker}
+use Rattle.mst_forest.proofs.Lists.{all_contained, all_there}
+use Rattle.mst_forest.proofs.Looking.{filter_alike}
+use Rattle.mst_forest.proofs.Seen.{bridge_there, port_there}
+use Rattle.mst_forest.specs.Roles.{role_in, forwards, tree_of_vid, forwards_for}
 use Rattle.mst_classes.specs.Alike.{AreAlike}
 use Rattle.mst_vlan.specs.Active.{active_ports}
 use Rattle.mst_vlan.specs.Reach.{is_member, link_of, vid_links}

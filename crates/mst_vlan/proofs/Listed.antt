@@ -18,17 +18,17 @@ use Rattle.mst_lag.specs.Viewed.{Viewed, named_bridge, named_port, named_lan}
 use Rattle.mst_lag.specs.declared.in_view.BridgeInView.{BridgeInView}
 use Rattle.mst_lag.specs.declared.in_view.PortInView.{PortInView}
 use Rattle.mst_lag.specs.declared.in_view.LanInView.{LanInView}
-use Rattle.mst_trees.specs.Agrees.{AreOf}
-use Rattle.mst_trees.specs.Forest.{IsForest, Forest}
-use Rattle.mst_trees.specs.Seen.{trees_at}
-use Rattle.mst_trees.proofs.Entries.{all_weaker}
-use Rattle.mst_trees.proofs.Lists.{all_contained, filter_mapped}
-use Rattle.mst_trees.proofs.Looking.{filter_alike}
-use Rattle.mst_trees.proofs.Seen.{SeenPort, bridge_seen, ports_seen, port_seen, port_of_net}
-use Rattle.mst_trees.specs.Roles.{forwards, forwards_for}
-use Rattle.mst_trees.specs.SeenRoles.{seen_cist_role, seen_msti_role, seen_tree, seen_forwards}
-use Rattle.mst_trees.specs.declared.kind.Role.TheVariants.{Disabled}
-use Rattle.mst_trees.proofs.Forwarded.{each_forwards}
+use Rattle.mst_forest.specs.Agrees.{AreOf}
+use Rattle.mst_forest.specs.Forest.{IsForest, Forest}
+use Rattle.mst_forest.specs.Seen.{trees_at}
+use Rattle.mst_forest.proofs.Entries.{all_weaker}
+use Rattle.mst_forest.proofs.Lists.{all_contained, filter_mapped}
+use Rattle.mst_forest.proofs.Looking.{filter_alike}
+use Rattle.mst_forest.proofs.Seen.{SeenPort, bridge_seen, ports_seen, port_seen, port_of_net}
+use Rattle.mst_forest.specs.Roles.{forwards, forwards_for}
+use Rattle.mst_forest.specs.SeenRoles.{seen_cist_role, seen_msti_role, seen_tree, seen_forwards}
+use Rattle.mst_forest.specs.declared.kind.Role.TheVariants.{Disabled}
+use Rattle.mst_forest.proofs.Forwarded.{each_forwards}
 use Rattle.mst_vlan.specs.Active.{active_ports}
 use Rattle.mst_vlan.specs.Reach.{bridges_on, lans_up, is_member, link_of, vid_links}
 use Rattle.mst_vlan.specs.Seen.{seen_bridges, seen_lans, seen_member, seen_active, seen_link, seen_links}

@@ -8,9 +8,9 @@ use Rattle.mst_lag.specs.View.{LogicalLan, view_lans}
 use Rattle.mst_lag.specs.Viewed.{Viewed, named_bridge, named_lan}
 use Rattle.mst_lag.specs.declared.in_view.BridgeInView.{BridgeInView}
 use Rattle.mst_lag.specs.declared.in_view.LanInView.{LanInView}
-use Rattle.mst_trees.specs.Agrees.{AreOf}
-use Rattle.mst_trees.specs.Forest.{Forest}
-use Rattle.mst_trees.proofs.Lists.{contains_unmapped}
+use Rattle.mst_forest.specs.Agrees.{AreOf}
+use Rattle.mst_forest.specs.Forest.{Forest}
+use Rattle.mst_forest.proofs.Lists.{contains_unmapped}
 use Rattle.mst_vlan.specs.Reach.{bridges_on, lans_up}
 use Rattle.mst_vlan.specs.Seen.{seen_bridge, seen_lan}
 use Rattle.mst_vlan.proofs.ByNumber.{named_at}

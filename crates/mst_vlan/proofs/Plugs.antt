@@ -9,10 +9,10 @@ use Rattle.mst_trees.specs.nested.Trees.{TakesPart}
 use Rattle.mst_tables.specs.Tables.{Net, IsNetwork}
 use Rattle.mst_tables.specs.ByTree.{by_tree}
 use Rattle.mst_lag.specs.View.{LogicalPort}
-use Rattle.mst_trees.specs.Sight.{tree_port}
-use Rattle.mst_trees.specs.Cist.{cist_port, cist_sight, cist_of}
-use Rattle.mst_trees.proofs.CistTopology.{cist_is_sight}
-use Rattle.mst_trees.proofs.Sights.{port_in}
+use Rattle.mst_forest.specs.Sight.{tree_port}
+use Rattle.mst_forest.specs.Cist.{cist_port, cist_sight, cist_of}
+use Rattle.mst_forest.proofs.CistTopology.{cist_is_sight}
+use Rattle.mst_forest.proofs.Sights.{port_in}
 use Rattle.mst_vlan.specs.Active.{IsEnabled}
 
 abbrev pub plug : Net → LogicalPort → TreePort (List ℕ) (List ℕ) PortName CistPort

@@ -9,10 +9,10 @@ use Rattle.mst_graph.proofs.Splits.{kept_each, map_of_map}
 use Rattle.mst_tables.specs.Tables.{Net, Numbers, IsNetwork}
 use Rattle.mst_lag.specs.View.{view_ports}
 use Rattle.mst_lag.specs.Viewed.{Viewed}
-use Rattle.mst_trees.specs.Outcome.{Outcome}
-use Rattle.mst_trees.specs.Agrees.{AreOf}
-use Rattle.mst_trees.specs.Forest.{IsForest, Forest}
-use Rattle.mst_trees.specs.Roles.{forwards_for}
+use Rattle.mst_forest.specs.Outcome.{Outcome}
+use Rattle.mst_forest.specs.Agrees.{AreOf}
+use Rattle.mst_forest.specs.Forest.{IsForest, Forest}
+use Rattle.mst_forest.specs.Roles.{forwards_for}
 use Rattle.mst_vlan.specs.Active.{active_ports}
 use Rattle.mst_vlan.specs.Reach.{bridges_on, lans_up, is_member, link_of, vid_links, AreReached}
 use Rattle.mst_vlan.specs.Seen.{seen_bridges, seen_lans, seen_links, as_island}

@@ -14,8 +14,8 @@ use Rattle.mst_tables.specs.After.{table_of}
 use Rattle.mst_tables.proofs.TableFits.{tree_in-no_table}
 use Rattle.mst_lag.specs.Trees.{mstis_of, is_among}
 use Rattle.mst_trees.specs.config.Regions.{same_region, same_configuration}
-use Rattle.mst_trees.specs.Msti.{has_msti}
-use Rattle.mst_trees.specs.Roles.{tree_of_vid}
+use Rattle.mst_forest.specs.Msti.{has_msti}
+use Rattle.mst_forest.specs.Roles.{tree_of_vid}
 
 or_right : (a b : Bool) → b ≡ true → (a || b) ≡ true
 or_right true b e = refl

@@ -5,8 +5,8 @@ use Rattle.mst_graph.specs.Walks.{Ends, Node, bridge_at, lan_at}
 use Rattle.mst_graph.specs.Joined.{IsJoined, HasNoLoop}
 use Rattle.mst_tables.specs.Tables.{Net}
 use Rattle.mst_lag.specs.View.{LogicalPort, view_ports}
-use Rattle.mst_trees.specs.Outcome.{Outcome}
-use Rattle.mst_trees.specs.Roles.{forwards_for}
+use Rattle.mst_forest.specs.Outcome.{Outcome}
+use Rattle.mst_forest.specs.Roles.{forwards_for}
 
 -- the active ports of a VID: the logical ports that forward in their own bridge's tree of it, by bridge and number.
 -- Which VLANs a port is a member of plays no part

@@ -3,10 +3,10 @@ use Rattle.std.specs.Prelude.{◌≡◌, ℕ, ◌+◌, ◌<◌, ◌&&◌, Bool, 
 use Rattle.mst_ids.specs.declared.name.PortName.{PortName}
 use Rattle.mst_lag.specs.Viewed.{Viewed}
 use Rattle.mst_lag.specs.declared.in_view.PortInView.{PortInView}
-use Rattle.mst_trees.specs.Forest.{Forest}
-use Rattle.mst_trees.specs.SeenRoles.{seen_forwards}
+use Rattle.mst_forest.specs.Forest.{Forest}
+use Rattle.mst_forest.specs.SeenRoles.{seen_forwards}
 use Rattle.mst_vlan.specs.Seen.{seen_member, seen_active}
-use Rattle.mst_trees.specs.Settled.{SettledNet}
+use Rattle.mst_forest.specs.Settled.{SettledNet}
 
 -- a view of a network with its trees
 pub record ViewWithTrees : Type 0 where

@@ -1,5 +1,4 @@
 pub use Rattle.mst_classes.specs as classes
-pub use Rattle.mst_trees.specs as trees
 pub mod Active
 pub mod Reach
 pub mod Seen

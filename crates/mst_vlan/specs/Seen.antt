@@ -8,8 +8,8 @@ use Rattle.mst_tables.specs.ByTree.{vlans_in}
 use Rattle.mst_tables.specs.Seen.{bridge_row}
 use Rattle.mst_lag.specs.Viewed.{Viewed}
 use Rattle.mst_lag.specs.declared.in_view.PortInView.{PortInView}
-use Rattle.mst_trees.specs.Forest.{Forest}
-use Rattle.mst_trees.specs.SeenRoles.{seen_forwards}
+use Rattle.mst_forest.specs.Forest.{Forest}
+use Rattle.mst_forest.specs.SeenRoles.{seen_forwards}
 use Rattle.mst_vlan.specs.declared.island.Island.{Island as IslandNos}
 
 -- the bridges that are on, and the logical LANs that are up

@@ -20,16 +20,16 @@ ghost use Rattle.mst_trees.specs.nested.Trees.{SamePart, SameRegion, HasTree};
 ghost use Rattle.mst_tables.specs.Tables.{Net, IsNetwork};
 ghost use Rattle.mst_tables.specs.ByTree.{by_tree};
 ghost use Rattle.mst_lag.specs.View.{LogicalPort, IsUnrestricted};
-ghost use Rattle.mst_trees.specs.Cist.{cist_of, cist_port};
-ghost use Rattle.mst_trees.specs.Sight.{tree_port};
-ghost use Rattle.mst_trees.specs.Outcome.{Outcome, IsOutcome, trees_of};
-ghost use Rattle.mst_trees.specs.Roles.{role_in, forwards};
-ghost use Rattle.mst_trees.specs.declared.kind.Role.{Role as RoleOf};
+ghost use Rattle.mst_forest.specs.Cist.{cist_of, cist_port};
+ghost use Rattle.mst_forest.specs.Sight.{tree_port};
+ghost use Rattle.mst_forest.specs.Outcome.{Outcome, IsOutcome, trees_of};
+ghost use Rattle.mst_forest.specs.Roles.{role_in, forwards};
+ghost use Rattle.mst_forest.specs.declared.kind.Role.{Role as RoleOf};
 ghost use Rattle.mst_vlan.specs.Active.{active_ports, port_ends, IsEnabled, JoinWithoutLoop};
 ghost use Rattle.mst_vlan.specs.Reach.{AreIslandsOf};
 
 use mst_ids::{Name, PortName};
-use mst_trees::laws::{forwarding, nested};
+use mst_forest::laws::{forwarding, nested};
 use mst_trees::nested_laws as laws;
 
 /// Where no logical port's role is restricted, the active ports of a VID join what is enabled and make no loop, whatever

@@ -2,9 +2,9 @@ ghost use Rattle.std.specs.Prelude.{◌≡◌, IfOk, map, filter};
 ghost use Rattle.mst_graph.specs.Islands.{AreIslands, HaveEnds};
 ghost use Rattle.mst_ids.specs.Vids.{has};
 ghost use Rattle.mst_tables.specs.Tables.{Net, Numbers};
-ghost use Rattle.mst_trees.specs.Agrees.{AreOf, Known};
-ghost use Rattle.mst_trees.specs.Forest.{IsForest};
-ghost use Rattle.mst_trees.specs.Settled.{outcome_of};
+ghost use Rattle.mst_forest.specs.Agrees.{AreOf, Known};
+ghost use Rattle.mst_forest.specs.Forest.{IsForest};
+ghost use Rattle.mst_forest.specs.Settled.{outcome_of};
 ghost use Rattle.mst_vlan.specs.Reach.{AreReached};
 ghost use Rattle.mst_vlan.specs.Seen.{seen_active, seen_bridges, seen_lans, seen_link, seen_member, seen_links, as_island};
 
@@ -13,7 +13,7 @@ use crate::topology::forwarding_ports;
 use mst_graph::{Link, islands};
 use mst_ids::{BridgeNo, LanNo, Vid};
 use mst_lag::{PortInView, View};
-use mst_trees::{Forest, Settled};
+use mst_forest::{Forest, Settled};
 use std::alloc::{AllocError, Global};
 
 /// The numbers of the bridges that are on. `AllocError`: memory was wanted and refused.

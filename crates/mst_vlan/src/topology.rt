@@ -3,15 +3,15 @@ ghost use Rattle.std.specs.FinMap as fin;
 ghost use Rattle.std.specs.Option.{ForSome};
 ghost use Rattle.mst_lag.specs.View.{IsUnrestricted};
 ghost use Rattle.mst_lag.specs.Viewed.{named_port};
-ghost use Rattle.mst_trees.specs.Settled.{outcome_of};
-ghost use Rattle.mst_trees.specs.SeenRoles.{seen_tree, seen_forwards};
+ghost use Rattle.mst_forest.specs.Settled.{outcome_of};
+ghost use Rattle.mst_forest.specs.SeenRoles.{seen_tree, seen_forwards};
 ghost use Rattle.mst_vlan.specs.Active.{active_ports as active_in, JoinWithoutLoop};
 ghost use Rattle.mst_vlan.specs.Seen.{seen_active};
 
 use crate::laws::joined_without_loop;
 use mst_ids::{BridgeNo, PortNo, Tree, Vid};
 use mst_lag::{PortInView, View};
-use mst_trees::{Forest, Settled, forwards_in, vid_tree};
+use mst_forest::{Forest, Settled, forwards_in, vid_tree};
 use std::alloc::{AllocError, Global};
 
 /// The active topology of a VID in a settled network: the logical ports that forward in their own bridge's tree of it, in

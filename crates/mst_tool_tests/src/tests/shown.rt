@@ -1,9 +1,8 @@
 //! How errors are displayed, exit statuses, and the laws.
 
 use super::counts;
-use mst_ask::{
-    engine_laws as laws, laws as standing, report_laws as answers, status, trees_laws as outcomes,
-};
+use mst_ask::{engine_laws as laws, laws as standing, report_laws as answers, status};
+use mst_forest::laws as outcomes;
 use mst_ids::BadText;
 use mst_io::RunFault;
 use mst_lang::Fault;

@@ -1,7 +1,7 @@
 use Rattle.std.proofs.Common.{subst}
 use Rattle.std.proofs.lemmas.Result.{IfOk-weaker}
 use Rattle.mst_tables.specs.Tables.{Net}
-use Rattle.mst_diff.specs.trees.Settled.{outcome_of}
+use Rattle.mst_forest.specs.Settled.{outcome_of}
 use Rattle.mst_between.specs.Differing.{Differs}
 use Rattle.mst_between.proofs.differing.put_difference.Goals as goal
 

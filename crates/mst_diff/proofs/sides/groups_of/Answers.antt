@@ -1,10 +1,10 @@
 use Rattle.std.proofs.Common.{List, ℕ, subst, ◌∙◌}
 use Rattle.std.proofs.lemmas.Result.{IfOk-weaker}
-use Rattle.mst_vlan.specs.trees.Agrees.{AreOf}
-use Rattle.mst_vlan.specs.trees.Forest.{IsForest}
-use Rattle.mst_vlan.specs.trees.Settled.{outcome_of}
+use Rattle.mst_forest.specs.Agrees.{AreOf}
+use Rattle.mst_forest.specs.Forest.{IsForest}
+use Rattle.mst_forest.specs.Settled.{outcome_of}
 use Rattle.mst_vlan.specs.Reach.{AreReached}
-use Rattle.mst_vlan.proofs.trees_lemmas.SettledNet.{forest_of}
+use Rattle.mst_forest.proofs.SettledNet.{forest_of}
 use Rattle.mst_tables.specs.Tables.{Net, Numbers}
 use Rattle.mst_vlan.specs.Carried.{ViewWithTrees}
 use Rattle.mst_diff.specs.Seen.{seen_groups}

@@ -1,7 +1,7 @@
 use Rattle.std.proofs.Common.{◌≡◌, ◌+◌, ◌<◌, ℕ, List, get_or, length, sym, ap, subst, ◌∙◌, arith, rules}
 use Rattle.std.proofs.lemmas.Grind.{common_steps}
 use Rattle.std.proofs.lemmas.Result.{IfOk-weaker}
-use Rattle.mst_judged.specs.reasons.sweep.facts.trees.Settled.{outcome_of}
+use Rattle.mst_forest.specs.Settled.{outcome_of}
 use Rattle.std.specs.Prelude.{MatchOption, ⊤}
 use Rattle.mst_judged.specs.reasons.sweep.Cuts.{names_of}
 use Rattle.mst_judged.specs.Islands.{AreReachParts, StillTells}

@@ -1,7 +1,7 @@
 use Rattle.std.proofs.Common.{Vec, Global, ◌+◌, ◌<◌, ◌≤◌, ℕ, List, [], ◌∷◌, length, map, take, sym, ap, subst, ◌∙◌, arith}
 use Rattle.std.proofs.lemmas.Grind.{common_steps}
 use Rattle.std.proofs.lemmas.List.{length-map, map-append}
-use Rattle.mst_judged.specs.reasons.sweep.facts.trees.Settled.{outcome_of}
+use Rattle.mst_forest.specs.Settled.{outcome_of}
 use Rattle.mst_judged.specs.reasons.sweep.Cuts.{names_of}
 use Rattle.mst_judged.specs.Islands.{AreOfClasses, AreReachParts}
 use Rattle.mst_judged.specs.reasons.Seen.{names_in}

@@ -1,6 +1,6 @@
 use Rattle.std.proofs.Common.{◌≡◌, length, map, take}
 use Rattle.mst_judged.specs.reasons.sweep.Cuts.{names_of}
-use Rattle.mst_judged.specs.reasons.sweep.facts.trees.Settled.{outcome_of}
+use Rattle.mst_forest.specs.Settled.{outcome_of}
 use Rattle.mst_judged.specs.reasons.Seen.{names_in}
 use Rattle.mst_judged.specs.Islands.{AreReachParts, AreOfClasses}
 use Rattle.mst_island_judges.proofs.reaching.bodies.Given as goal

@@ -2,7 +2,7 @@ use Rattle.std.proofs.Common.{Vec, Global, ◌≡◌, ◌+◌, ◌<◌, ℕ, Lis
 use Rattle.std.specs.Prelude.{MatchOption, ⊤}
 use Rattle.std.proofs.lemmas.Grind.{common_steps}
 use Rattle.mst_judged.specs.reasons.sweep.vlan.Carried.{ViewWithTrees}
-use Rattle.mst_judged.specs.reasons.sweep.facts.trees.Settled.{outcome_of}
+use Rattle.mst_forest.specs.Settled.{outcome_of}
 use Rattle.mst_judged.specs.reasons.sweep.Baseline.{AreHomes}
 use Rattle.mst_island_judges.specs.Compared.{HaveParts}
 use Rattle.mst_judged.specs.Islands.{kept_in}

@@ -1,6 +1,6 @@
 use Rattle.std.proofs.Common.{ℕ, List, ap, subst, sym, ◌∙◌, ◌++◌}
 use Rattle.mst_tables.specs.Tables.{Net}
-use Rattle.mst_advise.specs.explain.trees.Settled.{outcome_of}
+use Rattle.mst_forest.specs.Settled.{outcome_of}
 use Rattle.mst_picture.specs.VlanPicture.{IsVlanPicture}
 use Rattle.mst_questions.specs.Picturing.{DepictsVlan}
 use Rattle.mst_questions.proofs.picturing.vlan_picture_of.Goals as goal

@@ -6,7 +6,7 @@ use Rattle.std.proofs.lemmas.Result.{on_ok_weaker}
 use Rattle.std.specs.List.{filter_map}
 use Rattle.mst_lag.specs.Viewed.{named_bridge}
 use Rattle.mst_lag.specs.declared.in_view.BridgeInView.{BridgeInView}
-use Rattle.mst_vlan.specs.trees.Settled.{outcome_of}
+use Rattle.mst_forest.specs.Settled.{outcome_of}
 use Rattle.mst_summary.specs.Roots.{follower}
 use Rattle.mst_summary.proofs.Named.{followers_named}
 use Rattle.mst_summary.proofs.roots.push_followers.Goals as goal

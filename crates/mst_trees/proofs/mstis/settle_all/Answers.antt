@@ -1,6 +1,6 @@
 use Rattle.std.proofs.Common.{sym, subst, ap, ◌∙◌}
 use Rattle.mst_trees.specs.Ground.{Ground, rewiring_of}
-use Rattle.mst_trees.specs.Seen.{trees_at}
+use Rattle.mst_forest.specs.Seen.{trees_at}
 use Rattle.mst_trees.specs.Wirings.{msti_wires}
 use Rattle.mst_trees.specs.Mstis.{AreSettled}
 use Rattle.mst_trees.proofs.Gathering.{none_settled, none_only, one_more_bridge, one_more_only, all_bridges}

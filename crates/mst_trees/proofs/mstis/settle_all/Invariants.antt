@@ -4,7 +4,7 @@ use Rattle.std.specs.Map.{lookup}
 use Rattle.mst_settle.specs.Differences.{HasSpaceForBoth}
 use Rattle.mst_lag.specs.Trees.{is_among}
 use Rattle.mst_trees.specs.Ground.{rewiring_of}
-use Rattle.mst_trees.specs.Seen.{trees_at}
+use Rattle.mst_forest.specs.Seen.{trees_at}
 use Rattle.mst_trees.specs.Mstis.{AreSettled}
 use Rattle.mst_trees.proofs.mstis.settle_all.Given as goal
 

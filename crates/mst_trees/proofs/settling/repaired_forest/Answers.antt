@@ -1,10 +1,10 @@
 use Rattle.std.proofs.Common.{sym, subst, ap, ◌∙◌}
 use Rattle.mst_vector.specs.Cist.{cist_rules}
 use Rattle.mst_outcome.specs.Assignment.{designated_of, IsSettledFor}
-use Rattle.mst_trees.specs.Seen.{internal_seen, cist_seen}
-use Rattle.mst_trees.specs.Agrees.{AreOf}
-use Rattle.mst_trees.specs.Forest.{Forest}
-use Rattle.mst_trees.specs.Mstis.{outcomes}
+use Rattle.mst_forest.specs.Seen.{internal_seen, cist_seen}
+use Rattle.mst_forest.specs.Agrees.{AreOf}
+use Rattle.mst_forest.specs.Forest.{Forest}
+use Rattle.mst_forest.specs.Mstis.{outcomes}
 use Rattle.mst_trees.specs.Wirings.{msti_wires}
 use Rattle.mst_trees.proofs.Growing.{internal_agrees, is_forest}
 use Rattle.mst_trees.proofs.Keeping.{keeps_bounds}

@@ -1,7 +1,7 @@
 use Rattle.std.proofs.Common.{take}
 use Rattle.std.specs.List.{AllZip}
 use Rattle.mst_net.specs.tables.Tables.{Net}
-use Rattle.mst_sweeping.specs.plan.trees.Settled.{outcome_of}
+use Rattle.mst_forest.specs.Settled.{outcome_of}
 use Rattle.mst_telling.specs.Judged.{reasons_in}
 use Rattle.mst_verify.specs.tree_judges.judged.Islands.{IsKeptOf}
 use Rattle.mst_verify.specs.tree_judges.judged.reasons.Named.{Prior}

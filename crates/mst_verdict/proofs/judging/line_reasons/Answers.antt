@@ -1,6 +1,6 @@
 use Rattle.std.proofs.Common.{◌≡◌, ◌∙◌, ap, sym, subst, Some, IfOk, option_map, Bor}
 use Rattle.mst_net.specs.tables.Tables.{Net}
-use Rattle.mst_sweeping.specs.plan.trees.Settled.{outcome_of}
+use Rattle.mst_forest.specs.Settled.{outcome_of}
 use Rattle.mst_policy.specs.declared.expectation.Expectation.{Expectation as ExpectationOf}
 use Rattle.mst_verdict.specs.Verifying.{AreReasonsIf, expected_by}
 use Rattle.mst_verify.specs.tree_judges.judged.Islands.{IsKeptOf}

@@ -1,6 +1,6 @@
 use Rattle.std.proofs.Common.{length, ap, subst, sym, ◌∙◌}
 use Rattle.mst_sweeping.specs.sweep.vlan.classes.Classes.{AreClasses}
-use Rattle.mst_sweeping.specs.plan.trees.Settled.{SettledNet}
+use Rattle.mst_forest.specs.Settled.{SettledNet}
 use Rattle.mst_verify.specs.tree_judges.judged.Islands.{HasIslandsOf, IsOfPlan}
 use Rattle.mst_verify.specs.tree_judges.judged.Seen.{IsBefore}
 use Rattle.mst_verdict.specs.Verifying.{AreLacking}

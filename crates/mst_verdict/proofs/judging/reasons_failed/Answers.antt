@@ -7,9 +7,9 @@ use Rattle.mst_net.specs.tables.After.{after}
 use Rattle.mst_net.specs.tables.Contents.{Tables}
 use Rattle.mst_sweeping.specs.sweep.Failures.{edit_of}
 use Rattle.mst_sweeping.specs.sweep.Pairs.{failed}
-use Rattle.mst_sweeping.specs.plan.trees.Agrees.{AreOf}
-use Rattle.mst_sweeping.specs.plan.trees.Forest.{IsForest}
-use Rattle.mst_sweeping.specs.plan.trees.Settled.{SettledNet, outcome_of}
+use Rattle.mst_forest.specs.Agrees.{AreOf}
+use Rattle.mst_forest.specs.Forest.{IsForest}
+use Rattle.mst_forest.specs.Settled.{SettledNet, outcome_of}
 use Rattle.mst_telling.specs.Judged.{reasons_in}
 use Rattle.mst_verify.specs.tree_judges.judged.Islands.{HasIslandsOf, IsOneOf}
 use Rattle.mst_verdict.specs.Verifying.{AreReasonsIf, HaveLans, expected_in, plan_outcome}

@@ -1,7 +1,7 @@
 use Rattle.std.proofs.Common.{None, subst, sym}
 use Rattle.std.proofs.lemmas.Result.{IfOk-weaker}
 use Rattle.mst_sweeping.specs.sweep.vlan.classes.Classes.{AreClasses}
-use Rattle.mst_sweeping.specs.plan.trees.Settled.{SettledNet}
+use Rattle.mst_forest.specs.Settled.{SettledNet}
 use Rattle.mst_telling.specs.Judged.{reasons_in}
 use Rattle.mst_verify.specs.tree_judges.judged.Islands.{HasIslandsOf, IsOfPlan}
 use Rattle.mst_verify.specs.tree_judges.judged.Seen.{IsBefore}

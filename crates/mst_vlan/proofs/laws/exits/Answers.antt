@@ -1,4 +1,4 @@
-use Rattle.mst_trees.specs.Outcome.{trees_of}
+use Rattle.mst_forest.specs.Outcome.{trees_of}
 use Rattle.mst_vlan.proofs.Names.{tests}
 use Rattle.mst_vlan.proofs.laws.exits.Goals as goal
 

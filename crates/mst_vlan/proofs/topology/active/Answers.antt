@@ -1,7 +1,7 @@
 use Rattle.std.proofs.Common.{map, Some, ap, ◌∙◌}
 use Rattle.std.proofs.lemmas.Result.{IfOk-weaker}
-use Rattle.mst_trees.specs.Settled.{outcome_of}
-use Rattle.mst_trees.proofs.SettledNet.{forest_of}
+use Rattle.mst_forest.specs.Settled.{outcome_of}
+use Rattle.mst_forest.proofs.SettledNet.{forest_of}
 use Rattle.mst_vlan.proofs.Listed.{active_numbers}
 use Rattle.mst_vlan.proofs.topology.active.Goals as goal
 

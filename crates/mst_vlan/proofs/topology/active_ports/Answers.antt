@@ -1,8 +1,8 @@
 use Rattle.std.proofs.Common.{map, sym, ap, subst, ◌∙◌}
 use Rattle.std.proofs.lemmas.Result.{IfOk-weaker}
 use Rattle.mst_lag.specs.Viewed.{named_port}
-use Rattle.mst_trees.specs.Settled.{outcome_of}
-use Rattle.mst_trees.proofs.SettledNet.{forest_of}
+use Rattle.mst_forest.specs.Settled.{outcome_of}
+use Rattle.mst_forest.proofs.SettledNet.{forest_of}
 use Rattle.mst_vlan.specs.Active.{JoinWithoutLoop}
 use Rattle.mst_vlan.specs.Seen.{seen_active}
 use Rattle.mst_vlan.proofs.Listed.{active_listed}

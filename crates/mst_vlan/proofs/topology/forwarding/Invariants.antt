@@ -1,6 +1,6 @@
 use Rattle.std.proofs.Common.{◌≡◌, map, take}
 use Rattle.std.specs.Option.{ForSome}
-use Rattle.mst_trees.specs.SeenRoles.{seen_forwards, seen_tree}
+use Rattle.mst_forest.specs.SeenRoles.{seen_forwards, seen_tree}
 use Rattle.mst_vlan.proofs.topology.forwarding.Given as goal
 
 -- the ports so far have their flags, and the tree that is known is that of its bridge

@@ -1,7 +1,7 @@
 use Rattle.std.proofs.Common.{◌≡◌, take}
 use Rattle.std.specs.Option.{ForSome}
 use Rattle.std.specs.List.{filter}
-use Rattle.mst_trees.specs.SeenRoles.{seen_forwards, seen_tree}
+use Rattle.mst_forest.specs.SeenRoles.{seen_forwards, seen_tree}
 use Rattle.mst_vlan.proofs.topology.forwarding_ports.Given as goal
 
 -- of the ports so far those that forward are listed, and the tree that is known is that of its bridge

@@ -1,6 +1,6 @@
 use Rattle.std.proofs.Common.{IfOk, sym, ap, subst, ◌∙◌}
 use Rattle.mst_net.specs.tables.Contents.{Tables, ahead_of}
-use Rattle.mst_trees.specs.Forest.{SettlesNoUnused}
+use Rattle.mst_trees.specs.Bound.{SettlesNoUnused}
 use Rattle.mst_plan.specs.Kept.{HasRegions}
 use Rattle.mst_plan.specs.Standing.{msti_settlings, standing_of}
 use Rattle.mst_plan.specs.declared.plan.Plan.{Plan}
