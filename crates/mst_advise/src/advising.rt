@@ -21,12 +21,12 @@ use crate::in_question::port_settings;
 use crate::priorities::root_settings;
 use crate::setting::{Setting, edit_of};
 use crate::told::{put_because, put_count, put_none, put_settings};
+use mst_forest::Settled;
+use mst_forest::laws::one_outcome;
 use mst_ids::{Name, PortName, Tree};
 use mst_net::{Network, Ready, Refusal};
 use mst_rows::Rows;
-use mst_forest::laws::one_outcome;
 use mst_sweeping::{Deed, Plan, plan_beside, put_between};
-use mst_forest::Settled;
 use std::alloc::{AllocError, Global};
 use std::slice::from_ref;
 

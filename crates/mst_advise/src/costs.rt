@@ -7,9 +7,9 @@ ghost use Rattle.mst_advise.specs.Costs.{against, contested as contested_by, cos
 use crate::contests::RootContest;
 use crate::named::port_named;
 use crate::setting::Setting;
+use mst_forest::{Settled, cist_port, msti_port};
 use mst_ids::{Cost, Tree};
 use mst_lag::PortInView;
-use mst_forest::{Settled, cist_port, msti_port};
 use std::alloc::AllocError;
 
 /// Whether the LAN of an enabled port belongs to the region of its bridge.

@@ -13,9 +13,9 @@ ghost use Rattle.mst_advise.specs.Seen.{seen_apart};
 
 use crate::goal::Goal;
 use crate::named::port_named;
+use mst_forest::{Settled, bridge_id};
 use mst_ids::{BridgeId, Name, PortName, Tree};
 use mst_lag::{BridgeInView, PortInView};
-use mst_forest::{Settled, bridge_id};
 use mst_verify::{Follower, bridge_named, followers};
 use std::alloc::{AllocError, Global};
 

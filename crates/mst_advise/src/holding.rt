@@ -15,10 +15,10 @@ ghost use Rattle.mst_advise.specs.Goals.{expectation_of, forwarding, this_port};
 
 use crate::goal::Goal;
 use crate::named::port_named;
+use mst_forest::{Settled, role_of};
 use mst_ids::{Name, PortName, Tree, VidSet};
 use mst_lag::PortInView;
 use mst_policy::Expectation;
-use mst_forest::{Settled, role_of};
 use mst_verify::laws::told_where_broken;
 use mst_verify::{Before, Homes, Judged, Reason, reasons};
 use std::alloc::{AllocError, Global};

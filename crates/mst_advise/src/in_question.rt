@@ -16,9 +16,9 @@ use crate::priorities::add_lower_priorities;
 use crate::setting::{Setting, once};
 use mst_explain::laws::some_explained;
 use mst_explain::put_explanation;
+use mst_forest::{Settled, role_of};
 use mst_ids::{PortName, PortNo, Tree};
 use mst_lag::PortInView;
-use mst_forest::{Settled, role_of};
 use std::alloc::{AllocError, Global};
 
 /// The name of the port of this number.

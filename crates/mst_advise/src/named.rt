@@ -3,9 +3,9 @@ ghost use Rattle.std.specs.List.{find};
 ghost use Rattle.std.specs.Option.{option_copied};
 ghost use Rattle.mst_net.specs.tables.Tables.{port_eq};
 
+use mst_forest::Settled;
 use mst_ids::PortName;
 use mst_lag::PortInView;
-use mst_forest::Settled;
 
 /// The logical port of a name.
 pub fn port_named<'a>(plan: &'a Settled, name: &PortName) -> Option<&'a PortInView>

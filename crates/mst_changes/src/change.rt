@@ -5,10 +5,10 @@ ghost use Rattle.mst_changes.specs.Told.{told_role, told_vector};
 
 use crate::subject::{Item, Subject};
 use crate::value::{VectorOrRole, is_same};
+use mst_forest::Role;
 use mst_ids::{Name, PortName, Tree};
 use mst_kinds::{ChangeLine, Kind};
 use mst_rows::{Rows, Value, Vector, put};
-use mst_forest::Role;
 use std::alloc::AllocError;
 
 /// The root priority vector that an outcome has of a bridge, if it has one.

@@ -11,9 +11,9 @@ ghost use Rattle.mst_changes.specs.TreeChanges.{tree_changes};
 use crate::entries::Entries;
 use crate::merge::put_merged;
 use crate::rows::push_tree;
+use mst_forest::{Settled, trees_in_use};
 use mst_ids::Tree;
 use mst_rows::Rows;
-use mst_forest::{Settled, trees_in_use};
 use std::alloc::{AllocError, Global};
 
 /// Puts the rows of what has changed in one tree. It takes memory for the entries of that tree alone.

@@ -5,9 +5,9 @@ ghost use Rattle.mst_changes.specs.PortChanges.{counted, port_change_rows};
 
 use crate::merge::put_merged;
 use crate::rows::push_ports;
+use mst_forest::Settled;
 use mst_ids::Tree;
 use mst_rows::Rows;
-use mst_forest::Settled;
 use std::alloc::{AllocError, Global};
 
 /// Puts the rows of the logical ports of either of two settled networks whose roles in a tree differ, by bridge and

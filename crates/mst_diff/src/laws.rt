@@ -12,10 +12,10 @@ ghost use Rattle.mst_diff.specs.Roots.{root_changes};
 ghost use Rattle.mst_diff.specs.Turned.{AreTurned, turned_sides};
 ghost use Rattle.mst_diff.specs.declared.diff.Differing.{Differing as Counts};
 
+use mst_forest::laws::one_outcome;
 use mst_graph::laws::group_lists;
 use mst_ids::Vid;
 use mst_vlan::laws::islands_of_vid;
-use mst_forest::laws::one_outcome;
 
 /// Two networks have one list of rows and one count of what differs, whichever settled outcomes they are made by, and there is
 /// one.

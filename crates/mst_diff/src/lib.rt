@@ -14,5 +14,4 @@ mod sides;
 mod unlike;
 
 pub use diff::{Differing, put_diff};
-
 pub use mst_vlan::laws as vlan_laws;

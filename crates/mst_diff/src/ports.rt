@@ -7,9 +7,9 @@ ghost use Rattle.mst_diff.specs.Seen.{ports_of};
 
 use crate::change::Change;
 use mst_changes::put_port_changes;
+use mst_forest::is_had;
 use mst_ids::Tree;
 use mst_rows::Rows;
-use mst_forest::is_had;
 use std::alloc::{AllocError, Global};
 
 /// Puts the rows of ports in a tree, and answers how many they are: none where no bridge of either network has it.

@@ -11,12 +11,12 @@ ghost use Rattle.mst_diff.specs.Seen.{AreSidesOf, seen_sides, sides_at as sides_
 use crate::carriages::Carriages;
 use crate::sides::{Sides, copies, sides_unless};
 use crate::unlike::unlike;
+use mst_forest::Settled;
 use mst_graph::groups_by_body;
 use mst_ids::{Name, Vid, VidSet};
 use mst_kinds::{ChangeLine, Kind};
 use mst_rows::{Rows, Value, put};
 use mst_vlan::{Carriage, classes_of_both, set_of, vids};
-use mst_forest::Settled;
 use std::alloc::{AllocError, Global};
 
 /// The sides of the VIDs at these places, which are counted from 0.

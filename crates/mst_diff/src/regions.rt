@@ -11,13 +11,13 @@ ghost use Rattle.mst_diff.specs.Seen.{region_of, row_of_region};
 
 use crate::change::Change;
 use mst_facts::Both;
+use mst_forest::{Forest, Settled};
 use mst_ids::{ConfName, Name};
 use mst_kinds::{ChangeLine, Kind as RowKind};
 use mst_lag::{BridgeInView, View};
 use mst_lang::Kind;
 use mst_rows::{RegionSide, Rows, Value, put};
 use mst_tables::Bridge;
-use mst_forest::{Forest, Settled};
 use std::alloc::{AllocError, Global};
 
 /// A bridge whose region is another one.

@@ -11,11 +11,11 @@ ghost use Rattle.mst_diff.specs.Seen.{pair_of, with_pair, roots_of, row_of_root}
 
 use crate::change::Change;
 use mst_facts::{Both, Identified, root_of};
+use mst_forest::{Settled, bridge_id};
 use mst_ids::{BridgeId, Name, Tree};
 use mst_kinds::{ChangeLine, Kind};
 use mst_lag::{BridgeInView, View};
 use mst_rows::{Rows, Value, put};
-use mst_forest::{Settled, bridge_id};
 use std::alloc::{AllocError, Global};
 
 /// The names of a bridge's root before and after.

@@ -9,10 +9,10 @@ ghost use Rattle.mst_vlan.specs.Carried.{with_trees};
 
 use crate::carriages::Carriages;
 use indexmap::IndexSet;
+use mst_forest::Settled;
 use mst_ids::{Name, Vid};
 use mst_lag::View;
 use mst_vlan::{Carriage, Island, bridge_names, has_bridge};
-use mst_forest::Settled;
 use std::alloc::{AllocError, Global};
 
 /// The islands of a VID before that aren't there afterwards, and those afterwards that weren't there before, each by its

@@ -4,9 +4,9 @@ ghost use Rattle.mst_explain.specs.Seen.{designated_vector as seen_designated_ve
 
 use crate::claims::Claim;
 use crate::in_tree::InTree;
+use mst_forest::Settled;
 use mst_ids::{BridgeNo, LanNo, Tree};
 use mst_lag::PortInView;
-use mst_forest::Settled;
 use std::alloc::{AllocError, Global};
 
 /// The designated priority vector of a port of the tree, which it says on its LAN.

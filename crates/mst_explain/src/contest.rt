@@ -10,10 +10,10 @@ use crate::in_tree::InTree;
 use crate::lines::{
     Contest, designated_contest, put_alone, put_over, put_restricted, root_contest,
 };
+use mst_forest::Settled;
 use mst_ids::Tree;
 use mst_lag::PortInView;
 use mst_rows::Rows;
-use mst_forest::Settled;
 use std::alloc::{AllocError, Global};
 
 /// Puts the row of the first of some claims, against its rival, if there is one.

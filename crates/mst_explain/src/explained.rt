@@ -9,10 +9,10 @@ ghost use Rattle.mst_explain.specs.SeenText.{bridge_is_on as is_on_in, lan_is_up
 use crate::contest::put_contest;
 use crate::in_tree::designated_port;
 use crate::lines::{put_boundary, put_disabled, put_heading};
+use mst_forest::{Settled, role_of};
 use mst_ids::{BridgeNo, Name, Tree};
 use mst_lag::{PortInView, View};
 use mst_rows::Rows;
-use mst_forest::{Settled, role_of};
 use mst_vector::{CistMetric, MstiMetric};
 use std::alloc::{AllocError, Global};
 

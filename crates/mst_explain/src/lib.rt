@@ -13,4 +13,3 @@ mod lines;
 mod settings;
 
 pub use explained::{put_explanation, put_explanations};
-

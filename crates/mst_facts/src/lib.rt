@@ -6,6 +6,5 @@ mod planned;
 mod roots;
 
 pub use both::{Both, bridges_of_both};
-
 pub use planned::Planned;
 pub use roots::{Identified, root, root_of};

@@ -1,4 +1,4 @@
--- One tree under the numbers of records: what the settling of its bridges and ports needs and gives.
+-- One tree under the numbers of records, and what its settling needs.
 use Rattle.std.specs.Prelude.{◌≡◌, ◌≢◌, ℕ, ◌≤◌, true, List, IsTrue, length}
 use Rattle.std.specs.List.{AllByRecursion, Contains}
 use Rattle.mst_vector.specs.Rules.{Rules}

@@ -1,5 +1,8 @@
-//! The settled trees of a network, as they are read, and the roles of ports in them.
+//! The CIST and the MSTIs of a network as they are read: their outcome by names, a forest that holds them settled ([`Forest`]), a network
+//! with its view and its forest ([`Settled`]), and the roles of logical ports in them (802.1Q-2022, 13.12). How they are settled is told
+//! in a crate above.
 #![tactic(auto)]
+
 mod for_vid;
 mod forest;
 mod in_use;
@@ -12,25 +15,12 @@ mod settings;
 mod settled;
 mod settled_role;
 
-pub use for_vid::forwards;
-pub use for_vid::forwards_in;
-pub use for_vid::port_forwards;
-pub use for_vid::vid_tree;
-pub use forest::Forest;
-pub use forest::Mstis;
-pub use in_use::has_tree;
-pub use in_use::is_had;
-pub use in_use::mstis_in_use;
-pub use in_use::trees_in_use;
+pub use for_vid::{forwards, forwards_in, port_forwards, vid_tree};
+pub use forest::{Forest, Mstis};
+pub use in_use::{has_tree, is_had, mstis_in_use, trees_in_use};
 pub use internal::is_internal;
 pub use kind::Role;
-pub use roles::port_role;
-pub use roles::role;
-pub use settings::bridge_id;
-pub use settings::cist_bridge;
-pub use settings::cist_port;
-pub use settings::msti_bridge;
-pub use settings::msti_port;
-pub use settings::port_id;
+pub use roles::{port_role, role};
+pub use settings::{bridge_id, cist_bridge, cist_port, msti_bridge, msti_port, port_id};
 pub use settled::Settled;
 pub use settled_role::role_of;

@@ -10,11 +10,11 @@ ghost use Rattle.mst_judged.specs.Seen.{IsBefore};
 use crate::homes::made_at;
 use crate::vids::classes_asked;
 use indexmap::{IndexMap, IndexSet};
+use mst_forest::Settled;
 use mst_graph::Numbering;
 use mst_ids::{BridgeNo, PortName, VidSet};
 use mst_lag::View;
 use mst_reasons::{Carriage, classes_of_vids};
-use mst_forest::Settled;
 use std::alloc::{AllocError, Global};
 
 /// What is kept of a network for all its failures: the classes of its VIDs that no table and no set of VLANs tells apart, which no failure

@@ -18,7 +18,11 @@ pub use before::Before;
 pub use beside::Beside;
 pub use homes::{Home, Homes, homes_in};
 pub use judged::Judged;
-pub use mst_reasons::{Both, BridgeNames, Child, Follower, Missing, Parts, PortNames, Reason, Word, all_parts, as_follower, bridges_of_both, children_of, flagged, goes_over, has_two, homes_by, least, note_text_laws, put_notes, set_of, staying, vlan_laws};
+pub use mst_reasons::{
+    Both, BridgeNames, Child, Follower, Missing, Parts, PortNames, Reason, Word, all_parts,
+    as_follower, bridges_of_both, children_of, flagged, goes_over, has_two, homes_by, least,
+    note_text_laws, put_notes, set_of, staying, vlan_laws,
+};
 pub use naming::{is_named, named};
 pub use prior::Prior;
 pub use vids::{class_of, classes_asked, classes_of, vids_of};

@@ -12,9 +12,9 @@ use crate::member::{Member, members_of};
 use crate::parent::{Depths, Parent};
 use crate::parents::parents_of;
 use crate::places::places_of;
-use mst_ids::{Name, Tree};
 use mst_forest::Settled;
 use mst_forest::laws::nested;
+use mst_ids::{Name, Tree};
 use std::alloc::{AllocError, Global};
 
 /// A bridge of a tree, its parent there, and how many steps to parents there are from it, whatever regions they go through.

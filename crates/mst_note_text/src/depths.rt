@@ -10,9 +10,9 @@ use crate::member::Member;
 use crate::parent::Depths;
 use crate::parents::parents_of;
 use crate::places::places_of;
-use mst_ids::Tree;
 use mst_forest::Settled;
 use mst_forest::laws::nested;
+use mst_ids::Tree;
 use std::alloc::{AllocError, Global};
 
 /// The depths of the bridges of a tree.

@@ -1,9 +1,9 @@
 ghost use Rattle.std.specs.Prelude.{◌≡◌, IfOk};
 ghost use Rattle.mst_note_text.specs.SeenTree.{cist_member as cist_member_of, msti_member as msti_member_of, seen_member, members_in};
 
+use mst_forest::Forest;
 use mst_ids::{BridgeId, BridgeNo, Name, Tree};
 use mst_lag::{BridgeInView, View};
-use mst_forest::Forest;
 use mst_vector::{CistVector, MstiVector};
 use std::alloc::{AllocError, Global};
 

@@ -13,11 +13,11 @@ ghost use Rattle.mst_note_text.specs.SeenNotes.{is_had};
 use crate::lines::put_restricted;
 use crate::places::{Macs, macs_of};
 use crate::tree::put_tree;
+use mst_forest::laws::nested;
+use mst_forest::{Settled, trees_in_use};
 use mst_ids::Tree;
 use mst_lag::{PortInView, View};
 use mst_rows::Rows;
-use mst_forest::laws::nested;
-use mst_forest::{Settled, trees_in_use};
 use std::alloc::{AllocError, Global};
 
 /// Puts the notes on a settled network: for each tree in rising order, and each bridge that is on and has it, in byte

@@ -7,9 +7,9 @@ ghost use Rattle.mst_note_text.specs.SeenTree.{is_root_port as is_root_port_in, 
 use crate::member::Member;
 use crate::parent::Parent;
 use crate::places::Places;
+use mst_forest::{Forest, Role, port_role};
 use mst_ids::Tree;
 use mst_lag::{PortInView, View};
-use mst_forest::{Forest, Role, port_role};
 use std::alloc::{AllocError, Global};
 
 /// The parents of the bridges of a tree, in one pass over the ports: a root port gives its bridge's.

@@ -11,10 +11,10 @@ use crate::bridge::put_members;
 use crate::depths::depths_in;
 use crate::member::members_of;
 use crate::places::Macs;
-use mst_ids::Tree;
-use mst_rows::Rows;
 use mst_forest::Settled;
 use mst_forest::laws::nested;
+use mst_ids::Tree;
+use mst_rows::Rows;
 use std::alloc::{AllocError, Global};
 
 /// Puts the notes on a tree. It goes once over the view's bridges and once over its ports.

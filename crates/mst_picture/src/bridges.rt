@@ -7,10 +7,10 @@ ghost use Rattle.mst_picture.specs.Bridges.{bridge_line, is_root as is_root_in, 
 ghost use Rattle.mst_picture.specs.InView.{style_of as style_in, bridge_of, off_of};
 
 use crate::pieces::push_pieces;
+use mst_forest::{Settled, bridge_id};
 use mst_ids::Tree;
 use mst_lag::BridgeInView;
 use mst_lang::Power;
-use mst_forest::{Settled, bridge_id};
 use mst_summary::root_of;
 use std::alloc::AllocError;
 

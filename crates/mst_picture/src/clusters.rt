@@ -9,10 +9,10 @@ ghost use Rattle.mst_picture.specs.InView.{node_of, node_at, cluster_of, cluster
 use crate::bridges::is_root;
 use crate::pieces::push_pieces;
 use itoa::Buffer;
+use mst_forest::{Settled, vid_tree};
 use mst_ids::{BridgeNo, Name, Tree, Vid, push_bytes};
 use mst_lag::BridgeInView;
 use mst_summary::{Island, active_ports, has_bridge, reach_from};
-use mst_forest::{Settled, vid_tree};
 use std::alloc::{AllocError, Global};
 
 /// The end of a node's text, which has two borders for a root.

@@ -9,9 +9,9 @@ ghost use Rattle.mst_picture.specs.InView.{AreAmong, end_at, lan_of};
 use crate::ends::{Drawn, End, are_open, designates, end_of, line_end, push_label};
 use crate::pieces::push_pieces;
 use indexmap::IndexMap;
+use mst_forest::Settled;
 use mst_ids::{Name, push_bytes};
 use mst_lag::{LanInView, PortInView};
-use mst_forest::Settled;
 use mst_summary::{kept_for, ports_by_lan};
 use std::alloc::{AllocError, Global};
 

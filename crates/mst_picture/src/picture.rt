@@ -7,8 +7,8 @@ use crate::ends::Drawn;
 use crate::lans::push_lans;
 use crate::pieces::push_pieces;
 use itoa::Buffer;
-use mst_ids::{Tree, push_bytes};
 use mst_forest::Settled;
+use mst_ids::{Tree, push_bytes};
 use std::alloc::{AllocError, Global};
 
 /// Appends the first lines, which name a tree or a VLAN by this word and this number.

@@ -7,8 +7,8 @@ use crate::clusters::push_islands;
 use crate::ends::Drawn;
 use crate::lans::push_lans;
 use crate::picture::push_opening;
-use mst_ids::{Vid, push_bytes};
 use mst_forest::Settled;
+use mst_ids::{Vid, push_bytes};
 use std::alloc::{AllocError, Global};
 
 /// Appends the picture of a settled network with a VLAN: a text for Graphviz. Each island of the VID that has a bridge is a

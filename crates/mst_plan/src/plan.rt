@@ -6,11 +6,11 @@ ghost use Rattle.mst_plan.specs.Standing.{standing_of, msti_settlings, KeepsBoun
 ghost use Rattle.mst_trees.specs.Bound.{SettlesNoUnused};
 
 use mst_config::{Regions, regions_of};
+use mst_forest::Forest;
 use mst_lag::laws::{bridge_alone, lan_alone, port_alone, ports_alone, set_alone};
 use mst_lag::{View, leaves_key, leaves_links, leaves_tables, view};
 use mst_lang::Edit;
 use mst_net::{Contents, Network};
-use mst_forest::Forest;
 use mst_trees::repaired_forest;
 use std::alloc::{AllocError, Global};
 

@@ -3,9 +3,9 @@ ghost use Rattle.std.specs.List.{All};
 ghost use Rattle.mst_forest.specs.Settled.{outcome_of};
 ghost use Rattle.mst_plan_text.specs.Bodies.{pairs_of, seen_pair};
 
+use mst_forest::Settled;
 use mst_ids::{PortName, Vid};
 use mst_lag::{PortInView, View};
-use mst_forest::Settled;
 use mst_text::{active_ports, is_member};
 use std::alloc::{AllocError, Global};
 

@@ -4,10 +4,10 @@ ghost use Rattle.mst_rows.specs.Rows.{Row};
 ghost use Rattle.mst_forest.specs.Settled.{outcome_of};
 ghost use Rattle.mst_plan_text.specs.PlanText.{group_rows, AreIslandsOfEach, Islands};
 
+use mst_forest::Settled;
 use mst_ids::Vid;
 use mst_rows::Rows;
 use mst_text::vlan_laws::islands_of_vid;
-use mst_forest::Settled;
 use mst_text::{put_body, put_heading, set_of};
 use std::alloc::{AllocError, Global};
 

@@ -9,11 +9,11 @@ ghost use Rattle.mst_text.specs.vlan.classes.AllVids.{all_vids};
 use crate::active::actives;
 use crate::groups::put_groups;
 use crate::trees::put_trees;
+use mst_forest::Settled;
 use mst_graph::groups_by_body;
 use mst_ids::Vid;
 use mst_rows::Rows;
 use mst_text::vlan_laws::islands_of_vid;
-use mst_forest::Settled;
 use mst_text::{classes_of_vids, vids};
 use std::alloc::{AllocError, Global};
 

@@ -5,8 +5,8 @@ ghost use Rattle.mst_rows.specs.Rows.{Row};
 ghost use Rattle.mst_questions.specs.Explaining.{Explains, has_tree as has_tree_in, has_asked, unexplained_of, code_of, text_of};
 
 use mst_advise::explain_laws::some_explained;
-use mst_forest::Settled;
 use mst_advise::{port_named, put_explanation, put_explanations};
+use mst_forest::Settled;
 use mst_ids::{PortName, Tree};
 use mst_lag::PortInView;
 use mst_rows::Rows;

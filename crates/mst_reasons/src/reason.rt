@@ -1,6 +1,6 @@
 use crate::lists::{BridgeNames, Parts, PortNames, Word};
-use mst_ids::{Name, Tree, VidSet};
 use mst_forest::Role;
+use mst_ids::{Name, Tree, VidSet};
 
 /// Why an expectation doesn't hold.
 #[derive(Drop)]

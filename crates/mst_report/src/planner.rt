@@ -10,11 +10,11 @@ ghost use Rattle.mst_changes.specs.Stored.{kept_entries};
 
 use crate::laws::entries_of_network;
 use mst_changes::Entries;
+use mst_forest::{Forest, Settled};
 use mst_ids::Tree;
 use mst_lag::View;
 use mst_lang::Edit;
 use mst_net::{Contents, Network, Refusal};
-use mst_forest::{Forest, Settled};
 use mst_plan::{KeptPlan, Plan};
 use std::alloc::{AllocError, Global};
 use std::marker::Model;

@@ -23,8 +23,8 @@ ghost use Rattle.mst_rows.specs.Rows.{Row};
 ghost use Rattle.mst_step_laws.specs.InReach.{IsInDiff, StepAndDiff};
 
 use mst_change::laws::no_line_is_left;
-use mst_forest::laws::{has_outcome, one_outcome};
 use mst_diff::vlan_laws::islands_of_vid;
+use mst_forest::laws::{has_outcome, one_outcome};
 use mst_graph::laws::group_lists;
 use mst_ids::Vid;
 use mst_net::laws::networks;

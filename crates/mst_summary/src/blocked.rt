@@ -7,11 +7,11 @@ ghost use Rattle.mst_summary.specs.Blocked.{stops as stops_of, is_blocked as blo
 ghost use Rattle.mst_summary.specs.Seen.{blocked_of};
 
 use crate::looked_up::role;
+use mst_forest::{Role, Settled};
 use mst_ids::{PortName, Tree};
 use mst_kinds::{Kind, SummaryLine};
 use mst_lag::PortInView;
 use mst_rows::{Rows, Value, put};
-use mst_forest::{Role, Settled};
 use std::alloc::{AllocError, Global};
 
 /// Whether there is a role, and it doesn't forward.

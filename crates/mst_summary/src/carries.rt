@@ -16,12 +16,12 @@ use crate::joining::joining_lans;
 use crate::kept::ports_by_lan;
 use crate::places::places_by_lan;
 use indexmap::IndexMap;
+use mst_forest::Settled;
 use mst_graph::Numbering;
 use mst_ids::{Name, Vid, VidSet};
 use mst_kinds::{Kind, SummaryLine};
 use mst_rows::{Rows, Value, put};
 use mst_vlan::{Carriage, flagged, set_of, vids};
-use mst_forest::Settled;
 use std::alloc::{AllocError, Global};
 
 /// What is kept of a settled network for all its logical LANs: which ports carry each VID, the classes of VIDs that nothing

@@ -3,9 +3,9 @@ ghost use Rattle.mst_forest.specs.InUse.{AreInUse};
 ghost use Rattle.mst_graph.specs.Lists.{has_any};
 ghost use Rattle.mst_summary.specs.Seen.{seen_used, seen_trees};
 
+use mst_forest::{is_had, trees_in_use};
 use mst_ids::Tree;
 use mst_lag::{BridgeInView, View};
-use mst_forest::{is_had, trees_in_use};
 use std::alloc::{AllocError, Global};
 
 /// Whether there is a bridge.

@@ -9,12 +9,12 @@ ghost use Rattle.mst_summary.specs.Kept.{count_at};
 ghost use Rattle.mst_summary.specs.Seen.{seen_with_bridge};
 ghost use Rattle.mst_summary.specs.Vlans.{HasIslands, islands_row, group_rows, AreVlanRows};
 
+use mst_forest::Settled;
 use mst_graph::{Numbering, groups_by_body};
 use mst_ids::Vid;
 use mst_kinds::{Kind, SummaryLine};
 use mst_rows::{Rows, Value, put};
 use mst_vlan::{Carriage, Island, has_bridge, set_of, vids};
-use mst_forest::Settled;
 use std::alloc::{AllocError, Global};
 
 /// How many of these islands have a bridge.

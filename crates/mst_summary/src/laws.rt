@@ -8,10 +8,10 @@ ghost use Rattle.mst_summary.specs.declared.roots.Follower.{Follower};
 ghost use Rattle.mst_summary.specs.Roots.{next_of, IsNext};
 ghost use Rattle.mst_summary.specs.SummaryText.{AreSummaryRows};
 
+use mst_forest::laws::one_outcome;
 use mst_graph::laws::group_lists;
 use mst_ids::Vid;
 use mst_vlan::laws::islands_of_vid;
-use mst_forest::laws::one_outcome;
 
 /// A network has one list of rows as its summary, whichever settled outcomes it is made by, and there is one.
 pub fn one_summary()

@@ -13,11 +13,11 @@ ghost use Rattle.mst_summary.specs.Seen.{seen_root};
 use crate::grouped::{add, group_for};
 use indexmap::IndexMap;
 use mst_facts::root_of;
+use mst_forest::{Settled, bridge_id};
 use mst_ids::{BridgeId, Name, Tree};
 use mst_kinds::{Kind, SummaryLine};
 use mst_lag::BridgeInView;
 use mst_rows::{Rows, Value, put};
-use mst_forest::{Settled, bridge_id};
 use std::alloc::{AllocError, Global};
 
 /// A bridge that names a root in a tree: its name, its own identifier there and that of its root.

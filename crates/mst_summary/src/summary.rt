@@ -13,11 +13,11 @@ use crate::in_use::used_trees;
 use crate::islands::put_vlans;
 use crate::roots::put_roots;
 use mst_config::Regions;
+use mst_forest::Settled;
 use mst_ids::Tree;
 use mst_rows::Rows;
 use mst_slips::put_slips;
 use mst_vlan::{Carriage, classes_of_vids};
-use mst_forest::Settled;
 use std::alloc::{AllocError, Global};
 
 /// Puts the rows of a tree.

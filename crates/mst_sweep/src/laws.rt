@@ -15,11 +15,11 @@ ghost use Rattle.mst_rows.specs.Rows.{Row};
 ghost use Rattle.mst_sweep.specs.SweepText.{AreFailureRows, IsSweep};
 ghost use Rattle.mst_sweep.specs.SweepParts.{PartOf, IsPart, ToldOfPart, whole_part, part_of, IsSweepPart, AreSweepParts, but_last_row};
 
+use mst_forest::laws::{has_outcome, one_outcome};
 use mst_graph::laws::group_lists;
 use mst_ids::Vid;
 use mst_net::laws::networks;
 use mst_vlan::laws::{islands_of_vid, joined_without_loop};
-use mst_forest::laws::{has_outcome, one_outcome};
 
 /// A failure has one list of rows, whichever settled outcomes it is made by, and cuts some VID by each or by none; and there is one.
 pub fn one_failure()

@@ -30,7 +30,9 @@ pub use failing::Failing;
 pub use failure::{Failure, failures};
 pub use homes::{homes_by, homes_of};
 pub use mst_facts::{Both, Planned, bridges_of_both};
-pub use mst_vlan::{Carriage, classes_of_both, classes_of_vids, differing, flagged, laws as vlan_laws, set_of, vids};
+pub use mst_vlan::{
+    Carriage, classes_of_both, classes_of_vids, differing, flagged, laws as vlan_laws, set_of, vids,
+};
 pub use parts::{Stays, all_parts, staying};
 pub use ports::changes_role;
 pub use roots::moved_roots;

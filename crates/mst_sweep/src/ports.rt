@@ -14,9 +14,9 @@ ghost use Rattle.mst_sweep.specs.Seen.{seen_port_moved};
 ghost use Rattle.mst_sweep.specs.Touched.{AreTouched};
 
 use mst_facts::Planned;
+use mst_forest::{Role, is_had, port_role, trees_in_use};
 use mst_ids::Tree;
 use mst_lag::PortInView;
-use mst_forest::{Role, is_had, port_role, trees_in_use};
 
 /// Whether a role is other than Disabled.
 fn takes_part(role: Role) -> bool

@@ -8,8 +8,8 @@ ghost use Rattle.mst_sweep.specs.Moved.{is_other_root, root_moved as root_moved_
 ghost use Rattle.mst_sweep.specs.Seen.{seen_root_moved};
 
 use mst_facts::{Both, Planned, root};
-use mst_ids::{BridgeId, Tree};
 use mst_forest::{is_had, trees_in_use};
+use mst_ids::{BridgeId, Tree};
 use std::alloc::{AllocError, Global};
 
 /// Whether there are two roots that aren't the same.

@@ -4,9 +4,9 @@ ghost use Rattle.mst_forest.specs.SeenRoles.{seen_role};
 ghost use Rattle.mst_sweep.specs.Touched.{differ, KeepsRoles, HaveSameRoles, AreTouched, ArePlaces};
 
 use mst_facts::Planned;
+use mst_forest::{Role, mstis_in_use, port_role};
 use mst_ids::Tree;
 use mst_lag::PortInView;
-use mst_forest::{Role, mstis_in_use, port_role};
 use std::alloc::{AllocError, Global};
 
 /// Whether two roles aren't the same, or just one of them is there.

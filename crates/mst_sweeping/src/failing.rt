@@ -7,9 +7,9 @@ ghost use Rattle.mst_sweeping.specs.Sweeping.{IsViewBut};
 
 use mst_config::Regions;
 use mst_config::laws::regions_stay;
+use mst_forest::Forest;
 use mst_lag::View;
 use mst_net::{Contents, Network};
-use mst_forest::Forest;
 use mst_plan::{Plan, repaired_forest};
 use mst_sweep::{Failing, Failure};
 use std::alloc::{AllocError, Global};

@@ -15,9 +15,9 @@ ghost use Rattle.mst_sweeping.specs.StepText.{AreStepRows, IsAsInSweep};
 ghost use Rattle.mst_sweeping.specs.declared.step.Deed.{Deed as DeedOf};
 ghost use Rattle.mst_sweeping.specs.declared.step.Stepped.{Stepped as SteppedOf};
 
+use mst_forest::laws::{has_outcome, one_outcome};
 use mst_graph::laws::group_lists;
 use mst_ids::Vid;
-use mst_forest::laws::{has_outcome, one_outcome};
 use mst_sweep::laws::one_failure;
 use mst_sweep::vlan_laws::islands_of_vid;
 

@@ -12,9 +12,9 @@ ghost use Rattle.mst_sweep.specs.Pairs.{failed, with_each};
 use crate::failing::{renew, trees_ahead, trees_failed, without_failure};
 use crate::sweeping::baseline_of;
 use mst_config::laws::regions_stay;
+use mst_forest::Forest;
 use mst_lag::{View, view};
 use mst_net::Network;
-use mst_forest::Forest;
 use mst_plan::Plan;
 use mst_rows::Rows;
 use mst_sweep::{

@@ -8,11 +8,10 @@ ghost use Rattle.mst_sweep.specs.Moved.{port_moved as port_moved_in, moved_ports
 ghost use Rattle.mst_sweeping.specs.Seen.{seen_both_ports, seen_port_in_both, seen_moved, ArePortsByName};
 
 use indexmap::IndexMap;
+use mst_forest::{is_had, port_role, trees_in_use};
 use mst_ids::{PortName, Tree};
 use mst_lag::{PortInView, View};
-use mst_forest::{is_had, trees_in_use};
 use mst_sweep::{Planned, changes_role};
-use mst_forest::port_role;
 use std::alloc::{AllocError, Global};
 
 /// A logical port that two networks have, by name.

@@ -6,11 +6,11 @@ ghost use Rattle.mst_forest.specs.InUse.{is_in_use};
 ghost use Rattle.mst_reasons.specs.Missing.{bridges_of, has_failure as has_failure_of, has_one as has_one_of, has_port as has_port_of, have_failures as have_failures_of, is_tree as is_tree_of, lacks_bridge as lacks_bridge_of, lacks_failure as lacks_failure_of, lacks_lan as lacks_lan_of, lacks_port as lacks_port_of, lacks_tree as lacks_tree_of, lans_of, missing as missing_of, next_item, scope_bridges, scope_lans};
 ghost use Rattle.mst_telling.specs.Seen.{seen_bridge_fails, seen_lan_fails};
 
+use mst_forest::Settled;
 use mst_ids::{Name, Tree};
 use mst_lag::{BridgeInView, MemberLan, PortInView, View};
 use mst_policy::{Expectation, NameItem, PortItem, Promise, Scope};
 use mst_reasons::{Failure, Missing, asks};
-use mst_forest::Settled;
 
 /// Whether an item has the name of one of these bridges.
 fn any_bridge(bridges: &[BridgeInView], item: &NameItem) -> bool

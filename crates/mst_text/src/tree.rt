@@ -10,11 +10,11 @@ ghost use Rattle.mst_text.specs.TreeText.{tree_rows};
 use crate::holders::Holders;
 use crate::tree_bridge::put_own_row;
 use crate::tree_port::put_port;
+use mst_forest::Settled;
 use mst_ids::{Name, Tree};
 use mst_kinds::{Kind, TreeLine};
 use mst_lag::{BridgeInView, PortInView};
 use mst_rows::{Rows, Value, put};
-use mst_forest::Settled;
 use std::alloc::{AllocError, Global};
 
 /// Puts the rows of a tree of a settled network: a heading, then for each bridge that has the tree, in byte order of

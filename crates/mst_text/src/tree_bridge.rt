@@ -9,13 +9,13 @@ ghost use Rattle.mst_text.specs.TreeRows.{off_row, cist_row, msti_row, vector_ro
 ghost use Rattle.mst_text.specs.TreeText.{own_rows};
 
 use crate::holders::Holders;
+use mst_forest::{Settled, bridge_id};
 use mst_ids::{BridgeId, Name, Tree};
 use mst_kinds::{Kind, TreeLine};
 use mst_lag::BridgeInView;
 use mst_lang::Power;
 use mst_rows::{Rows, Value, put};
 use mst_vector::{CistVector, MstiVector};
-use mst_forest::{Settled, bridge_id};
 use std::alloc::AllocError;
 
 /// Puts the row of a bridge: that it is off, or its root priority vector in the tree.

@@ -7,10 +7,10 @@ ghost use Rattle.mst_text.specs.VlanText.{AreBodyRows, AreVlanRows, alone as vid
 
 use crate::active::put_active;
 use crate::islands::put_islands;
+use mst_forest::Settled;
 use mst_ids::{Vid, VidSet};
 use mst_kinds::{Kind, VlanLine};
 use mst_rows::{Rows, Value, put};
-use mst_forest::Settled;
 use mst_vlan::{active_ports, reach_from};
 use std::alloc::{AllocError, Global};
 

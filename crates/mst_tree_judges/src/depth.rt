@@ -2,8 +2,8 @@ ghost use Rattle.std.specs.Prelude.{◌≡◌, ◌==◌, ◌∷◌, [], nat_lt, 
 ghost use Rattle.mst_forest.specs.Settled.{outcome_of};
 ghost use Rattle.mst_judged.specs.reasons.Reasons.{AreDepthReasons};
 
-use mst_ids::{Name, Tree};
 use mst_forest::laws::nested;
+use mst_ids::{Name, Tree};
 use mst_judged::{BridgeNames, Child, Judged, Reason, children_of};
 use std::alloc::{AllocError, Global};
 

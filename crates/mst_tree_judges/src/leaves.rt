@@ -8,8 +8,8 @@ ghost use Rattle.mst_judged.specs.reasons.Reasons.{AreLeafReasons, leaf_reason};
 ghost use Rattle.mst_tree_judges.specs.Seen.{names_at, is_child_of};
 
 use indexmap::IndexMap;
-use mst_ids::{Name, Tree};
 use mst_forest::laws::nested;
+use mst_ids::{Name, Tree};
 use mst_judged::{BridgeNames, Child, Judged, Reason, children_of, named};
 use mst_lag::BridgeInView;
 use mst_policy::NameList;

@@ -8,9 +8,9 @@ ghost use Rattle.mst_judged.specs.reasons.Over.{is_lan, is_wrong as wrong_of, no
 ghost use Rattle.mst_judged.specs.reasons.Reasons.{avoids_reason, carries_reason};
 ghost use Rattle.mst_tree_judges.specs.Seen.{seen_logical};
 
+use mst_forest::Settled;
 use mst_ids::{Name, Vid, VidSet};
 use mst_judged::{Judged, Reason, flagged, goes_over, set_of, vids_of};
-use mst_forest::Settled;
 use mst_lag::{MemberLan, PortInView, View};
 use std::alloc::{AllocError, Global};
 

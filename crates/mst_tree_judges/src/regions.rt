@@ -5,10 +5,10 @@ ghost use Rattle.mst_config.specs.Regions.{same_region};
 ghost use Rattle.mst_judged.specs.reasons.Named.{named as named_in};
 ghost use Rattle.mst_judged.specs.reasons.Reasons.{AreRegionReasons, has_two as has_two_of};
 
+use mst_forest::Settled;
 use mst_graph::groups;
 use mst_ids::Name;
 use mst_judged::{Judged, Parts, Reason, has_two, named};
-use mst_forest::Settled;
 use mst_lag::BridgeInView;
 use mst_policy::NameList;
 use std::alloc::{AllocError, Global};

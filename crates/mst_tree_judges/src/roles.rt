@@ -9,9 +9,9 @@ ghost use Rattle.mst_judged.specs.reasons.Reasons.{same_role, all_roles as all_t
 ghost use Rattle.mst_judged.specs.Seen.{IsBefore, seen_stopped, seen_ports_named};
 ghost use Rattle.mst_tree_judges.specs.Seen.{seen_with_role, seen_role_reason};
 
+use mst_forest::{Role, Settled, port_role};
 use mst_ids::{PortName, Tree};
 use mst_judged::{Before, Judged, PortNames, Reason};
-use mst_forest::{Role, Settled, port_role};
 use mst_lag::PortInView;
 use mst_policy::{PortList, Roles};
 use std::alloc::{AllocError, Global};

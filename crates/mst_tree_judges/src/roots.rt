@@ -13,10 +13,10 @@ ghost use Rattle.mst_judged.specs.reasons.Reasons.{AreRootReasons, other_next as
 ghost use Rattle.mst_tree_judges.specs.Seen.{concerned_follower, concerned_followers, seen_other_root};
 
 use indexmap::IndexMap;
-use mst_ids::{Name, Tree};
 use mst_forest::laws::nested;
-use mst_judged::{Follower, Judged, Reason, as_follower, least};
 use mst_forest::{Settled, bridge_id};
+use mst_ids::{Name, Tree};
+use mst_judged::{Follower, Judged, Reason, as_follower, least};
 use mst_lag::BridgeInView;
 use std::alloc::{AllocError, Global};
 

@@ -1,4 +1,4 @@
--- How often bridges of a tree were settled, by how many changed.
+-- How often bridges of a tree were settled, by how many changed; and of all trees of a forest.
 use Rattle.std.specs.Prelude.{◌≡◌, ◌≢◌, ◌↔◌, ℕ, ◌*◌, ◌≤◌, List, length, Option, None, false}
 use Rattle.std.specs.List.{Contains}
 use Rattle.std.specs.List.Sorted.{IsStrictlyIncreasing}

@@ -5,8 +5,8 @@ ghost use Rattle.mst_trees.specs.Internal.{KnownInternal};
 ghost use Rattle.mst_trees.specs.Own.{is_set, IsNoted};
 ghost use Rattle.mst_trees.specs.Wirings.{HaveNumbers, AreOwn, own_in, msti_wires};
 
-use mst_forest::msti_port;
 use indexmap::IndexMap;
+use mst_forest::msti_port;
 use mst_ids::Tree;
 use mst_lag::{PortInView, View};
 use mst_vector::MstiPort;

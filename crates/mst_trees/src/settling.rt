@@ -16,11 +16,11 @@ ghost use Rattle.mst_trees.specs.Wirings.{msti_wires};
 ghost use Rattle.mst_nested.specs.Trees.{IsSettled};
 
 use crate::cist::{cist_wiring, repaired_cist};
-use mst_forest::{Forest, Mstis};
-use mst_forest::laws::{has_outcome, nested};
 use crate::msti::{internal_ports, msti_wiring};
 use crate::mstis::repaired_mstis;
 use mst_config::Regions;
+use mst_forest::laws::{has_outcome, nested};
+use mst_forest::{Forest, Mstis};
 use mst_ids::{BridgeNo, LanNo, Name, PortName, PortNo};
 use mst_lag::{PortInView, View};
 use mst_outcome::SpanningTree;

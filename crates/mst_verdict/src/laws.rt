@@ -9,8 +9,8 @@ ghost use Rattle.mst_telling.specs.Told.{IsLineTold, IsToldWhereUnkept};
 ghost use Rattle.mst_telling.specs.Verified.{Counts as PolicyCounts, IsToldWhereBroken, IsVerdict, IsVerified};
 ghost use Rattle.mst_verdict.specs.Verifying.{IsPriorNetwork, Judges, Verifies};
 
-use mst_net::laws::networks;
 use mst_forest::laws::{has_outcome, one_outcome};
+use mst_net::laws::networks;
 use mst_verify::laws::{reason_lists, told_where_broken};
 
 /// A line has one list of rows in a network, by what is before that, whichever settled outcome it is judged by.

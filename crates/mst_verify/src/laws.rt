@@ -20,8 +20,8 @@ ghost use Rattle.mst_island_judges.specs.judged.reasons.Reasons.{AreReasons, Has
 ghost use Rattle.mst_verify.specs.Whole.{AreAllVids, Fails, IsWhole, NoneIsCut, all_together, as_cut, reach_all};
 ghost use Rattle.mst_island_judges.specs.judged.reasons.declared.reason.Reason.{Reason as ReasonOf};
 
-use mst_island_judges::note_text_laws::notes;
 use mst_forest::laws::{has_outcome, nested, one_outcome};
+use mst_island_judges::note_text_laws::notes;
 use mst_island_judges::vlan_laws::{islands_of_vid, joined_without_loop};
 use mst_net::laws::networks;
 

@@ -1,10 +1,10 @@
 use crate::island::Island;
 use crate::reaching::{bridges_on, islands_of, lans_up};
 use crate::rows::{Rows, is_link, vlan_sets};
+use mst_forest::Forest;
 use mst_graph::Link;
 use mst_ids::{BridgeNo, LanNo, Name, PortName, Vid, VidSet};
 use mst_lag::View;
-use mst_forest::Forest;
 use std::alloc::{AllocError, Global};
 use std::marker::Model;
 

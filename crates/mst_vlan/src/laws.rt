@@ -28,8 +28,8 @@ ghost use Rattle.mst_forest.specs.declared.kind.Role.{Role as RoleOf};
 ghost use Rattle.mst_vlan.specs.Active.{active_ports, port_ends, IsEnabled, JoinWithoutLoop};
 ghost use Rattle.mst_vlan.specs.Reach.{AreIslandsOf};
 
-use mst_ids::{Name, PortName};
 use mst_forest::laws::{forwarding, nested};
+use mst_ids::{Name, PortName};
 use mst_nested::laws;
 
 /// Where no logical port's role is restricted, the active ports of a VID join what is enabled and make no loop, whatever

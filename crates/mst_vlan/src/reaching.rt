@@ -10,10 +10,10 @@ ghost use Rattle.mst_vlan.specs.Seen.{seen_active, seen_bridges, seen_lans, seen
 
 use crate::island::{BridgeList, Island, LanList};
 use crate::topology::forwarding_ports;
+use mst_forest::{Forest, Settled};
 use mst_graph::{Link, islands};
 use mst_ids::{BridgeNo, LanNo, Vid};
 use mst_lag::{PortInView, View};
-use mst_forest::{Forest, Settled};
 use std::alloc::{AllocError, Global};
 
 /// The numbers of the bridges that are on. `AllocError`: memory was wanted and refused.

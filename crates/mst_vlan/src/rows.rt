@@ -4,10 +4,10 @@ ghost use Rattle.mst_vlan.specs.Kept.{seen_vlans, seen_row, link_at, HaveRows};
 
 use crate::topology::forwarding;
 use mst_classes::classes_by_tables;
+use mst_forest::Forest;
 use mst_graph::Numbering;
 use mst_ids::{Vid, VidSet};
 use mst_lag::View;
-use mst_forest::Forest;
 use std::alloc::{AllocError, Global};
 
 /// The set of VLANs of each logical port.

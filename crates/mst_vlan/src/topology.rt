@@ -9,9 +9,9 @@ ghost use Rattle.mst_vlan.specs.Active.{active_ports as active_in, JoinWithoutLo
 ghost use Rattle.mst_vlan.specs.Seen.{seen_active};
 
 use crate::laws::joined_without_loop;
+use mst_forest::{Forest, Settled, forwards_in, vid_tree};
 use mst_ids::{BridgeNo, PortNo, Tree, Vid};
 use mst_lag::{PortInView, View};
-use mst_forest::{Forest, Settled, forwards_in, vid_tree};
 use std::alloc::{AllocError, Global};
 
 /// The active topology of a VID in a settled network: the logical ports that forward in their own bridge's tree of it, in
