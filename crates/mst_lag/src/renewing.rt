@@ -284,113 +284,114 @@ pub fn leaves_tables(change: &TreeChange) -> bool
     !matches!(change, TreeChange::Table { .. })
 }
 
-impl View {
-    /// Renews the view, which is that of the network before the state or the speed of this LAN was changed. It goes over three
-    /// lists, in one pass each, writes what is on the logical LAN alone, and takes memory for the members of that. `AllocError`:
-    /// memory was wanted and refused, and the view is as it was.
-    pub fn renew_lan<C: Contents>(
-        &mut self,
-        alloc: Global,
-        contents: &C,
-        lan: &Name,
-    ) -> Result<(), AllocError>
-        requires { IsViewButLan lan.now (C.tables contents.now).net (C.tables contents.now).numbers self.old }
-        ensures ok { OnOk result (IsView (C.tables contents.now).net (C.tables contents.now).numbers self.new) }
-        ensures err { OnErr result (self.new ≡ self.old) }
-    {
-        contents.known();
-        let logical = logical_of(self.member_lans.as_slice(), lan);
-        let total = total_now(alloc, contents, self.member_lans.as_slice(), &logical)?;
-        let is_up = is_up_now(contents, lan);
-        renew_members(&mut self.member_lans, lan, is_up);
-        renew_lans(&mut self.lans, &logical, total);
-        renew_ports(&mut self.ports, contents, &logical, total);
-        Ok(())
-    }
-    /// Renews the view, which is that of the network before another setting of this bridge was changed than its kind and its
-    /// system priority. It looks up each bridge, and goes over the list of ports in one pass. `AllocError`: memory was wanted
-    /// and refused, and the view is as it was.
-    pub fn renew_bridge<C: Contents>(
-        &mut self,
-        alloc: Global,
-        contents: &C,
-        bridge: &Name,
-    ) -> Result<(), AllocError>
-        requires { IsViewButBridge bridge.now (C.tables contents.now).net (C.tables contents.now).numbers self.old }
-        ensures ok { OnOk result (IsView (C.tables contents.now).net (C.tables contents.now).numbers self.new) }
-        ensures err { OnErr result (self.new ≡ self.old) }
-    {
-        contents.known();
-        let is_on = is_on_now(contents, bridge);
-        let bridges = bridges_again(alloc, contents)?;
-        self.bridges = bridges;
-        power_ports(&mut self.ports, bridge, is_on);
-        Ok(())
-    }
-    /// Renews the view, which is that of the network before something else was set by tree or VID than a table. It copies what
-    /// is set. `AllocError`: memory was wanted and refused, and the view is as it was.
-    pub fn renew_settings<C: Contents>(&mut self, contents: &C) -> Result<(), AllocError>
-        requires { IsViewButSettings (C.tables contents.now).net (C.tables contents.now).numbers self.old }
-        ensures ok { OnOk result (IsView (C.tables contents.now).net (C.tables contents.now).numbers self.new) }
-        ensures err { OnErr result (self.new ≡ self.old) }
-    {
-        let settings = contents.settings()?;
-        self.settings = settings;
-        Ok(())
-    }
+/// Renews the view, which is that of the network before the state or the speed of this LAN was changed. It goes over three
+/// lists, in one pass each, writes what is on the logical LAN alone, and takes memory for the members of that. `AllocError`:
+/// memory was wanted and refused, and the view is as it was.
+pub fn renew_lan<C: Contents>(
+    alloc: Global,
+    view: &mut View,
+    contents: &C,
+    lan: &Name,
+) -> Result<(), AllocError>
+    requires { IsViewButLan lan.now (C.tables contents.now).net (C.tables contents.now).numbers view.old }
+    ensures ok { OnOk result (IsView (C.tables contents.now).net (C.tables contents.now).numbers view.new) }
+    ensures err { OnErr result (view.new ≡ view.old) }
+{
+    contents.known();
+    let logical = logical_of(view.member_lans.as_slice(), lan);
+    let total = total_now(alloc, contents, view.member_lans.as_slice(), &logical)?;
+    let is_up = is_up_now(contents, lan);
+    renew_members(&mut view.member_lans, lan, is_up);
+    renew_lans(&mut view.lans, &logical, total);
+    renew_ports(&mut view.ports, contents, &logical, total);
+    Ok(())
+}
 
-    /// Renews the view, which is that of the network before something was set by tree or VID. It copies what is set, and goes
-    /// over the table of each bridge. `AllocError`: memory was wanted and refused, and the view is as it was.
-    pub fn renew_tables<C: Contents>(
-        &mut self,
-        alloc: Global,
-        contents: &C,
-    ) -> Result<(), AllocError>
-        requires { IsViewButSet (C.tables contents.now).net (C.tables contents.now).numbers self.old }
-        ensures ok { OnOk result (IsView (C.tables contents.now).net (C.tables contents.now).numbers self.new) }
-        ensures err { OnErr result (self.new ≡ self.old) }
-    {
-        let trees = listed_trees(alloc, contents, &self.bridges)?;
-        let settings = contents.settings()?;
-        self.trees = trees;
-        self.settings = settings;
-        Ok(())
-    }
-    /// Renews the view, which is that of the network before another setting of this port was changed than its key. It goes over
-    /// the list of ports in one pass, and takes no memory, so that no `AllocError` comes.
-    pub fn renew_port<C: Contents>(
-        &mut self,
-        _alloc: Global,
-        contents: &C,
-        port: &PortName,
-    ) -> Result<(), AllocError>
-        requires { IsViewButPort port.now (C.tables contents.now).net (C.tables contents.now).numbers self.old }
-        ensures ok { OnOk result (IsView (C.tables contents.now).net (C.tables contents.now).numbers self.new) }
-        ensures err { OnErr result (self.new ≡ self.old) }
-    {
-        let settings = settings_now(contents, port);
-        set_port(&mut self.ports, port, &settings);
-        Ok(())
-    }
+/// Renews the view, which is that of the network before another setting of this bridge was changed than its kind and its
+/// system priority. It looks up each bridge, and goes over the list of ports in one pass. `AllocError`: memory was wanted
+/// and refused, and the view is as it was.
+pub fn renew_bridge<C: Contents>(
+    alloc: Global,
+    view: &mut View,
+    contents: &C,
+    bridge: &Name,
+) -> Result<(), AllocError>
+    requires { IsViewButBridge bridge.now (C.tables contents.now).net (C.tables contents.now).numbers view.old }
+    ensures ok { OnOk result (IsView (C.tables contents.now).net (C.tables contents.now).numbers view.new) }
+    ensures err { OnErr result (view.new ≡ view.old) }
+{
+    contents.known();
+    let is_on = is_on_now(contents, bridge);
+    let bridges = bridges_again(alloc, contents)?;
+    view.bridges = bridges;
+    power_ports(&mut view.ports, bridge, is_on);
+    Ok(())
+}
 
-    /// Renews the view, which is that of the network before ports were plugged or unplugged or had other settings. It finds the
-    /// classes of links anew, and all that goes by them, and leaves the bridges, their trees, and what is set by tree or VID.
-    /// `AllocError`: memory was wanted and refused, and the view is as it was.
-    pub fn renew_links<C: Contents>(
-        &mut self,
-        alloc: Global,
-        contents: &C,
-    ) -> Result<(), AllocError>
-        requires { IsViewButPorts (C.tables contents.now).net (C.tables contents.now).numbers self.old }
-        ensures ok { OnOk result (IsView (C.tables contents.now).net (C.tables contents.now).numbers self.new) }
-        ensures err { OnErr result (self.new ≡ self.old) }
-    {
-        let links = links_now(alloc, contents)?;
-        self.ports = links.ports;
-        self.lans = links.lans;
-        self.member_lans = links.member_lans;
-        self.member_ports = links.member_ports;
-        self.lags = links.lags;
-        Ok(())
-    }
+/// Renews the view, which is that of the network before something else was set by tree or VID than a table. It copies what
+/// is set. `AllocError`: memory was wanted and refused, and the view is as it was.
+pub fn renew_settings<C: Contents>(view: &mut View, contents: &C) -> Result<(), AllocError>
+    requires { IsViewButSettings (C.tables contents.now).net (C.tables contents.now).numbers view.old }
+    ensures ok { OnOk result (IsView (C.tables contents.now).net (C.tables contents.now).numbers view.new) }
+    ensures err { OnErr result (view.new ≡ view.old) }
+{
+    let settings = contents.settings()?;
+    view.settings = settings;
+    Ok(())
+}
+
+/// Renews the view, which is that of the network before something was set by tree or VID. It copies what is set, and goes
+/// over the table of each bridge. `AllocError`: memory was wanted and refused, and the view is as it was.
+pub fn renew_tables<C: Contents>(
+    alloc: Global,
+    view: &mut View,
+    contents: &C,
+) -> Result<(), AllocError>
+    requires { IsViewButSet (C.tables contents.now).net (C.tables contents.now).numbers view.old }
+    ensures ok { OnOk result (IsView (C.tables contents.now).net (C.tables contents.now).numbers view.new) }
+    ensures err { OnErr result (view.new ≡ view.old) }
+{
+    let trees = listed_trees(alloc, contents, &view.bridges)?;
+    let settings = contents.settings()?;
+    view.trees = trees;
+    view.settings = settings;
+    Ok(())
+}
+
+/// Renews the view, which is that of the network before another setting of this port was changed than its key. It goes over
+/// the list of ports in one pass, and takes no memory, so that no `AllocError` comes.
+pub fn renew_port<C: Contents>(
+    _alloc: Global,
+    view: &mut View,
+    contents: &C,
+    port: &PortName,
+) -> Result<(), AllocError>
+    requires { IsViewButPort port.now (C.tables contents.now).net (C.tables contents.now).numbers view.old }
+    ensures ok { OnOk result (IsView (C.tables contents.now).net (C.tables contents.now).numbers view.new) }
+    ensures err { OnErr result (view.new ≡ view.old) }
+{
+    let settings = settings_now(contents, port);
+    set_port(&mut view.ports, port, &settings);
+    Ok(())
+}
+
+/// Renews the view, which is that of the network before ports were plugged or unplugged or had other settings. It finds the
+/// classes of links anew, and all that goes by them, and leaves the bridges, their trees, and what is set by tree or VID.
+/// `AllocError`: memory was wanted and refused, and the view is as it was.
+pub fn renew_links<C: Contents>(
+    alloc: Global,
+    view: &mut View,
+    contents: &C,
+) -> Result<(), AllocError>
+    requires { IsViewButPorts (C.tables contents.now).net (C.tables contents.now).numbers view.old }
+    ensures ok { OnOk result (IsView (C.tables contents.now).net (C.tables contents.now).numbers view.new) }
+    ensures err { OnErr result (view.new ≡ view.old) }
+{
+    let links = links_now(alloc, contents)?;
+    view.ports = links.ports;
+    view.lans = links.lans;
+    view.member_lans = links.member_lans;
+    view.member_ports = links.member_ports;
+    view.lags = links.lags;
+    Ok(())
 }

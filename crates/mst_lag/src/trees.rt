@@ -30,7 +30,7 @@ impl Model for RisingTrees {
 
 impl RisingTrees {
     /// These trees.
-    fn new(trees: Vec<Tree>) -> Self
+    pub(crate) fn new(trees: Vec<Tree>) -> Self
         requires { IsNonDecreasingBy (λ t. t) trees.items }
         ensures { result ≡ trees.items }
     {

@@ -8,7 +8,10 @@ ghost use Rattle.mst_trees.specs.Bound.{SettlesNoUnused};
 use mst_config::{Regions, regions_of};
 use mst_forest::Forest;
 use mst_lag::laws::{bridge_alone, lan_alone, port_alone, ports_alone, set_alone};
-use mst_lag::{View, leaves_key, leaves_links, leaves_tables, view};
+use mst_lag::{
+    View, leaves_key, leaves_links, leaves_tables, renew_bridge, renew_lan, renew_links,
+    renew_port, renew_settings, renew_tables, view,
+};
 use mst_lang::Edit;
 use mst_net::{Contents, Network};
 use mst_trees::repaired_forest;
@@ -137,24 +140,24 @@ fn renews_view(alloc: Global, network: &Network, view: &mut View, edit: &Edit) -
     ports_alone();
     set_alone();
     match edit {
-        Edit::SetLan { lan, change: _ } => view.renew_lan(alloc, network, lan).is_ok(),
+        Edit::SetLan { lan, change: _ } => renew_lan(alloc, view, network, lan).is_ok(),
         Edit::SetBridge { bridge, change } => {
-            leaves_links(change) && view.renew_bridge(alloc, network, bridge).is_ok()
+            leaves_links(change) && renew_bridge(alloc, view, network, bridge).is_ok()
         }
         Edit::SetPort { port, change } => {
             if leaves_key(change) {
-                view.renew_port(alloc, network, port).is_ok()
+                renew_port(alloc, view, network, port).is_ok()
             } else {
-                view.renew_links(alloc, network).is_ok()
+                renew_links(alloc, view, network).is_ok()
             }
         }
-        Edit::Plug { port: _, lan: _ } => view.renew_links(alloc, network).is_ok(),
-        Edit::Unplug { port: _ } => view.renew_links(alloc, network).is_ok(),
+        Edit::Plug { port: _, lan: _ } => renew_links(alloc, view, network).is_ok(),
+        Edit::Unplug { port: _ } => renew_links(alloc, view, network).is_ok(),
         Edit::SetByTree(change) => {
             if leaves_tables(change) {
-                view.renew_settings(network).is_ok()
+                renew_settings(view, network).is_ok()
             } else {
-                view.renew_tables(alloc, network).is_ok()
+                renew_tables(alloc, view, network).is_ok()
             }
         }
         _ => false,

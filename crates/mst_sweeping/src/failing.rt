@@ -8,7 +8,7 @@ ghost use Rattle.mst_sweeping.specs.Sweeping.{IsViewBut};
 use mst_config::Regions;
 use mst_config::laws::regions_stay;
 use mst_forest::Forest;
-use mst_lag::View;
+use mst_lag::{View, renew_bridge, renew_lan};
 use mst_net::{Contents, Network};
 use mst_plan::{Plan, repaired_forest};
 use mst_sweep::{Failing, Failure};
@@ -81,7 +81,7 @@ pub(crate) fn renew<C: Contents>(
     ensures { OnOk result (IsView (C.tables contents.now).net (C.tables contents.now).numbers seen.new) }
 {
     match failure {
-        Failure::Lan(lan) => seen.renew_lan(alloc, contents, lan),
-        Failure::Bridge(bridge) => seen.renew_bridge(alloc, contents, bridge),
+        Failure::Lan(lan) => renew_lan(alloc, seen, contents, lan),
+        Failure::Bridge(bridge) => renew_bridge(alloc, seen, contents, bridge),
     }
 }

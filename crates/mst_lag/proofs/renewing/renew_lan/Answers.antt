@@ -7,20 +7,20 @@ use Rattle.mst_lag.specs.contracts.in_view.View.{the_view}
 use Rattle.mst_lag.specs.declared.in_view.MemberLan.{MemberLan}
 use Rattle.mst_lag.specs.declared.members.LanSeen.{LanSeen}
 use Rattle.mst_lag.proofs.Renewal.{few_members, is_view}
-use Rattle.mst_lag.proofs.in_view.View.renew_lan.Goals as goal
+use Rattle.mst_lag.proofs.renewing.renew_lan.Goals as goal
 
 pub total_now-requires : goal.total_now-requires
 total_now-requires g c =
     let t = g.C.Contents.tables c.args.contents.now in
-    let v : Viewed = the_view c.self.inside in
-    let was : IsViewButLan c.args.lan.now t.net t.numbers v = subst (IsViewButLan c.args.lan.now t.net t.numbers) (sym c.self.view_is) c.requires in
+    let v : Viewed = the_view c.view.inside in
+    let was : IsViewButLan c.args.lan.now t.net t.numbers v = subst (IsViewButLan c.args.lan.now t.net t.numbers) (sym c.view.view_is) c.requires in
     subst (λ (ms : List MemberLan). length ms ≤ 8192) (sym c.as_slice-2.ensures.value) (few_members c.args.lan.now t.net t.numbers v was c.known.ensures.network)
 
 pub returns-clause-ok : goal.returns-clause-ok
 returns-clause-ok g c =
     let t = g.C.Contents.tables c.args.contents.now in
-    let v : Viewed = the_view c.self.inside in
-    let was : IsViewButLan c.args.lan.now t.net t.numbers v = subst (IsViewButLan c.args.lan.now t.net t.numbers) (sym c.self.view_is) c.requires in
+    let v : Viewed = the_view c.view.inside in
+    let was : IsViewButLan c.args.lan.now t.net t.numbers v = subst (IsViewButLan c.args.lan.now t.net t.numbers) (sym c.view.view_is) c.requires in
     let at = c.logical_of-logical.result in
     let total = c.in_ok-total.total in
     is_view c.args.lan.now t.net t.numbers v was c.known.ensures.numbered

@@ -4,11 +4,11 @@ use Rattle.mst_lag.specs.Renewed.{IsViewButSet}
 use Rattle.mst_lag.specs.contracts.in_view.View.{the_view}
 use Rattle.mst_lag.specs.declared.trees.TreesInView.{TreesInView}
 use Rattle.mst_lag.proofs.SetAlone.{is_set}
-use Rattle.mst_lag.proofs.in_view.View.renew_tables.Goals as goal
+use Rattle.mst_lag.proofs.renewing.renew_tables.Goals as goal
 
 pub returns-clause-ok : goal.returns-clause-ok
 returns-clause-ok g c =
     let t = g.C.Contents.tables c.args.contents.now in
-    let v : Viewed = the_view c.self.inside in
-    is_set t.net t.numbers v (subst (IsViewButSet t.net t.numbers) (sym c.self.view_is) c.requires)
+    let v : Viewed = the_view c.view.inside in
+    is_set t.net t.numbers v (subst (IsViewButSet t.net t.numbers) (sym c.view.view_is) c.requires)
     (map (λ (x : TreesInView). (x.bridge, x.trees)) c.in_ok-trees.trees) c.in_ok-trees.ensures c.in_ok-settings.settings.set c.in_ok-settings.ensures

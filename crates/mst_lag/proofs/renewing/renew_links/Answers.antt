@@ -3,10 +3,10 @@ use Rattle.mst_lag.specs.Viewed.{Viewed}
 use Rattle.mst_lag.specs.Renewed.{IsViewButPorts}
 use Rattle.mst_lag.specs.contracts.in_view.View.{the_view}
 use Rattle.mst_lag.proofs.PortsAlone.{is_linked}
-use Rattle.mst_lag.proofs.in_view.View.renew_links.Goals as goal
+use Rattle.mst_lag.proofs.renewing.renew_links.Goals as goal
 
 pub returns-clause-ok : goal.returns-clause-ok
 returns-clause-ok g c =
     let t = g.C.Contents.tables c.args.contents.now in
-    let v : Viewed = the_view c.self.inside in
-    is_linked t.net t.numbers v (subst (IsViewButPorts t.net t.numbers) (sym c.self.view_is) c.requires) c.in_ok-links.links c.in_ok-links.ensures
+    let v : Viewed = the_view c.view.inside in
+    is_linked t.net t.numbers v (subst (IsViewButPorts t.net t.numbers) (sym c.view.view_is) c.requires) c.in_ok-links.links c.in_ok-links.ensures
