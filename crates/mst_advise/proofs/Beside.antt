@@ -5,8 +5,8 @@ use Rattle.std.specs.List.{Contains}
 use Rattle.std.specs.Option.{option_and_then}
 use Rattle.std.specs.FinMap as fin
 use Rattle.mst_outcome.specs.Assignment.{designated_of}
-use Rattle.mst_lag.specs.Viewed.{named_port}
-use Rattle.mst_lag.specs.declared.in_view.PortInView.{PortInView}
+use Rattle.mst_view.specs.Viewed.{named_port}
+use Rattle.mst_view.specs.declared.in_view.PortInView.{PortInView}
 use Rattle.mst_forest.specs.Forest.{designated_in, msti_designated}
 use Rattle.mst_forest.specs.Settled.{SettledNet, IsSettledNet, name_of_port, outcome_of}
 use Rattle.mst_forest.proofs.Seen.{port_seen}

@@ -4,7 +4,7 @@ use Rattle.std.specs.List.{Contains, find}
 use Rattle.std.proofs.lemmas.Bool.{and_parts, and_from}
 use Rattle.mst_graph.proofs.Members.{from_filter, in_filter, passing}
 use Rattle.mst_ids.specs.declared.name.PortName.{PortName}
-use Rattle.mst_lag.specs.View.{LogicalPort, view_ports}
+use Rattle.mst_view.specs.View.{LogicalPort, view_ports}
 use Rattle.mst_policy.specs.Items as policy
 use Rattle.mst_policy.specs.declared.expectation.Expectation.TheVariants as expect
 use Rattle.mst_net.specs.tables.Tables.{Net, port_eq}

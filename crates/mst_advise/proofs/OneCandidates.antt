@@ -1,6 +1,6 @@
 -- There is one list of candidates, where a port has one explanation in a tree.
 use Rattle.std.proofs.Common.{◌≡◌, ℕ, List, map, Option, Some, None, sym, ap, ◌∙◌}
-use Rattle.mst_lag.specs.View.{LogicalPort}
+use Rattle.mst_view.specs.View.{LogicalPort}
 use Rattle.mst_rows.specs.Rows.{Row}
 use Rattle.mst_net.specs.tables.Tables.{Net}
 use Rattle.mst_forest.specs.Roles.{role_in}

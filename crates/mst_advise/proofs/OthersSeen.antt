@@ -6,7 +6,7 @@ use Rattle.std.specs.Option.{option_map_or}
 use Rattle.std.specs.FinMap as fin
 use Rattle.mst_graph.proofs.Members.{from_filter}
 use Rattle.mst_ids.specs.Identifiers.{bridge_id}
-use Rattle.mst_lag.specs.Aggregation.{same_name}
+use Rattle.mst_view.specs.Aggregation.{same_name}
 use Rattle.mst_net.specs.tables.ByTree.{by_tree}
 use Rattle.mst_net.specs.tables.Tables.{Net, BridgeRow}
 use Rattle.mst_forest.specs.InUse.{id_in}

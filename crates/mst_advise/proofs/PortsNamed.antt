@@ -6,10 +6,10 @@ use Rattle.std.specs.Option.{option_map, option_map_or}
 use Rattle.std.specs.FinMap as fin
 use Rattle.std.proofs.lemmas.Bool.{eqb-true}
 use Rattle.mst_ids.specs.declared.name.PortName.{PortName}
-use Rattle.mst_lag.specs.Trees.{mstis_of, is_among}
-use Rattle.mst_lag.specs.View.{LogicalPort}
-use Rattle.mst_lag.specs.Viewed.{named_port}
-use Rattle.mst_lag.specs.declared.in_view.PortInView.{PortInView}
+use Rattle.mst_view.specs.Trees.{mstis_of, is_among}
+use Rattle.mst_view.specs.View.{LogicalPort}
+use Rattle.mst_view.specs.Viewed.{named_port}
+use Rattle.mst_view.specs.declared.in_view.PortInView.{PortInView}
 use Rattle.mst_net.specs.tables.Tables.{Net, BridgeRow, port_eq}
 use Rattle.mst_forest.specs.Roles.{cist_role, msti_role, role_in}
 use Rattle.mst_forest.specs.declared.kind.Role.{Role}

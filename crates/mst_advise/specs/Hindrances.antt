@@ -2,7 +2,7 @@
 use Rattle.std.specs.Prelude.{ℕ, ◌==◌, not, Bool, false, List, [], Option, None, Some, filter, if◌then◌else◌}
 use Rattle.std.specs.Option.{option_and_then, option_map_or}
 use Rattle.std.specs.FinMap as fin
-use Rattle.mst_lag.specs.View.{LogicalPort, is_on}
+use Rattle.mst_view.specs.View.{LogicalPort, is_on}
 use Rattle.mst_net.specs.tables.ByTree.{by_tree}
 use Rattle.mst_net.specs.tables.Tables.{Net}
 use Rattle.mst_forest.specs.InUse.{id_in}

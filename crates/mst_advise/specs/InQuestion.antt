@@ -2,8 +2,8 @@
 use Rattle.std.specs.Prelude.{◌≡◌, ℕ, ◌==◌, List, [], ◌++◌, Option, None, Some, if◌then◌else◌}
 use Rattle.std.specs.Option.{option_map_or}
 use Rattle.mst_ids.specs.declared.name.PortName.{PortName}
-use Rattle.mst_lag.specs.Aggregation.{same_name}
-use Rattle.mst_lag.specs.View.{LogicalPort}
+use Rattle.mst_view.specs.Aggregation.{same_name}
+use Rattle.mst_view.specs.View.{LogicalPort}
 use Rattle.mst_rows.specs.Rows.{Row}
 use Rattle.mst_net.specs.tables.Tables.{Net}
 use Rattle.mst_forest.specs.Roles.{role_in}

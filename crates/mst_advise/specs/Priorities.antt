@@ -4,7 +4,7 @@ use Rattle.std.specs.List.{list_all}
 use Rattle.std.specs.Option.{option_map_or}
 use Rattle.std.specs.FinMap as fin
 use Rattle.mst_ids.specs.Identifiers.{bridge_id}
-use Rattle.mst_lag.specs.Aggregation.{same_name}
+use Rattle.mst_view.specs.Aggregation.{same_name}
 use Rattle.mst_net.specs.tables.ByTree.{priority_in}
 use Rattle.mst_net.specs.tables.Tables.{Net}
 use Rattle.mst_forest.specs.Outcome.{Outcome}

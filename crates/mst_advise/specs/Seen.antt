@@ -2,7 +2,7 @@
 use Rattle.std.specs.Prelude.{ℕ, ◌==◌, not, Bool, List, Option, None, Some, filter, map, nat_lt, if◌then◌else◌}
 use Rattle.std.specs.List.{list_all}
 use Rattle.mst_ids.specs.Identifiers.{bridge_id}
-use Rattle.mst_lag.specs.Aggregation.{same_name}
+use Rattle.mst_view.specs.Aggregation.{same_name}
 use Rattle.mst_verify.specs.summary.declared.roots.Follower.{Follower}
 use Rattle.mst_net.specs.tables.Tables.{Net}
 use Rattle.mst_forest.specs.Outcome.{Outcome}

@@ -1,6 +1,6 @@
 -- The edits that make settings, and which settings are the same.
 use Rattle.std.specs.Prelude.{◌==◌, ◌&&◌, Bool, false, Some, List, [], ◌∷◌}
-use Rattle.mst_lag.specs.Aggregation.{same_name}
+use Rattle.mst_view.specs.Aggregation.{same_name}
 use Rattle.mst_lang.specs.declared.line.Edit.{Edit}
 use Rattle.mst_lang.specs.declared.line.Edit.TheVariants.{SetByTree, SetPort}
 use Rattle.mst_lang.specs.declared.line.PortChange.TheVariants.{PathCost}

@@ -1,8 +1,8 @@
 ghost use Rattle.std.specs.Prelude.{◌≡◌, IfOk, filter_map};
 ghost use Rattle.std.specs.List.{Contains};
 ghost use Rattle.std.specs.Option.{option_and_then};
-ghost use Rattle.mst_lag.specs.View.{is_on as is_on_in};
-ghost use Rattle.mst_lag.specs.Viewed.{named_port};
+ghost use Rattle.mst_view.specs.View.{is_on as is_on_in};
+ghost use Rattle.mst_view.specs.Viewed.{named_port};
 ghost use Rattle.mst_net.specs.tables.Seen.{bridge_row};
 ghost use Rattle.mst_net.specs.tables.ByTree.{by_tree};
 ghost use Rattle.mst_forest.specs.InUse.{id_in};
@@ -15,7 +15,7 @@ use crate::goal::Goal;
 use crate::named::port_named;
 use mst_forest::{Settled, bridge_id};
 use mst_ids::{BridgeId, Name, PortName, Tree};
-use mst_lag::{BridgeInView, PortInView};
+use mst_view::{BridgeInView, PortInView};
 use mst_verify::{Follower, bridge_named, followers};
 use std::alloc::{AllocError, Global};
 

@@ -1,6 +1,6 @@
 ghost use Rattle.std.specs.Prelude.{◌≡◌, ◌↔◌, not, IfOk, IsTrue, None};
 ghost use Rattle.std.specs.List.{Contains};
-ghost use Rattle.mst_lag.specs.Viewed.{named_port};
+ghost use Rattle.mst_view.specs.Viewed.{named_port};
 ghost use Rattle.mst_policy.specs.declared.expectation.Expectation.TheVariants as expect;
 ghost use Rattle.mst_forest.specs.Roles.{role_in};
 ghost use Rattle.mst_net.specs.tables.Tables.{Net};
@@ -17,7 +17,7 @@ use crate::goal::Goal;
 use crate::named::port_named;
 use mst_forest::{Settled, role_of};
 use mst_ids::{Name, PortName, Tree, VidSet};
-use mst_lag::PortInView;
+use mst_view::PortInView;
 use mst_policy::Expectation;
 use mst_verify::laws::told_where_broken;
 use mst_verify::{Before, Homes, Judged, Reason, reasons};

@@ -1,7 +1,7 @@
 ghost use Rattle.std.specs.Prelude.{◌≡◌, ◌==◌, ◌||◌, ◌++◌, [], true, IfOk, OnOk};
 ghost use Rattle.std.specs.List.{Contains};
 ghost use Rattle.std.specs.Option.{option_map_or};
-ghost use Rattle.mst_lag.specs.Viewed.{named_port};
+ghost use Rattle.mst_view.specs.Viewed.{named_port};
 ghost use Rattle.mst_forest.specs.Roles.{role_in};
 ghost use Rattle.mst_forest.specs.Msti.{has_msti};
 ghost use Rattle.mst_forest.specs.Settled.{name_of_port, outcome_of};
@@ -18,7 +18,7 @@ use mst_explain::laws::some_explained;
 use mst_explain::put_explanation;
 use mst_forest::{Settled, role_of};
 use mst_ids::{PortName, PortNo, Tree};
-use mst_lag::PortInView;
+use mst_view::PortInView;
 use std::alloc::{AllocError, Global};
 
 /// The name of the port of this number.

@@ -10,7 +10,7 @@ ghost use Rattle.mst_advise.specs.Seen.{ids_of as ids, seen_first, seen_next, se
 use crate::setting::Setting;
 use mst_forest::{Settled, bridge_id};
 use mst_ids::{BridgeId, Mac, Name, Priority, Tree};
-use mst_lag::BridgeInView;
+use mst_view::BridgeInView;
 use mst_verify::{Follower, all_but, bridge_named, followers};
 use std::alloc::{AllocError, Global};
 

@@ -8,7 +8,7 @@ use Rattle.std.proofs.lemmas.Bool.{eq-eqb, lt-ltb, ltb-false, ltb-true}
 use Rattle.mst_graph.specs.Groups.{StandOnce}
 use Rattle.mst_graph.proofs.Members.{from_filter, in_filter}
 use Rattle.mst_ids.specs.Identifiers.{bridge_id}
-use Rattle.mst_lag.specs.Aggregation.{same_name}
+use Rattle.mst_view.specs.Aggregation.{same_name}
 use Rattle.mst_tables.specs.ByTree.{priority_in}
 use Rattle.mst_tables.specs.Tables.{Net, BridgeRow, IsNetwork, bridge_tree_cmp}
 use Rattle.mst_rows.specs.Rows.{Row}

@@ -19,7 +19,7 @@ use Rattle.mst_changes.specs.declared.value.VectorOrRole.TheVariants.{HasRole}
 use Rattle.mst_changes.specs.declared.subject.Entry.{Entry}
 use Rattle.mst_changes.specs.declared.kept.TreeEntries.{TreeEntries}
 use Rattle.mst_changes.specs.Subjects.{subjects_in}
-use Rattle.mst_lag.specs.View.{bridge_names, port_names}
+use Rattle.mst_view.specs.View.{bridge_names, port_names}
 use Rattle.mst_changes.specs.Values.{value_at}
 use Rattle.mst_changes.specs.Kept.{entry_at, entries_at, entries_of}
 use Rattle.mst_changes.specs.Stored.{bridge_entry, port_entry, kept_in}

@@ -12,8 +12,8 @@ use Rattle.mst_ids.specs.declared.name.PortName.{PortName}
 use Rattle.mst_tables.specs.Tables.{Net, BridgeRow, port_eq}
 use Rattle.mst_tables.proofs.Keyed.{flipped}
 use Rattle.mst_tables.proofs.Keys.{names, ports}
-use Rattle.mst_lag.specs.Trees.{mstis_of, is_among}
-use Rattle.mst_lag.specs.View.{LogicalPort, view_ports, bridge_names, port_names}
+use Rattle.mst_view.specs.Trees.{mstis_of, is_among}
+use Rattle.mst_view.specs.View.{LogicalPort, view_ports, bridge_names, port_names}
 use Rattle.mst_forest.specs.Apart.{Apart}
 use Rattle.mst_forest.specs.Msti.{has_msti}
 use Rattle.mst_forest.specs.Outcome.{Outcome}

@@ -9,11 +9,11 @@ use Rattle.std.proofs.lemmas.List.Elements.{filter_map-append}
 use Rattle.mst_ids.specs.declared.name.PortName.{PortName}
 use Rattle.mst_outcome.specs.Assignment.{vector_of}
 use Rattle.mst_tables.specs.Tables.{Net, Numbers, BridgeRow}
-use Rattle.mst_lag.specs.Trees.{is_among}
-use Rattle.mst_lag.specs.View.{LogicalPort, view_ports, bridge_names, port_names}
-use Rattle.mst_lag.specs.Viewed.{Viewed, named_bridge, named_port}
-use Rattle.mst_lag.specs.declared.in_view.BridgeInView.{BridgeInView}
-use Rattle.mst_lag.specs.declared.in_view.PortInView.{PortInView}
+use Rattle.mst_view.specs.Trees.{is_among}
+use Rattle.mst_view.specs.View.{LogicalPort, view_ports, bridge_names, port_names}
+use Rattle.mst_view.specs.Viewed.{Viewed, named_bridge, named_port}
+use Rattle.mst_view.specs.declared.in_view.BridgeInView.{BridgeInView}
+use Rattle.mst_view.specs.declared.in_view.PortInView.{PortInView}
 use Rattle.mst_forest.specs.Agrees.{AreOf}
 use Rattle.mst_forest.specs.Forest.{Forest, IsForest, msti_vector}
 use Rattle.mst_forest.specs.InUse.{is_in_use}

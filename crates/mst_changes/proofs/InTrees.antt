@@ -7,7 +7,7 @@ use Rattle.mst_forest.specs.Outcome.{Outcome}
 use Rattle.mst_changes.specs.declared.subject.Subject.{Subject}
 use Rattle.mst_forest.specs.AllTrees.{all_trees}
 use Rattle.mst_changes.specs.Subjects.{subjects_in, names_of_either}
-use Rattle.mst_lag.specs.View.{bridge_names, port_names}
+use Rattle.mst_view.specs.View.{bridge_names, port_names}
 use Rattle.mst_changes.specs.Values.{value_at}
 use Rattle.mst_changes.specs.ChangesText.{change_rows, all_changes}
 use Rattle.mst_changes.specs.TreeChanges.{tree_changes}

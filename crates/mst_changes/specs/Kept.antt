@@ -8,7 +8,7 @@ use Rattle.mst_changes.specs.declared.value.VectorOrRole.{VectorOrRole}
 use Rattle.mst_changes.specs.declared.subject.Entry.{Entry}
 use Rattle.mst_changes.specs.declared.entries.Entries.{Entries}
 use Rattle.mst_changes.specs.Subjects.{subjects_of, subjects_in}
-use Rattle.mst_lag.specs.View.{bridge_names, port_names}
+use Rattle.mst_view.specs.View.{bridge_names, port_names}
 use Rattle.mst_changes.specs.Values.{value_at}
 use Rattle.mst_changes.specs.Stored.{kept_entries}
 

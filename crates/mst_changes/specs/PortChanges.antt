@@ -5,7 +5,7 @@ use Rattle.mst_rows.specs.Rows.{Row}
 use Rattle.mst_tables.specs.Tables.{Net}
 use Rattle.mst_forest.specs.Outcome.{Outcome}
 use Rattle.mst_changes.specs.Subjects.{names_of_either, port_in}
-use Rattle.mst_lag.specs.View.{port_names}
+use Rattle.mst_view.specs.View.{port_names}
 use Rattle.mst_changes.specs.Values.{value_at}
 use Rattle.mst_changes.specs.ChangesText.{rows_at}
 

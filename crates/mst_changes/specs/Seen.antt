@@ -2,10 +2,10 @@
 use Rattle.std.specs.Prelude.{ℕ, ◌==◌, Option, None, if◌then◌else◌}
 use Rattle.std.specs.Option.{option_map}
 use Rattle.mst_outcome.specs.Assignment.{vector_of}
-use Rattle.mst_lag.specs.Trees.{is_among}
-use Rattle.mst_lag.specs.Viewed.{Viewed}
-use Rattle.mst_lag.specs.declared.in_view.BridgeInView.{BridgeInView}
-use Rattle.mst_lag.specs.declared.in_view.PortInView.{PortInView}
+use Rattle.mst_view.specs.Trees.{is_among}
+use Rattle.mst_view.specs.Viewed.{Viewed}
+use Rattle.mst_view.specs.declared.in_view.BridgeInView.{BridgeInView}
+use Rattle.mst_view.specs.declared.in_view.PortInView.{PortInView}
 use Rattle.mst_forest.specs.Seen.{trees_at}
 use Rattle.mst_forest.specs.Forest.{Forest, msti_vector}
 use Rattle.mst_forest.specs.SeenRoles.{seen_role}

@@ -13,7 +13,7 @@ use Rattle.mst_changes.specs.declared.subject.Item.TheVariants.{Bridge, Port}
 use Rattle.mst_changes.specs.declared.subject.Subject.{Subject}
 use Rattle.mst_changes.specs.declared.subject.Entry.{Entry}
 use Rattle.mst_forest.specs.AllTrees.{all_trees}
-use Rattle.mst_lag.specs.View.{bridge_names, port_names}
+use Rattle.mst_view.specs.View.{bridge_names, port_names}
 
 abbrev pub bridge_in : ℕ → List ℕ → Subject
 bridge_in tree name = record { tree = tree; item = Bridge name }

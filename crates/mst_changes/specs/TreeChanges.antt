@@ -6,7 +6,7 @@ use Rattle.mst_tables.specs.Tables.{Net}
 use Rattle.mst_forest.specs.Outcome.{Outcome}
 use Rattle.mst_changes.specs.declared.subject.Subject.{Subject}
 use Rattle.mst_changes.specs.Subjects.{names_of_either, subjects_in}
-use Rattle.mst_lag.specs.View.{bridge_names, port_names}
+use Rattle.mst_view.specs.View.{bridge_names, port_names}
 use Rattle.mst_changes.specs.Values.{value_at}
 use Rattle.mst_changes.specs.ChangesText.{rows_at}
 

@@ -9,7 +9,7 @@ use crate::subject::{Entry, Item};
 use crate::value::VectorOrRole;
 use mst_forest::{Forest, Role, port_role};
 use mst_ids::{Name, PortName, Tree};
-use mst_lag::View;
+use mst_view::View;
 use std::alloc::{AllocError, Global};
 
 /// What is kept of a tree: the root priority vectors of the network's bridges and the roles of its logical ports, in

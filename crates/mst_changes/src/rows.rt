@@ -9,7 +9,7 @@ use crate::subject::{Entry, Item};
 use crate::value::VectorOrRole;
 use mst_forest::{Forest, Settled, is_had, port_role};
 use mst_ids::{BridgeNo, Tree};
-use mst_lag::{BridgeInView, PortInView, View};
+use mst_view::{BridgeInView, PortInView, View};
 use std::alloc::AllocError;
 
 /// The root priority vector of a bridge in a tree, where the bridge is on and has the tree.

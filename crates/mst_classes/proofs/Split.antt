@@ -6,7 +6,7 @@ use Rattle.std.proofs.lemmas.List.{take_more, get_or_default, get_or_past}
 use Rattle.std.proofs.lemmas.List.FromFn.{map-range_with_len_more, get_or-map-range_with_len, length-map-range_with_len}
 use Rattle.mst_ids.specs.Vids.{has}
 use Rattle.mst_graph.specs.Numbers.{AreNumbers}
-use Rattle.mst_lag.proofs.Lists.{all_pushed}
+use Rattle.mst_view.proofs.Lists.{all_pushed}
 use Rattle.mst_tables.specs.Table.{tree_in}
 use Rattle.mst_classes.specs.Alike.{TellApart, IsSplit, SplitBySets, keys_to}
 

@@ -9,7 +9,7 @@ use Rattle.mst_ids.specs.Vids.{has}
 use Rattle.mst_classes.specs.Alike.{IsSplit, SplitBySets}
 use Rattle.mst_classes.specs.Splitting.{AreApart, IsReady}
 use Rattle.mst_classes.specs.declared.splitting.Splitting.{Splitting}
-use Rattle.mst_lag.proofs.Lists.{all_weaker, all_of, all_pushed}
+use Rattle.mst_view.proofs.Lists.{all_weaker, all_of, all_pushed}
 use Rattle.mst_classes.proofs.Gathered.{all_contained, met_more, known_same, known_there, new_pushed}
 
 -- the sets so far were met, and each that was met split the numbers

@@ -7,8 +7,8 @@ use Rattle.std.proofs.lemmas.Bool.Decides.{nat_tests}
 use Rattle.mst_ids.specs.Vids.{has, set_where, is_within}
 use Rattle.mst_ids.specs.VidBits.{has-set_where}
 use Rattle.mst_ids.proofs.VidSetLemmas.{set_where-same}
-use Rattle.mst_lag.specs.Trees.{is_among}
-use Rattle.mst_lag.proofs.Lists.{map_itself}
+use Rattle.mst_view.specs.Trees.{is_among}
+use Rattle.mst_view.proofs.Lists.{map_itself}
 use Rattle.mst_classes.specs.AllVids.{all_vids}
 
 within_one : (v n : ℕ) → is_within (v, v) n ≡ (v == n)

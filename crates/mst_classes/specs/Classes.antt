@@ -4,7 +4,7 @@ use Rattle.std.specs.List.{AllByRecursion, Contains}
 use Rattle.mst_graph.specs.Numbers.{AreNumbers}
 use Rattle.mst_graph.specs.declared.keys.Numbering.{Numbering}
 use Rattle.mst_tables.specs.ByTree.{table_in, vlans_in}
-use Rattle.mst_lag.specs.Viewed.{Viewed}
+use Rattle.mst_view.specs.Viewed.{Viewed}
 use Rattle.mst_classes.specs.Alike.{TellApart}
 
 -- VIDs of one class have one tree in each table and are in the same sets of VLANs of ports

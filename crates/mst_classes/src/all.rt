@@ -1,6 +1,6 @@
 ghost use Rattle.std.specs.Prelude.{◌≡◌, IfOk};
 ghost use Rattle.mst_ids.specs.Vids.{set_where};
-ghost use Rattle.mst_lag.specs.Trees.{is_among};
+ghost use Rattle.mst_view.specs.Trees.{is_among};
 ghost use Rattle.mst_classes.specs.AllVids.{all_vids};
 
 use mst_ids::{Vid, VidSet};

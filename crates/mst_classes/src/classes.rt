@@ -6,7 +6,7 @@ use crate::alike::numbers_of_vids;
 use crate::distinct::{meet_sets, meet_tables, tables, vlan_sets};
 use indexmap::IndexSet;
 use mst_graph::{Numbering, number_keys};
-use mst_lag::View;
+use mst_view::View;
 use std::alloc::{AllocError, Global};
 
 /// Classes of VIDs that no table and no set of VLANs of a port tells apart. `AllocError`: memory was wanted and refused.

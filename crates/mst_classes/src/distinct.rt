@@ -5,7 +5,7 @@ ghost use Rattle.mst_tables.specs.ByTree.{table_in, vlans_in};
 
 use indexmap::IndexSet;
 use mst_ids::VidSet;
-use mst_lag::View;
+use mst_view::View;
 use mst_tables::Table;
 use std::alloc::{AllocError, Global};
 

@@ -12,11 +12,11 @@ use Rattle.mst_tables.specs.Tables.{Net, Numbers, BridgeRow, port_eq}
 use Rattle.mst_tables.specs.After.{table_of}
 use Rattle.mst_tables.specs.ByTree.{by_tree, table_in}
 use Rattle.mst_tables.specs.Seen.{bridge_row}
-use Rattle.mst_lag.specs.Trees.{mstis_of}
-use Rattle.mst_lag.specs.View.{LogicalPort, view_ports}
-use Rattle.mst_lag.specs.Viewed.{Viewed, named_port}
-use Rattle.mst_lag.specs.declared.in_view.BridgeInView.{BridgeInView}
-use Rattle.mst_lag.proofs.Placing.{pair_found}
+use Rattle.mst_view.specs.Trees.{mstis_of}
+use Rattle.mst_view.specs.View.{LogicalPort, view_ports}
+use Rattle.mst_view.specs.Viewed.{Viewed, named_port}
+use Rattle.mst_view.specs.declared.in_view.BridgeInView.{BridgeInView}
+use Rattle.mst_view.proofs.Placing.{pair_found}
 use Rattle.mst_config.specs.Regions.{region_of}
 use Rattle.mst_forest.specs.Sight.{named_bridge as bridge_in_sight}
 use Rattle.mst_forest.specs.Cist.{cist_bridge, cist_sight}

@@ -7,9 +7,9 @@ use Rattle.mst_outcome.specs.Assignment.{vector_of}
 use Rattle.mst_tables.specs.Tables.{BridgeRow}
 use Rattle.mst_tables.specs.ByTree.{table_in}
 use Rattle.mst_tables.specs.Seen.{bridge_row}
-use Rattle.mst_lag.specs.Viewed.{Viewed, named_port}
-use Rattle.mst_lag.specs.declared.in_view.BridgeInView.{BridgeInView}
-use Rattle.mst_lag.specs.declared.in_view.PortInView.{PortInView}
+use Rattle.mst_view.specs.Viewed.{Viewed, named_port}
+use Rattle.mst_view.specs.declared.in_view.BridgeInView.{BridgeInView}
+use Rattle.mst_view.specs.declared.in_view.PortInView.{PortInView}
 use Rattle.mst_forest.specs.Seen.{trees_at}
 use Rattle.mst_forest.specs.Forest.{msti_vector, Forest}
 use Rattle.mst_forest.specs.SeenRoles.{seen_role}

@@ -6,8 +6,8 @@ use Rattle.std.specs.FinMap as fin
 use Rattle.mst_ids.specs.Identifiers.{mac_of, port_number_of}
 use Rattle.mst_ids.specs.declared.name.PortName.{PortName}
 use Rattle.mst_tables.specs.Tables.{Net, BridgeRow}
-use Rattle.mst_lag.specs.Aggregation.{same_name}
-use Rattle.mst_lag.specs.View.{LogicalPort, view_ports}
+use Rattle.mst_view.specs.Aggregation.{same_name}
+use Rattle.mst_view.specs.View.{LogicalPort, view_ports}
 use Rattle.mst_bpdu.specs.Sender.{bridge_of, port_of}
 use Rattle.mst_bpdu.specs.declared.bpdu.Bpdu.{Bpdu}
 use Rattle.mst_bpdu.specs.declared.bpdu.Bpdu.TheVariants.{Rst, Mst}

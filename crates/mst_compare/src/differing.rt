@@ -11,7 +11,7 @@ use crate::planned::planned;
 use crate::senders::{Origin, sender_in};
 use mst_bpdu::{Bpdu, BpduFault, Difference, differences};
 use mst_forest::{Forest, Settled};
-use mst_lag::View;
+use mst_view::View;
 use mst_tables::Contents;
 use std::alloc::{AllocError, Global};
 

@@ -12,7 +12,7 @@ use crate::senders::Origin;
 use mst_bpdu::{ConfigurationId, Planned, PlannedCist, PlannedMsti, PlannedMstis, RoleCode};
 use mst_forest::{Forest, Role, port_role};
 use mst_ids::{BridgeId, PortId, PortName, Tree, padded};
-use mst_lag::{PortInView, View};
+use mst_view::{PortInView, View};
 use mst_tables::{Bridge, TreeSettings};
 use mst_vector::{CistVector, MstiVector};
 use std::alloc::{AllocError, Global};

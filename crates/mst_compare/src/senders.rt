@@ -3,7 +3,7 @@ ghost use Rattle.std.specs.List.{find};
 ghost use Rattle.std.specs.Option.{option_copied, option_map};
 ghost use Rattle.mst_ids.specs.Identifiers.{port_number_of};
 ghost use Rattle.mst_tables.specs.After.{is_rstp};
-ghost use Rattle.mst_lag.specs.Viewed.{named_port};
+ghost use Rattle.mst_view.specs.Viewed.{named_port};
 ghost use Rattle.mst_bpdu.specs.Sender.{port_of as port_id_of};
 ghost use Rattle.mst_compare.specs.Sender.{sends as is_sent_by, is_port, sender_of};
 ghost use Rattle.mst_compare.specs.Seen.{seen_sender};
@@ -11,7 +11,7 @@ ghost use Rattle.mst_compare.specs.Seen.{seen_sender};
 use mst_bpdu::Bpdu;
 use mst_forest::Settled;
 use mst_ids::{Mac, Name, PortName};
-use mst_lag::{BridgeInView, PortInView, View};
+use mst_view::{BridgeInView, PortInView, View};
 use mst_lang::Kind;
 
 /// Who sent a BPDU: a bridge of the view, and a logical port of that bridge.

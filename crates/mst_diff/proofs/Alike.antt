@@ -7,7 +7,7 @@ use Rattle.std.specs.Option.{option_map_or}
 use Rattle.std.specs.FinMap as fin
 use Rattle.std.proofs.lemmas.List.Sums.{length-filter}
 use Rattle.mst_tables.specs.Tables.{Net, BridgeRow}
-use Rattle.mst_lag.specs.Aggregation.{same_name}
+use Rattle.mst_view.specs.Aggregation.{same_name}
 use Rattle.mst_config.specs.Regions.{first_of_region}
 use Rattle.mst_forest.specs.Outcome.{Outcome}
 use Rattle.mst_forest.proofs.Entries.{all_weaker, entries_found}
@@ -16,7 +16,7 @@ use Rattle.mst_graph.proofs.Members.{here, in_whole, filter_none}
 use Rattle.mst_vlan.specs.classes.AllVids.{all_vids}
 use Rattle.mst_vlan.proofs.classes_lemmas.VidPlaces.{is_vid_there}
 use Rattle.mst_forest.specs.AllTrees.{all_trees}
-use Rattle.mst_lag.specs.View.{bridge_names, port_names}
+use Rattle.mst_view.specs.View.{bridge_names, port_names}
 use Rattle.mst_changes.specs.Subjects.{port_in, names_of_either}
 use Rattle.mst_changes.specs.PortChanges.{counted, port_change_rows}
 use Rattle.mst_changes.specs.Values.{value_at}

@@ -18,8 +18,8 @@ use Rattle.mst_graph.proofs.Members.{in_none, cases, passing, in_map, in_filter,
 use Rattle.mst_tables.specs.Tables.{Net, BridgeRow, port_eq}
 use Rattle.mst_tables.proofs.Keyed.{flipped}
 use Rattle.mst_tables.proofs.Keys.{names, ports}
-use Rattle.mst_lag.specs.Aggregation.{same_name}
-use Rattle.mst_lag.specs.View.{LogicalPort, view_ports, bridge_names, port_names}
+use Rattle.mst_view.specs.Aggregation.{same_name}
+use Rattle.mst_view.specs.View.{LogicalPort, view_ports, bridge_names, port_names}
 use Rattle.mst_config.specs.Regions.{first_of_region}
 use Rattle.mst_forest.specs.Outcome.{Outcome}
 use Rattle.mst_forest.proofs.Entries.{all_weaker, entries_found}

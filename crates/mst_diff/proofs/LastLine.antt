@@ -8,7 +8,7 @@ use Rattle.std.proofs.lemmas.List.Sums.{length-filter}
 use Rattle.mst_ids.specs.Vids.{runs_from, set_where}
 use Rattle.mst_graph.proofs.Members.{in_none, here, in_whole, in_filter, filter_none}
 use Rattle.mst_tables.specs.Tables.{Net}
-use Rattle.mst_lag.specs.Trees.{is_among}
+use Rattle.mst_view.specs.Trees.{is_among}
 use Rattle.mst_forest.specs.Outcome.{Outcome}
 use Rattle.mst_forest.proofs.Entries.{all_weaker}
 use Rattle.mst_forest.proofs.Lists.{all_there, all_contained}

@@ -7,8 +7,8 @@ use Rattle.std.proofs.lemmas.List.{map-append}
 use Rattle.std.proofs.lemmas.List.Elements.{filter_more}
 use Rattle.mst_graph.specs.Islands.{Island}
 use Rattle.mst_tables.specs.Tables.{Net, Numbers}
-use Rattle.mst_lag.proofs.Lists.{map_itself}
-use Rattle.mst_lag.specs.Viewed.{Viewed}
+use Rattle.mst_view.proofs.Lists.{map_itself}
+use Rattle.mst_view.specs.Viewed.{Viewed}
 use Rattle.mst_forest.specs.Agrees.{AreOf}
 use Rattle.mst_forest.specs.Forest.{Forest}
 use Rattle.mst_forest.specs.Outcome.{Outcome}

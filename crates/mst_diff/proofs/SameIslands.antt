@@ -6,11 +6,11 @@ use Rattle.mst_graph.specs.Islands.{AreIslands, Island, Link}
 use Rattle.mst_tables.specs.ByTree.{vlans_in}
 use Rattle.mst_tables.specs.Seen.{bridge_row}
 use Rattle.mst_tables.specs.Tables.{Net, BridgeRow, IsNetwork}
-use Rattle.mst_lag.specs.View.{LogicalLan, LogicalPort}
-use Rattle.mst_lag.specs.Viewed.{named_bridge, named_lan, named_port}
-use Rattle.mst_lag.specs.declared.in_view.BridgeInView.{BridgeInView}
-use Rattle.mst_lag.specs.declared.in_view.LanInView.{LanInView}
-use Rattle.mst_lag.specs.declared.in_view.PortInView.{PortInView}
+use Rattle.mst_view.specs.View.{LogicalLan, LogicalPort}
+use Rattle.mst_view.specs.Viewed.{named_bridge, named_lan, named_port}
+use Rattle.mst_view.specs.declared.in_view.BridgeInView.{BridgeInView}
+use Rattle.mst_view.specs.declared.in_view.LanInView.{LanInView}
+use Rattle.mst_view.specs.declared.in_view.PortInView.{PortInView}
 use Rattle.mst_forest.specs.Outcome.{Outcome}
 use Rattle.mst_forest.specs.Settled.{SettledNet, outcome_of, IsSettledNet}
 use Rattle.mst_forest.proofs.Lists.{filter_mapped, mapped_twice}

@@ -7,16 +7,16 @@ use Rattle.std.proofs.lemmas.List.Folds.{flat_map-map}
 use Rattle.std.specs.FinMap as fin
 use Rattle.mst_tables.specs.Tables.{BridgeRow}
 use Rattle.mst_tables.specs.Seen.{bridge_row}
-use Rattle.mst_lag.proofs.Lists.{all_kept}
-use Rattle.mst_lag.specs.Aggregation.{same_name}
-use Rattle.mst_lag.specs.Viewed.{Viewed, named_bridge}
-use Rattle.mst_lag.specs.declared.in_view.BridgeInView.{BridgeInView}
+use Rattle.mst_view.proofs.Lists.{all_kept}
+use Rattle.mst_view.specs.Aggregation.{same_name}
+use Rattle.mst_view.specs.Viewed.{Viewed, named_bridge}
+use Rattle.mst_view.specs.declared.in_view.BridgeInView.{BridgeInView}
 use Rattle.mst_config.specs.Regions.{first_of_region}
 use Rattle.mst_forest.specs.InUse.{is_in_use}
 use Rattle.mst_forest.specs.Settled.{SettledNet, outcome_of, IsSettledNet}
 use Rattle.mst_forest.proofs.Entries.{all_weaker}
 use Rattle.mst_forest.proofs.Lists.{all_there, kept_same, no_some, some_is}
-use Rattle.mst_lag.specs.View.{bridge_names}
+use Rattle.mst_view.specs.View.{bridge_names}
 use Rattle.mst_forest.proofs.NotInUse.{unused, unused_by}
 use Rattle.mst_forest.proofs.Pieces.{filter_map-map}
 use Rattle.mst_rows.specs.Rows.{Row}

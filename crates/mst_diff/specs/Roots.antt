@@ -5,10 +5,10 @@ use Rattle.std.specs.Option.{option_map, option_and_then}
 use Rattle.mst_kinds.specs.declared.change_line.ChangeLine.TheVariants as change_line
 use Rattle.mst_kinds.specs.declared.kind.Kind.TheVariants as kind
 use Rattle.mst_tables.specs.Tables.{Net}
-use Rattle.mst_lag.specs.Aggregation.{same_name}
+use Rattle.mst_view.specs.Aggregation.{same_name}
 use Rattle.mst_forest.specs.Outcome.{Outcome}
 use Rattle.mst_forest.specs.AllTrees.{all_trees}
-use Rattle.mst_lag.specs.View.{bridge_names}
+use Rattle.mst_view.specs.View.{bridge_names}
 use Rattle.mst_rows.specs.Cells.{number, word}
 use Rattle.mst_rows.specs.Rows.{Row, row_of}
 use Rattle.mst_diff.specs.declared.roots.RootPair.{RootPair}

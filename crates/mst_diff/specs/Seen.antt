@@ -3,7 +3,7 @@ use Rattle.std.specs.Prelude.{◌≡◌, ℕ, ◌+◌, ◌-◌, ◌<◌, Bool, f
 use Rattle.std.specs.List.{list_any}
 use Rattle.mst_tables.specs.Seen.{bridge_row}
 use Rattle.mst_tables.specs.Tables.{Net}
-use Rattle.mst_lag.specs.Viewed.{Viewed}
+use Rattle.mst_view.specs.Viewed.{Viewed}
 use Rattle.mst_config.specs.Regions.{first_of_region}
 use Rattle.mst_forest.specs.Settled.{SettledNet, outcome_of}
 use Rattle.mst_vlan.specs.declared.island.Island.{Island}

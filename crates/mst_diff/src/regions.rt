@@ -14,7 +14,7 @@ use mst_facts::Both;
 use mst_forest::{Forest, Settled};
 use mst_ids::{ConfName, Name};
 use mst_kinds::{ChangeLine, Kind as RowKind};
-use mst_lag::{BridgeInView, View};
+use mst_view::{BridgeInView, View};
 use mst_lang::Kind;
 use mst_rows::{RegionSide, Rows, Value, put};
 use mst_tables::Bridge;

@@ -14,7 +14,7 @@ use mst_facts::{Both, Identified, root_of};
 use mst_forest::{Settled, bridge_id};
 use mst_ids::{BridgeId, Name, Tree};
 use mst_kinds::{ChangeLine, Kind};
-use mst_lag::{BridgeInView, View};
+use mst_view::{BridgeInView, View};
 use mst_rows::{Rows, Value, put};
 use std::alloc::{AllocError, Global};
 

@@ -11,7 +11,7 @@ use crate::carriages::Carriages;
 use indexmap::IndexSet;
 use mst_forest::Settled;
 use mst_ids::{Name, Vid};
-use mst_lag::View;
+use mst_view::View;
 use mst_vlan::{Carriage, Island, bridge_names, has_bridge};
 use std::alloc::{AllocError, Global};
 

@@ -4,7 +4,7 @@ ghost use Rattle.mst_diff.specs.Seen.{seen_names_on, seen_names_up, HaveSameEnds
 
 use crate::carriages::Carriages;
 use mst_ids::Name;
-use mst_lag::View;
+use mst_view::View;
 use mst_vlan::differing;
 use mst_vlan::laws::islands_of_vid;
 use std::alloc::{AllocError, Global};

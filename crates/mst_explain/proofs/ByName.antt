@@ -10,7 +10,7 @@ use Rattle.mst_topology.specs.Settled.{IsDesignatedVector, IsDesignated}
 use Rattle.mst_topology.proofs.Below.{one_speaker}
 use Rattle.mst_topology.proofs.Orders.{both}
 use Rattle.mst_tables.specs.Tables.{Net, IsNetwork}
-use Rattle.mst_lag.specs.View.{LogicalPort, view_ports}
+use Rattle.mst_view.specs.View.{LogicalPort, view_ports}
 use Rattle.mst_forest.specs.Sight.{Sight, tree_port, tree_of}
 use Rattle.mst_forest.specs.Outcome.{TreeOutcome, IsTreeOutcome}
 use Rattle.mst_forest.proofs.Lists.{no_some, all_contained}

@@ -9,9 +9,9 @@ use Rattle.mst_vector.specs.Rules.{Rules, IsMetric}
 use Rattle.mst_topology.specs.Topology.{Topology, IsTopology}
 use Rattle.mst_topology.specs.Settled.{Settled}
 use Rattle.mst_tables.specs.Tables.{Net, Numbers}
-use Rattle.mst_lag.specs.View.{LogicalPort, view_ports}
-use Rattle.mst_lag.specs.Viewed.{Viewed, named_port}
-use Rattle.mst_lag.specs.declared.in_view.PortInView.{PortInView}
+use Rattle.mst_view.specs.View.{LogicalPort, view_ports}
+use Rattle.mst_view.specs.Viewed.{Viewed, named_port}
+use Rattle.mst_view.specs.declared.in_view.PortInView.{PortInView}
 use Rattle.mst_forest.specs.Sight.{Sight, tree_of, named_bridge}
 use Rattle.mst_forest.specs.Outcome.{TreeOutcome, IsTreeOutcome}
 use Rattle.mst_forest.specs.Agrees.{AreOf}

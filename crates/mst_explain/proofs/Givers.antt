@@ -12,8 +12,8 @@ use Rattle.mst_topology.specs.Topology.{TreePort, Topology, IsTopology, HasBridg
 use Rattle.mst_topology.specs.Settled.{Designates, IsRootPathVector, IsDesignated}
 use Rattle.mst_topology.proofs.Below.{one_designated}
 use Rattle.mst_tables.specs.Tables.{Net, Numbers}
-use Rattle.mst_lag.specs.Viewed.{Viewed, named_port}
-use Rattle.mst_lag.specs.declared.in_view.PortInView.{PortInView}
+use Rattle.mst_view.specs.Viewed.{Viewed, named_port}
+use Rattle.mst_view.specs.declared.in_view.PortInView.{PortInView}
 use Rattle.mst_forest.specs.Sight.{Sight, tree_port, tree_of}
 use Rattle.mst_forest.specs.Outcome.{TreeOutcome, IsTreeOutcome}
 use Rattle.mst_forest.specs.Agrees.{IsNameOf, AreOf}

@@ -17,7 +17,7 @@ use Rattle.mst_topology.specs.Settled.{IsDesignatedVector, Designates, IsRootPat
 use Rattle.mst_topology.proofs.Below.{one_message, one_speaker, one_designated}
 use Rattle.mst_topology.proofs.Orders.{both}
 use Rattle.mst_tables.specs.Tables.{Net, IsNetwork}
-use Rattle.mst_lag.specs.View.{LogicalPort}
+use Rattle.mst_view.specs.View.{LogicalPort}
 use Rattle.mst_forest.specs.Cist.{cist_sight, cist_of}
 use Rattle.mst_forest.specs.Msti.{msti_sight, msti_of, is_internal}
 use Rattle.mst_forest.specs.Outcome.{TreeOutcome, Outcome}

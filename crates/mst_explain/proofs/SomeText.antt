@@ -12,7 +12,7 @@ use Rattle.mst_vector.specs.MstiLaws.{msti_lawful}
 use Rattle.mst_topology.specs.Topology.{Topology}
 use Rattle.mst_tables.specs.Tables.{Net, IsNetwork}
 use Rattle.mst_tables.specs.ByTree.{by_tree}
-use Rattle.mst_lag.specs.View.{LogicalPort, view_ports, is_on, is_up}
+use Rattle.mst_view.specs.View.{LogicalPort, view_ports, is_on, is_up}
 use Rattle.mst_forest.specs.Sight.{Sight, tree_of}
 use Rattle.mst_forest.specs.Cist.{cist_port, cist_sight, cist_of}
 use Rattle.mst_forest.specs.Msti.{msti_port, msti_sight, msti_of, has_msti, is_internal}

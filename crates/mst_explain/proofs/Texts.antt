@@ -11,14 +11,14 @@ use Rattle.mst_vector.specs.CistLaws.{cist_lawful}
 use Rattle.mst_outcome.specs.Assignment.{designated_of}
 use Rattle.mst_tables.specs.Tables.{Net, BridgeRow, LanRow}
 use Rattle.mst_tables.specs.Seen.{bridge_row}
-use Rattle.mst_lag.specs.Aggregation.{same_name}
-use Rattle.mst_lag.specs.Trees.{mstis_of, is_among}
-use Rattle.mst_lag.specs.View.{logical_lan, is_on, is_up}
-use Rattle.mst_lag.specs.Viewed.{named_port, member_lan}
-use Rattle.mst_lag.specs.declared.in_view.BridgeInView.{BridgeInView}
-use Rattle.mst_lag.specs.declared.in_view.PortInView.{PortInView}
-use Rattle.mst_lag.specs.declared.in_view.MemberLan.{MemberLan}
-use Rattle.mst_lag.proofs.Placing.{pair_found}
+use Rattle.mst_view.specs.Aggregation.{same_name}
+use Rattle.mst_view.specs.Trees.{mstis_of, is_among}
+use Rattle.mst_view.specs.View.{logical_lan, is_on, is_up}
+use Rattle.mst_view.specs.Viewed.{named_port, member_lan}
+use Rattle.mst_view.specs.declared.in_view.BridgeInView.{BridgeInView}
+use Rattle.mst_view.specs.declared.in_view.PortInView.{PortInView}
+use Rattle.mst_view.specs.declared.in_view.MemberLan.{MemberLan}
+use Rattle.mst_view.proofs.Placing.{pair_found}
 use Rattle.mst_forest.specs.Cist.{cist_sight}
 use Rattle.mst_forest.specs.Msti.{has_msti, is_internal}
 use Rattle.mst_forest.specs.Outcome.{Outcome}

@@ -3,7 +3,7 @@ use Rattle.std.specs.Prelude.{◌≡◌, ◌≢◌, ◌↔◌, ℕ, List, Option
 use Rattle.mst_ids.specs.declared.name.PortName.{PortName}
 use Rattle.mst_vector.specs.Rules.{Rules}
 use Rattle.mst_topology.specs.Topology.{Topology, HasBridge}
-use Rattle.mst_lag.specs.View.{LogicalPort}
+use Rattle.mst_view.specs.View.{LogicalPort}
 use Rattle.mst_forest.specs.Outcome.{TreeOutcome}
 use Rattle.mst_forest.specs.declared.kind.Role.{Role}
 use Rattle.mst_forest.specs.declared.kind.Role.TheVariants.{Root, Designated, Alternate, Backup}

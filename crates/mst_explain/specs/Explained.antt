@@ -8,8 +8,8 @@ use Rattle.mst_vector.specs.Cist.{cist_rules}
 use Rattle.mst_vector.specs.Msti.{msti_rules}
 use Rattle.mst_topology.specs.Topology.{Topology, HasBridge}
 use Rattle.mst_tables.specs.Tables.{Net}
-use Rattle.mst_lag.specs.Trees.{mstis_of}
-use Rattle.mst_lag.specs.View.{LogicalPort, is_on, is_up}
+use Rattle.mst_view.specs.Trees.{mstis_of}
+use Rattle.mst_view.specs.View.{LogicalPort, is_on, is_up}
 use Rattle.mst_forest.specs.Cist.{cist_of}
 use Rattle.mst_forest.specs.Msti.{msti_of, is_internal}
 use Rattle.mst_forest.specs.Outcome.{Outcome, TreeOutcome}

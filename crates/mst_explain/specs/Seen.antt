@@ -3,8 +3,8 @@ use Rattle.std.specs.Prelude.{◌≡◌, ℕ, ◌==◌, ◌≤◌, ◌^◌, List
 use Rattle.std.specs.List.{Contains, find}
 use Rattle.std.specs.Option.{option_map, option_map_or, option_and_then}
 use Rattle.mst_vector.specs.Rules.{Rules}
-use Rattle.mst_lag.specs.Viewed.{Viewed}
-use Rattle.mst_lag.specs.declared.in_view.PortInView.{PortInView}
+use Rattle.mst_view.specs.Viewed.{Viewed}
+use Rattle.mst_view.specs.declared.in_view.PortInView.{PortInView}
 use Rattle.mst_rows.specs.Rows.{Row}
 use Rattle.mst_explain.specs.declared.claims.Claim.{Claim}
 use Rattle.mst_explain.specs.Claims.{told_rows}

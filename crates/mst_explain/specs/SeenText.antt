@@ -6,9 +6,9 @@ use Rattle.mst_vector.specs.Cist.{cist_rules}
 use Rattle.mst_vector.specs.Msti.{msti_rules}
 use Rattle.mst_outcome.specs.Assignment.{designated_of}
 use Rattle.mst_tables.specs.Seen.{bridge_row}
-use Rattle.mst_lag.specs.Aggregation.{same_name}
-use Rattle.mst_lag.specs.Viewed.{Viewed, named_port}
-use Rattle.mst_lag.specs.declared.in_view.PortInView.{PortInView}
+use Rattle.mst_view.specs.Aggregation.{same_name}
+use Rattle.mst_view.specs.Viewed.{Viewed, named_port}
+use Rattle.mst_view.specs.declared.in_view.PortInView.{PortInView}
 use Rattle.mst_forest.specs.Seen.{seen_internal}
 use Rattle.mst_forest.specs.Forest.{designated_in}
 use Rattle.mst_forest.specs.Settled.{SettledNet, outcome_of}

@@ -6,7 +6,7 @@ use crate::claims::Claim;
 use crate::in_tree::InTree;
 use mst_forest::Settled;
 use mst_ids::{BridgeNo, LanNo, Tree};
-use mst_lag::PortInView;
+use mst_view::PortInView;
 use std::alloc::{AllocError, Global};
 
 /// The designated priority vector of a port of the tree, which it says on its LAN.

@@ -12,7 +12,7 @@ use crate::lines::{
 };
 use mst_forest::Settled;
 use mst_ids::Tree;
-use mst_lag::PortInView;
+use mst_view::PortInView;
 use mst_rows::Rows;
 use std::alloc::{AllocError, Global};
 

@@ -1,6 +1,6 @@
 ghost use Rattle.std.specs.Prelude.{◌≡◌, ◌++◌, List, OnOk};
 ghost use Rattle.std.specs.List.{Contains, flat_map};
-ghost use Rattle.mst_lag.specs.Viewed.{named_port};
+ghost use Rattle.mst_view.specs.Viewed.{named_port};
 ghost use Rattle.mst_forest.specs.Settled.{outcome_of};
 ghost use Rattle.mst_rows.specs.Rows.{Row};
 ghost use Rattle.mst_explain.specs.Explained.{IsExplained, AreExplained, trees_of_bridge};
@@ -11,7 +11,7 @@ use crate::in_tree::designated_port;
 use crate::lines::{put_boundary, put_disabled, put_heading};
 use mst_forest::{Settled, role_of};
 use mst_ids::{BridgeNo, Name, Tree};
-use mst_lag::{PortInView, View};
+use mst_view::{PortInView, View};
 use mst_rows::Rows;
 use mst_vector::{CistMetric, MstiMetric};
 use std::alloc::{AllocError, Global};

@@ -9,7 +9,7 @@ ghost use Rattle.mst_vector.specs.declared.cist.CistBridge.{CistBridge};
 ghost use Rattle.mst_vector.specs.declared.msti.MstiBridge.{MstiBridge};
 ghost use Rattle.mst_vector.specs.declared.msti.MstiVector.{MstiVector as Msti};
 ghost use Rattle.mst_tables.specs.Tables.{Net, IsNetwork};
-ghost use Rattle.mst_lag.specs.View.{LogicalPort, view_ports};
+ghost use Rattle.mst_view.specs.View.{LogicalPort, view_ports};
 ghost use Rattle.mst_forest.specs.Outcome.{Outcome, IsOutcome};
 ghost use Rattle.mst_forest.specs.Cist.{cist_of};
 ghost use Rattle.mst_forest.specs.Msti.{msti_of, has_msti, is_internal};

@@ -13,11 +13,11 @@ use Rattle.mst_tables.specs.ByTree.{by_tree}
 use Rattle.mst_tables.specs.Seen.{bridge_row}
 use Rattle.mst_tables.proofs.Keyed.{flipped}
 use Rattle.mst_tables.proofs.Keys.{names}
-use Rattle.mst_lag.proofs.Lists.{find_same}
-use Rattle.mst_lag.specs.Aggregation.{same_name}
-use Rattle.mst_lag.specs.Trees.{is_among, mstis_of}
-use Rattle.mst_lag.specs.Viewed.{Viewed, named_bridge}
-use Rattle.mst_lag.specs.declared.in_view.BridgeInView.{BridgeInView}
+use Rattle.mst_view.proofs.Lists.{find_same}
+use Rattle.mst_view.specs.Aggregation.{same_name}
+use Rattle.mst_view.specs.Trees.{is_among, mstis_of}
+use Rattle.mst_view.specs.Viewed.{Viewed, named_bridge}
+use Rattle.mst_view.specs.declared.in_view.BridgeInView.{BridgeInView}
 use Rattle.mst_config.specs.Shared.{same_in}
 use Rattle.mst_config.specs.Regions.{same_region, first_of_region}
 use Rattle.mst_forest.specs.Agrees.{AreOf}
@@ -30,7 +30,7 @@ use Rattle.mst_forest.proofs.Entries.{all_weaker}
 use Rattle.mst_forest.proofs.Lists.{mapped_twice}
 use Rattle.mst_forest.proofs.Looking.{has_tree_at}
 use Rattle.mst_forest.proofs.Seen.{SeenBridge, bridge_seen, bridges_seen}
-use Rattle.mst_lag.specs.View.{bridge_names}
+use Rattle.mst_view.specs.View.{bridge_names}
 use Rattle.mst_facts.specs.declared.roots.Identified.{Identified}
 use Rattle.mst_facts.specs.Roots.{root_of, named_by, root_name}
 use Rattle.mst_facts.specs.Named.{seen_first, seen_root, seen_named, name_by}

@@ -3,7 +3,7 @@ ghost use Rattle.mst_facts.specs.Both.{seen_both, seen_in_both, AreByName};
 
 use indexmap::IndexMap;
 use mst_ids::Name;
-use mst_lag::{BridgeInView, View};
+use mst_view::{BridgeInView, View};
 use std::alloc::{AllocError, Global};
 
 /// A bridge that two networks have, by name.

@@ -1,5 +1,5 @@
 use mst_forest::Forest;
-use mst_lag::View;
+use mst_view::View;
 
 /// A network's view and its settled trees.
 #[derive(Clone, Copy)]

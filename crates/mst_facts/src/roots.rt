@@ -7,7 +7,7 @@ ghost use Rattle.mst_facts.specs.Named.{seen_root};
 use crate::planned::Planned;
 use mst_forest::Settled;
 use mst_ids::{BridgeId, BridgeNo, Name, Tree};
-use mst_lag::BridgeInView;
+use mst_view::BridgeInView;
 
 /// A bridge's identifier in a tree, and its name.
 #[derive(Clone, Copy)]

@@ -11,10 +11,10 @@ use Rattle.mst_tables.specs.ByTree.{table_in}
 use Rattle.mst_tables.specs.Seen.{bridge_row}
 use Rattle.mst_tables.specs.Table.{tree_in}
 use Rattle.mst_tables.specs.After.{table_of}
-use Rattle.mst_lag.specs.View.{view_ports}
-use Rattle.mst_lag.specs.Viewed.{Viewed, named_port}
-use Rattle.mst_lag.specs.declared.in_view.BridgeInView.{BridgeInView}
-use Rattle.mst_lag.specs.declared.in_view.PortInView.{PortInView}
+use Rattle.mst_view.specs.View.{view_ports}
+use Rattle.mst_view.specs.Viewed.{Viewed, named_port}
+use Rattle.mst_view.specs.declared.in_view.BridgeInView.{BridgeInView}
+use Rattle.mst_view.specs.declared.in_view.PortInView.{PortInView}
 use Rattle.mst_forest.specs.Agrees.{AreOf}
 use Rattle.mst_forest.specs.Forest.{IsForest, Forest}
 use Rattle.mst_forest.proofs.Lists.{some_is}

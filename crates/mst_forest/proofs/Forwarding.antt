@@ -16,8 +16,8 @@ use Rattle.mst_nested.specs.Trees.{Trees, TakesPart, IsEnabled, IsInternal, HasT
 use Rattle.mst_nested.specs.Roles.{IsRootPort, IsDesignatedPort, IsMstiRoot, IsMstiDesignated, ForwardsInRegion, Forwards}
 use Rattle.mst_tables.specs.Tables.{Net, IsNetwork, port_eq}
 use Rattle.mst_tables.specs.ByTree.{by_tree}
-use Rattle.mst_lag.specs.Aggregation.{same_name}
-use Rattle.mst_lag.specs.View.{LogicalPort, view_ports}
+use Rattle.mst_view.specs.Aggregation.{same_name}
+use Rattle.mst_view.specs.View.{LogicalPort, view_ports}
 use Rattle.mst_forest.specs.Sight.{tree_port}
 use Rattle.mst_forest.specs.Cist.{cist_port, cist_sight, cist_of}
 use Rattle.mst_forest.specs.Msti.{msti_bridge, msti_port, msti_sight, msti_of, has_msti, is_internal}

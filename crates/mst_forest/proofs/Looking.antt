@@ -16,11 +16,11 @@ use Rattle.mst_topology.specs.Settled.{IsDesignated}
 use Rattle.mst_tables.specs.Tables.{Net, Numbers, BridgeRow}
 use Rattle.mst_tables.specs.ByTree.{by_tree}
 use Rattle.mst_tables.specs.Seen.{bridge_row}
-use Rattle.mst_lag.specs.Trees.{mstis_of, is_among}
-use Rattle.mst_lag.specs.Viewed.{Viewed, named_port}
-use Rattle.mst_lag.specs.declared.in_view.BridgeInView.{BridgeInView}
-use Rattle.mst_lag.specs.declared.in_view.PortInView.{PortInView}
-use Rattle.mst_lag.proofs.Placing.{pair_found}
+use Rattle.mst_view.specs.Trees.{mstis_of, is_among}
+use Rattle.mst_view.specs.Viewed.{Viewed, named_port}
+use Rattle.mst_view.specs.declared.in_view.BridgeInView.{BridgeInView}
+use Rattle.mst_view.specs.declared.in_view.PortInView.{PortInView}
+use Rattle.mst_view.proofs.Placing.{pair_found}
 use Rattle.mst_config.specs.Regions.{same_region, region_of}
 use Rattle.mst_config.specs.Shared.{same_in}
 use Rattle.mst_forest.specs.Sight.{Sight, tree_of}

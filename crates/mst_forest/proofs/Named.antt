@@ -14,11 +14,11 @@ use Rattle.mst_vector.specs.Msti.{msti_rules}
 use Rattle.mst_outcome.specs.Assignment.{vector_of, designated_of}
 use Rattle.mst_tables.specs.Tables.{Net, Numbers, port_eq}
 use Rattle.mst_tables.specs.ByTree.{by_tree}
-use Rattle.mst_lag.specs.Aggregation.{same_name}
-use Rattle.mst_lag.specs.Trees.{is_among}
-use Rattle.mst_lag.specs.View.{LogicalPort, view_ports}
-use Rattle.mst_lag.specs.Viewed.{Viewed, named_port}
-use Rattle.mst_lag.specs.declared.in_view.PortInView.{PortInView}
+use Rattle.mst_view.specs.Aggregation.{same_name}
+use Rattle.mst_view.specs.Trees.{is_among}
+use Rattle.mst_view.specs.View.{LogicalPort, view_ports}
+use Rattle.mst_view.specs.Viewed.{Viewed, named_port}
+use Rattle.mst_view.specs.declared.in_view.PortInView.{PortInView}
 use Rattle.mst_forest.specs.Sight.{Sight, tree_of}
 use Rattle.mst_forest.specs.Cist.{cist_port, cist_sight}
 use Rattle.mst_forest.specs.Msti.{msti_port, msti_sight, has_msti, is_internal}

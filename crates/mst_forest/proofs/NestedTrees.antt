@@ -18,9 +18,9 @@ use Rattle.mst_topology.specs.Settled.{IsDesignated}
 use Rattle.mst_tables.specs.Tables.{Net, BridgeRow, IsNetwork}
 use Rattle.mst_tables.specs.After.{table_of}
 use Rattle.mst_tables.specs.ByTree.{by_tree}
-use Rattle.mst_lag.specs.View.{LogicalPort, view_ports, IsUnrestricted}
+use Rattle.mst_view.specs.View.{LogicalPort, view_ports, IsUnrestricted}
 use Rattle.mst_tables.specs.Table.{mstis_in}
-use Rattle.mst_lag.specs.Trees.{mstis_of, is_among}
+use Rattle.mst_view.specs.Trees.{mstis_of, is_among}
 use Rattle.mst_config.specs.Regions.{same_region, same_configuration, region_of}
 use Rattle.mst_config.proofs.SameRegion.{told}
 use Rattle.mst_forest.specs.Sight.{tree_port}

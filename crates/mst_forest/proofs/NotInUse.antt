@@ -5,9 +5,9 @@ use Rattle.std.specs.Option.{option_map_or}
 use Rattle.std.specs.FinMap as fin
 use Rattle.std.proofs.lemmas.Bool.{or_parts}
 use Rattle.mst_tables.specs.Tables.{Net, Numbers, BridgeRow}
-use Rattle.mst_lag.specs.Trees.{is_among, mstis_of}
-use Rattle.mst_lag.specs.Viewed.{Viewed}
-use Rattle.mst_lag.specs.declared.in_view.BridgeInView.{BridgeInView}
+use Rattle.mst_view.specs.Trees.{is_among, mstis_of}
+use Rattle.mst_view.specs.Viewed.{Viewed}
+use Rattle.mst_view.specs.declared.in_view.BridgeInView.{BridgeInView}
 use Rattle.mst_forest.specs.Agrees.{AreOf}
 use Rattle.mst_forest.specs.InUse.{is_in_use}
 use Rattle.mst_forest.specs.Msti.{has_msti}

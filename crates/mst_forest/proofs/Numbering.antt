@@ -10,9 +10,9 @@ use Rattle.mst_outcome.specs.Renamed.{Renaming, renamed, IsRenamed}
 use Rattle.mst_tables.specs.Tables.{Net, Numbers, BridgeRow, IsNetwork}
 use Rattle.mst_tables.specs.Contents.{IsNumbered}
 use Rattle.mst_tables.specs.Seen.{bridge_row}
-use Rattle.mst_lag.specs.Viewed.{Viewed, IsView, HasNumbers, named_port}
-use Rattle.mst_lag.specs.declared.in_view.BridgeInView.{BridgeInView}
-use Rattle.mst_lag.specs.declared.in_view.PortInView.{PortInView}
+use Rattle.mst_view.specs.Viewed.{Viewed, IsView, HasNumbers, named_port}
+use Rattle.mst_view.specs.declared.in_view.BridgeInView.{BridgeInView}
+use Rattle.mst_view.specs.declared.in_view.PortInView.{PortInView}
 use Rattle.mst_forest.specs.Apart.{Apart}
 use Rattle.mst_forest.specs.Sight.{Sight, tree_port, tree_of}
 use Rattle.mst_forest.specs.Numbered.{BridgesDiffer, PortsDiffer, CanSettle, topology_by_number}

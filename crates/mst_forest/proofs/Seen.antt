@@ -7,10 +7,10 @@ use Rattle.std.specs.FinMap.{len-entries}
 use Rattle.mst_ids.specs.Names.{name_cmp, port_cmp}
 use Rattle.mst_tables.specs.Tables.{Net, Numbers, BridgeRow, IsNetwork}
 use Rattle.mst_tables.specs.Seen.{bridge_row}
-use Rattle.mst_lag.specs.View.{LogicalPort, view_ports}
-use Rattle.mst_lag.specs.Viewed.{Viewed, IsView, HasNumbers, named_bridge, named_port}
-use Rattle.mst_lag.specs.declared.in_view.BridgeInView.{BridgeInView}
-use Rattle.mst_lag.specs.declared.in_view.PortInView.{PortInView}
+use Rattle.mst_view.specs.View.{LogicalPort, view_ports}
+use Rattle.mst_view.specs.Viewed.{Viewed, IsView, HasNumbers, named_bridge, named_port}
+use Rattle.mst_view.specs.declared.in_view.BridgeInView.{BridgeInView}
+use Rattle.mst_view.specs.declared.in_view.PortInView.{PortInView}
 use Rattle.mst_forest.specs.Apart.{Apart}
 use Rattle.mst_forest.proofs.Entries.{all_both}
 use Rattle.mst_forest.proofs.Lists.{all_contained, all_unmapped, apart_unmapped, apart_with, contains_mapped, contains_unmapped}

@@ -16,8 +16,8 @@ use Rattle.mst_ids.specs.Costs.{automatic_cost}
 use Rattle.mst_ids.specs.declared.name.PortName.{PortName}
 use Rattle.mst_vector.specs.Rules.{is_cost}
 use Rattle.mst_tables.specs.Tables.{Net, BridgeRow, PortRow, IsPathCost, port_eq}
-use Rattle.mst_lag.specs.Aggregation.{Plug, plug_of, plugs}
-use Rattle.mst_lag.specs.View.{LogicalPort, logical_port, as_port, is_on, is_up, logical_lan, view_ports}
+use Rattle.mst_view.specs.Aggregation.{Plug, plug_of, plugs}
+use Rattle.mst_view.specs.View.{LogicalPort, logical_port, as_port, is_on, is_up, logical_lan, view_ports}
 use Rattle.mst_forest.specs.Apart.{Apart}
 use Rattle.mst_forest.proofs.Entries.{all_weaker, entries_apart, entries_found}
 use Rattle.mst_forest.proofs.Lists.{some_is, no_some, all_kept, all_mapped, all_passing, apart_kept, apart_mapped, apart_filtered, all_contained, all_there, passed}

@@ -4,8 +4,8 @@ use Rattle.std.specs.FinMap as fin
 use Rattle.mst_ids.specs.declared.name.PortName.{PortName}
 use Rattle.mst_tables.specs.Tables.{Net, Numbers, IsNetwork}
 use Rattle.mst_tables.specs.Contents.{IsNumbered}
-use Rattle.mst_lag.specs.Viewed.{Viewed, IsView, named_port}
-use Rattle.mst_lag.specs.declared.in_view.PortInView.{PortInView}
+use Rattle.mst_view.specs.Viewed.{Viewed, IsView, named_port}
+use Rattle.mst_view.specs.declared.in_view.PortInView.{PortInView}
 use Rattle.mst_config.specs.Shared.{AreRegions}
 use Rattle.mst_forest.specs.Outcome.{TreeOutcome}
 use Rattle.mst_forest.specs.Msti.{is_internal}

@@ -10,8 +10,8 @@ use Rattle.mst_vector.specs.declared.msti.MstiPort.{MstiPort}
 use Rattle.mst_topology.specs.Topology.{Topology}
 use Rattle.mst_tables.specs.Tables.{Net, BridgeRow}
 use Rattle.mst_tables.specs.ByTree.{ByTree, by_tree, priority_in, port_priority_in, port_cost_in}
-use Rattle.mst_lag.specs.View.{LogicalPort}
-use Rattle.mst_lag.specs.Trees.{mstis_of, is_among}
+use Rattle.mst_view.specs.View.{LogicalPort}
+use Rattle.mst_view.specs.Trees.{mstis_of, is_among}
 use Rattle.mst_config.specs.Regions.{same_region}
 use Rattle.mst_forest.specs.Sight.{Sight, tree_of}
 use Rattle.std.specs.List.{list_any}

@@ -8,8 +8,8 @@ use Rattle.mst_tables.specs.Table.{tree_in}
 use Rattle.mst_tables.specs.After.{table_of}
 use Rattle.mst_tables.specs.Tables.{Net, port_eq}
 use Rattle.mst_tables.specs.ByTree.{by_tree}
-use Rattle.mst_lag.specs.Aggregation.{same_name}
-use Rattle.mst_lag.specs.View.{LogicalPort, view_ports}
+use Rattle.mst_view.specs.Aggregation.{same_name}
+use Rattle.mst_view.specs.View.{LogicalPort, view_ports}
 use Rattle.mst_forest.specs.Cist.{cist_port}
 use Rattle.mst_forest.specs.Msti.{msti_port, has_msti, is_internal}
 use Rattle.mst_forest.specs.Outcome.{Outcome}

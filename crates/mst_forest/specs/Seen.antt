@@ -10,10 +10,10 @@ use Rattle.mst_vector.specs.declared.msti.MstiPort.{MstiPort}
 use Rattle.mst_topology.specs.Topology.{TreePort, Topology}
 use Rattle.mst_tables.specs.ByTree.{ByTree}
 use Rattle.mst_tables.specs.Seen.{bridge_row}
-use Rattle.mst_lag.specs.Trees.{is_among}
-use Rattle.mst_lag.specs.Viewed.{Viewed, named_port}
-use Rattle.mst_lag.specs.declared.in_view.BridgeInView.{BridgeInView}
-use Rattle.mst_lag.specs.declared.in_view.PortInView.{PortInView}
+use Rattle.mst_view.specs.Trees.{is_among}
+use Rattle.mst_view.specs.Viewed.{Viewed, named_port}
+use Rattle.mst_view.specs.declared.in_view.BridgeInView.{BridgeInView}
+use Rattle.mst_view.specs.declared.in_view.PortInView.{PortInView}
 use Rattle.mst_config.specs.Shared.{same_in}
 use Rattle.mst_forest.specs.Cist.{cist_bridge, cist_port}
 use Rattle.mst_forest.specs.Msti.{msti_bridge, msti_port}

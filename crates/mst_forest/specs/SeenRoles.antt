@@ -6,9 +6,9 @@ use Rattle.mst_outcome.specs.Assignment.{vector_of, designated_of}
 use Rattle.mst_tables.specs.ByTree.{table_in}
 use Rattle.mst_tables.specs.Seen.{bridge_row}
 use Rattle.mst_tables.specs.Table.{tree_in}
-use Rattle.mst_lag.specs.Trees.{is_among}
-use Rattle.mst_lag.specs.Viewed.{Viewed, named_port}
-use Rattle.mst_lag.specs.declared.in_view.PortInView.{PortInView}
+use Rattle.mst_view.specs.Trees.{is_among}
+use Rattle.mst_view.specs.Viewed.{Viewed, named_port}
+use Rattle.mst_view.specs.declared.in_view.PortInView.{PortInView}
 use Rattle.mst_forest.specs.Cist.{cist_port}
 use Rattle.mst_forest.specs.Msti.{msti_port}
 use Rattle.mst_forest.specs.Seen.{trees_at, seen_internal}

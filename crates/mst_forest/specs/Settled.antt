@@ -8,7 +8,7 @@ use Rattle.mst_lang.specs.declared.line.Edit.{Edit}
 use Rattle.mst_outcome.specs.Assignment.{vector_of, designated_of}
 use Rattle.mst_tables.specs.Tables.{Net, Numbers}
 use Rattle.mst_tables.specs.Contents.{Contents, Tables, tables_of, ahead_of}
-use Rattle.mst_lag.specs.Viewed.{Viewed}
+use Rattle.mst_view.specs.Viewed.{Viewed}
 use Rattle.mst_forest.specs.Agrees.{Agrees, AreOf}
 use Rattle.mst_forest.specs.Forest.{Forest, msti_vector, msti_designated}
 use Rattle.mst_forest.specs.Outcome.{TreeOutcome, Outcome, IsOutcome}

@@ -7,8 +7,8 @@ ghost use Rattle.mst_tables.specs.ByTree.{table_in};
 ghost use Rattle.mst_tables.specs.Seen.{bridge_row};
 ghost use Rattle.mst_tables.specs.Table.{tree_in};
 ghost use Rattle.mst_tables.specs.Tables.{Net, Numbers, port_eq};
-ghost use Rattle.mst_lag.specs.View.{view_ports};
-ghost use Rattle.mst_lag.specs.Viewed.{named_port};
+ghost use Rattle.mst_view.specs.View.{view_ports};
+ghost use Rattle.mst_view.specs.Viewed.{named_port};
 ghost use Rattle.mst_forest.specs.Agrees.{AreOf};
 ghost use Rattle.mst_forest.specs.Forest.{IsForest};
 ghost use Rattle.mst_forest.specs.Roles.{forwards as is_forwarding, forwards_for};
@@ -17,7 +17,7 @@ ghost use Rattle.mst_forest.specs.SeenRoles.{seen_role, seen_tree, seen_forwards
 use crate::forest::Forest;
 use crate::roles::port_role;
 use mst_ids::{BridgeNo, PortNo, Tree, Vid};
-use mst_lag::{BridgeInView, PortInView, View};
+use mst_view::{BridgeInView, PortInView, View};
 use mst_lang::Kind;
 
 /// The tree that a bridge of the view has a VID in.

@@ -1,10 +1,10 @@
 ghost use Rattle.std.specs.Prelude.{◌≡◌, ◌==◌, ◌||◌, ◌<◌, ℕ, false, length, slice_index_or, IfOk};
-ghost use Rattle.mst_lag.specs.Trees.{is_among};
-ghost use Rattle.mst_lag.specs.Viewed.{Viewed};
+ghost use Rattle.mst_view.specs.Trees.{is_among};
+ghost use Rattle.mst_view.specs.Viewed.{Viewed};
 ghost use Rattle.mst_forest.specs.InUse.{AreInUse, is_in_use, seen_has, seen_mstis};
 
 use mst_ids::{BridgeNo, Tree};
-use mst_lag::View;
+use mst_view::View;
 use std::alloc::{AllocError, Global};
 
 /// Whether the bridge of this number has a tree: each has the CIST, and one of kind mstp the MSTIs to which it maps

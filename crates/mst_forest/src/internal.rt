@@ -3,7 +3,7 @@ ghost use Rattle.mst_outcome.specs.Assignment.{designated_of};
 ghost use Rattle.mst_forest.specs.Seen.{seen_internal};
 
 use mst_config::Regions;
-use mst_lag::{PortInView, View};
+use mst_view::{PortInView, View};
 use mst_outcome::SpanningTree;
 use mst_vector::CistMetric;
 

@@ -1,7 +1,7 @@
 //! Laws of outcomes. Their functions do nothing: a caller has their clauses.
 ghost use Rattle.std.specs.Prelude.{◌≡◌, ◌≢◌, ◌↔◌, ℕ, true, Some};
 ghost use Rattle.mst_tables.specs.Tables.{Net, IsNetwork};
-ghost use Rattle.mst_lag.specs.View.{IsUnrestricted, LogicalPort, view_ports};
+ghost use Rattle.mst_view.specs.View.{IsUnrestricted, LogicalPort, view_ports};
 ghost use Rattle.mst_forest.specs.Outcome.{Outcome, IsOutcome, trees_of};
 ghost use Rattle.mst_nested.specs.Trees.{IsSettled, IsFree};
 ghost use Rattle.std.specs.List.{Contains};

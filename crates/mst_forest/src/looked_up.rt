@@ -7,7 +7,7 @@ ghost use Rattle.mst_forest.specs.Settled.{outcome_of};
 use crate::in_use::has_tree;
 use crate::settled::Settled;
 use mst_ids::Tree;
-use mst_lag::BridgeInView;
+use mst_view::BridgeInView;
 use mst_tables::TreeSettings;
 use mst_vector::{CistVector, MstiVector};
 

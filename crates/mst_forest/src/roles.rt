@@ -13,7 +13,7 @@ use crate::forest::Forest;
 use crate::kind::Role;
 use crate::settings::port_id;
 use mst_ids::{PortId, PortNo, Tree};
-use mst_lag::{PortInView, View};
+use mst_view::{PortInView, View};
 
 /// The role of an enabled port beside the designated port of its LAN.
 fn beside(view: &View, port: &PortInView, designated: PortNo) -> Role

@@ -1,5 +1,5 @@
 use crate::forest::Forest;
-use mst_lag::View;
+use mst_view::View;
 use mst_lang::Edit;
 use mst_net::Network;
 use std::marker::Model;

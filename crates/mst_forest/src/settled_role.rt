@@ -1,6 +1,6 @@
 ghost use Rattle.std.specs.Prelude.{◌≡◌};
 ghost use Rattle.std.specs.List.{Contains};
-ghost use Rattle.mst_lag.specs.Viewed.{named_port};
+ghost use Rattle.mst_view.specs.Viewed.{named_port};
 ghost use Rattle.mst_forest.specs.Settled.{outcome_of};
 ghost use Rattle.mst_forest.specs.Roles.{role_in};
 
@@ -8,7 +8,7 @@ use crate::kind::Role;
 use crate::roles::port_role;
 use crate::settled::Settled;
 use mst_ids::Tree;
-use mst_lag::PortInView;
+use mst_view::PortInView;
 
 /// The role of a logical port of a settled network's view in a tree, or nothing where its bridge hasn't that tree. It
 /// takes no memory.

@@ -9,9 +9,9 @@ use Rattle.mst_judged.specs.reasons.sweep.facts.declared.both.Both.{Both}
 use Rattle.mst_graph.specs.Islands.{AreIslands, AreJoined, Island}
 use Rattle.mst_graph.specs.Walks.{bridge_at}
 use Rattle.mst_graph.specs.declared.keys.Numbering.{Numbering}
-use Rattle.mst_lag.specs.Viewed.{Viewed}
+use Rattle.mst_view.specs.Viewed.{Viewed}
 use Rattle.mst_policy.specs.declared.item.NameItem.{NameItem}
-use Rattle.mst_lag.specs.View.{bridge_names}
+use Rattle.mst_view.specs.View.{bridge_names}
 use Rattle.mst_tables.specs.Tables.{IsNetwork, Net}
 use Rattle.mst_forest.specs.Outcome.{Outcome}
 use Rattle.mst_forest.specs.Settled.{IsSettledNet, outcome_of, SettledNet}

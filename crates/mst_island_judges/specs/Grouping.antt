@@ -1,7 +1,7 @@
 -- What is told of groups of VIDs by the parts of their classes.
 use Rattle.std.specs.Prelude.{ℕ, Bool, List, [], ◌∷◌, if◌then◌else◌}
 use Rattle.mst_ids.specs.Vids.{set_where}
-use Rattle.mst_lag.specs.Trees.{is_among}
+use Rattle.mst_view.specs.Trees.{is_among}
 use Rattle.mst_graph.specs.Lists.{has_any}
 use Rattle.mst_judged.specs.reasons.Reasons.{Parts, has_two}
 use Rattle.mst_island_judges.specs.declared.grouping.Telling.{Telling}

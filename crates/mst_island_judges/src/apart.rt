@@ -11,7 +11,7 @@ use crate::grouping::{Telling, vid_reasons};
 use crate::parting::parts_at;
 use mst_ids::{Name, VidSet};
 use mst_judged::{Judged, Reason, classes_asked, is_named};
-use mst_lag::BridgeInView;
+use mst_view::BridgeInView;
 use mst_policy::NameList;
 use std::alloc::{AllocError, Global};
 

@@ -11,7 +11,7 @@ use indexmap::IndexMap;
 use mst_graph::{groups, groups_by_body};
 use mst_ids::{BridgeNo, Name, Vid, VidSet};
 use mst_judged::{Before, Home, Homes, Judged, classes_of, homes_in, vids_of};
-use mst_lag::BridgeInView;
+use mst_view::BridgeInView;
 use std::alloc::{AllocError, Global};
 
 /// Where the bridge of this number is.

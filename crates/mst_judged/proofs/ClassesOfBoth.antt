@@ -1,7 +1,7 @@
 -- Classes of VIDs of two networks are classes of each.
 use Rattle.mst_reasons.specs.sweep.vlan.classes.Classes.{AreClasses, AreClassesOf}
 use Rattle.mst_graph.specs.declared.keys.Numbering.{Numbering}
-use Rattle.mst_lag.specs.Viewed.{Viewed}
+use Rattle.mst_view.specs.Viewed.{Viewed}
 
 module _ (v w : Viewed) (c : Numbering) (k : AreClassesOf v w c) where
   pub of_old : AreClasses v c

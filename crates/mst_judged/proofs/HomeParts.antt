@@ -10,7 +10,7 @@ use Rattle.mst_graph.specs.Groups.{AreGroups}
 use Rattle.mst_graph.specs.Islands.{Island}
 use Rattle.mst_graph.proofs.Alike.{alike_groups}
 use Rattle.mst_graph.proofs.Members.{from_map}
-use Rattle.mst_lag.specs.declared.in_view.BridgeInView.{BridgeInView}
+use Rattle.mst_view.specs.declared.in_view.BridgeInView.{BridgeInView}
 use Rattle.mst_tables.specs.Contents.{IsNumbered}
 use Rattle.mst_tables.specs.Tables.{Net, Numbers}
 use Rattle.mst_forest.specs.Outcome.{Outcome}

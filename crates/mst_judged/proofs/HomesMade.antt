@@ -5,7 +5,7 @@ use Rattle.std.specs.HashMap.{HashMap}
 use Rattle.std.proofs.lemmas.Slice.Zip.{AllZip-long}
 use Rattle.std.proofs.lemmas.List.{get_or_default}
 use Rattle.mst_reasons.specs.sweep.vlan.Carried.{ViewWithTrees}
-use Rattle.mst_lag.specs.Viewed.{Viewed}
+use Rattle.mst_view.specs.Viewed.{Viewed}
 use Rattle.mst_tables.specs.Tables.{Net, Numbers}
 use Rattle.mst_forest.specs.Agrees.{AreOf, Known}
 use Rattle.mst_forest.specs.Forest.{Forest, IsForest}

@@ -4,11 +4,11 @@ use Rattle.std.specs.List.{Contains, filter, list_any}
 use Rattle.std.specs.FinMap as fin
 use Rattle.mst_graph.proofs.Members.{from_filter, in_map}
 use Rattle.mst_ids.specs.declared.name.PortName.{PortName}
-use Rattle.mst_lag.specs.View.{LogicalPort}
-use Rattle.mst_lag.specs.Viewed.{Viewed, IsView, named_port}
-use Rattle.mst_lag.specs.declared.in_view.BridgeInView.{BridgeInView}
-use Rattle.mst_lag.specs.declared.in_view.PortInView.{PortInView}
-use Rattle.mst_lag.proofs.Lists.{any_mapped}
+use Rattle.mst_view.specs.View.{LogicalPort}
+use Rattle.mst_view.specs.Viewed.{Viewed, IsView, named_port}
+use Rattle.mst_view.specs.declared.in_view.BridgeInView.{BridgeInView}
+use Rattle.mst_view.specs.declared.in_view.PortInView.{PortInView}
+use Rattle.mst_view.proofs.Lists.{any_mapped}
 use Rattle.mst_policy.specs.Items as policy
 use Rattle.mst_policy.specs.declared.item.NameItem.{NameItem}
 use Rattle.mst_policy.specs.declared.item.PortItem.{PortItem}

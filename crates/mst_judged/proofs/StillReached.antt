@@ -10,8 +10,8 @@ use Rattle.mst_graph.proofs.Splits.{map_of_map}
 use Rattle.mst_graph.proofs.Walks.{back}
 use Rattle.mst_ids.specs.Vids.{has}
 use Rattle.mst_ids.specs.declared.name.PortName.{PortName}
-use Rattle.mst_lag.specs.Viewed.{Viewed, named_port}
-use Rattle.mst_lag.specs.declared.in_view.PortInView.{PortInView}
+use Rattle.mst_view.specs.Viewed.{Viewed, named_port}
+use Rattle.mst_view.specs.declared.in_view.PortInView.{PortInView}
 use Rattle.mst_tables.specs.ByTree.{vlans_in}
 use Rattle.mst_tables.specs.Tables.{IsNetwork, Net, Numbers}
 use Rattle.mst_forest.specs.Agrees.{AreOf}

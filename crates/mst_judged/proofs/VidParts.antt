@@ -6,7 +6,7 @@ use Rattle.mst_graph.specs.Islands.{AreJoined}
 use Rattle.mst_graph.specs.Walks.{bridge_at}
 use Rattle.mst_graph.specs.declared.keys.Numbering.{Numbering}
 use Rattle.mst_graph.proofs.Alike.{alike_groups}
-use Rattle.mst_lag.specs.Viewed.{Viewed}
+use Rattle.mst_view.specs.Viewed.{Viewed}
 use Rattle.mst_tables.specs.Tables.{Net}
 use Rattle.mst_reasons.specs.sweep.vlan.classes.Alike.{AreAlike}
 use Rattle.mst_reasons.specs.sweep.vlan.classes.AllVids.{NumberEach, all_vids}

@@ -5,7 +5,7 @@ use Rattle.std.proofs.lemmas.List.{get_or_default}
 use Rattle.mst_ids.specs.Vids.{has}
 use Rattle.mst_graph.specs.declared.keys.Numbering.{Numbering}
 use Rattle.mst_graph.proofs.Members.{from_filter}
-use Rattle.mst_lag.specs.Viewed.{Viewed}
+use Rattle.mst_view.specs.Viewed.{Viewed}
 use Rattle.mst_reasons.specs.sweep.vlan.classes.AllVids.{NumberEach, all_vids}
 use Rattle.mst_reasons.specs.sweep.vlan.classes.Classes.{AreClasses}
 use Rattle.mst_reasons.specs.sweep.vlan.classes.Flags.{flag_at}

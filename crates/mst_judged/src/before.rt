@@ -13,7 +13,7 @@ use indexmap::{IndexMap, IndexSet};
 use mst_forest::Settled;
 use mst_graph::Numbering;
 use mst_ids::{BridgeNo, PortName, VidSet};
-use mst_lag::View;
+use mst_view::View;
 use mst_reasons::{Carriage, classes_of_vids};
 use std::alloc::{AllocError, Global};
 

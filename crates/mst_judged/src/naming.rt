@@ -1,12 +1,12 @@
 ghost use Rattle.std.specs.Prelude.{◌≡◌, not, ◌&&◌, IfOk, false, filter};
 ghost use Rattle.std.specs.Option.{option_map_or};
-ghost use Rattle.mst_lag.specs.Aggregation.{same_name};
+ghost use Rattle.mst_view.specs.Aggregation.{same_name};
 ghost use Rattle.mst_reasons.specs.Named.{is_gone as is_gone_of, is_named as is_named_of};
 ghost use Rattle.mst_judged.specs.Seen.{seen_named};
 
 use crate::judged::Judged;
 use mst_ids::Name;
-use mst_lag::BridgeInView;
+use mst_view::BridgeInView;
 use mst_policy::NameList;
 use std::alloc::{AllocError, Global};
 

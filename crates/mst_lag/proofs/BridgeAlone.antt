@@ -13,8 +13,8 @@ use Rattle.mst_tables.specs.declared.refusal.Refusal.{Refusal}
 use Rattle.mst_tables.proofs.Changed.{get_changed}
 use Rattle.mst_tables.proofs.Keys.{names}
 use Rattle.mst_tables.proofs.NamesInOrder.{names_stay}
-use Rattle.mst_lag.specs.Aggregation.{same_name}
-use Rattle.mst_lag.specs.Viewed.{Viewed, IsView}
+use Rattle.mst_view.specs.Aggregation.{same_name}
+use Rattle.mst_view.specs.Viewed.{Viewed, IsView}
 use Rattle.mst_lag.specs.Renewed.{bridge_part, leaves_links, DifferInBridge, IsViewButBridge}
 
 others_stay : (net : Net) (bridge : List ℕ) (f : BridgeRow → BridgeRow) (a : List ℕ) → same_name bridge a ≡ false → fin.get (changed net.bridges bridge f) a ≡ fin.get net.bridges a

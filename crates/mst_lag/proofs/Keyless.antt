@@ -2,11 +2,11 @@
 use Rattle.std.proofs.Common.{◌≡◌, Bool, true, false, cond, not, ◌&&◌, nat_eq, nat_le, List, [], ◌∷◌, Some, None, refl, sym, ap, ◌∙◌, true≢false}
 use Rattle.std.specs.List.{AllByRecursion, filter, list_all}
 use Rattle.std.proofs.lemmas.Bool.{eqb-true}
-use Rattle.mst_lag.specs.Aggregation.{same_name}
+use Rattle.mst_view.specs.Aggregation.{same_name}
 use Rattle.mst_lag.specs.Seen.{plug_side, collected, class_of}
 use Rattle.mst_lag.specs.declared.plugs.PlugSeen.{PlugSeen}
 use Rattle.mst_lag.specs.declared.classes.Class.{Class}
-use Rattle.mst_lag.proofs.Lists.{all_filtered}
+use Rattle.mst_view.proofs.Lists.{all_filtered}
 
 first_true : (a b : Bool) → (a && b) ≡ true → a ≡ true
 first_true true b h = refl

@@ -12,8 +12,8 @@ use Rattle.mst_tables.specs.declared.refusal.Refusal.{Refusal}
 use Rattle.mst_tables.proofs.Changed.{get_changed}
 use Rattle.mst_tables.proofs.Keys.{names}
 use Rattle.mst_tables.proofs.NamesInOrder.{names_stay}
-use Rattle.mst_lag.specs.Aggregation.{same_name}
-use Rattle.mst_lag.specs.Viewed.{Viewed, IsView}
+use Rattle.mst_view.specs.Aggregation.{same_name}
+use Rattle.mst_view.specs.Viewed.{Viewed, IsView}
 use Rattle.mst_lag.specs.Renewed.{DifferInLan, IsViewButLan}
 
 others_stay : (net : Net) (lan : List ℕ) (f : LanRow → LanRow) (l : List ℕ) → same_name lan l ≡ false → fin.get (changed net.lans lan f) l ≡ fin.get net.lans l

@@ -1,15 +1,9 @@
-pub mod Names
-pub mod Lists
-pub mod Entries
 pub mod Sides
 pub mod Known
 pub mod Viewing
 pub mod Steps
 pub mod Keyless
-pub mod Placing
 pub mod InPlace
-pub mod Rising
-pub mod TreesOf
 pub mod Renewal
 pub mod LanAlone
 pub mod RenewedBridge

@@ -14,7 +14,7 @@ use Rattle.mst_tables.specs.declared.refusal.Refusal.{Refusal}
 use Rattle.mst_tables.proofs.Changed.{get_changed}
 use Rattle.mst_tables.proofs.Keys.{ports}
 use Rattle.mst_tables.proofs.NamesInOrder.{names_stay}
-use Rattle.mst_lag.specs.Viewed.{Viewed, IsView}
+use Rattle.mst_view.specs.Viewed.{Viewed, IsView}
 use Rattle.mst_lag.specs.Renewed.{port_part, leaves_key, IsViewButPort}
 
 part_stays : (change : PortChange) → leaves_key change ≡ true → (x : PortRow) → port_part (port_with change x) ≡ port_part x

@@ -12,7 +12,8 @@ use Rattle.mst_tables.specs.Tables.{Net, Numbers, PortRow}
 use Rattle.mst_tables.specs.After.{after, change as changed, effect, in_lan, port_with, refusal_of}
 use Rattle.mst_tables.specs.Contents.{Contents, Commits}
 use Rattle.mst_tables.specs.declared.refusal.Refusal.{Refusal}
-use Rattle.mst_lag.specs.Viewed.{Viewed, AreLinks, IsView}
+use Rattle.mst_view.specs.Viewed.{Viewed, IsView}
+use Rattle.mst_lag.specs.Links.{AreLinks}
 use Rattle.mst_lag.specs.Renewed.{IsViewButPorts}
 use Rattle.mst_lag.specs.declared.viewed.Links.{Links}
 

@@ -10,20 +10,20 @@ use Rattle.std.specs.FinMap.{contains_key-keys, len-entries}
 use Rattle.mst_ids.specs.Names.{name_cmp}
 use Rattle.mst_tables.specs.Tables.{Net, Numbers, LanRow, IsNetwork, port_eq}
 use Rattle.mst_tables.specs.Contents.{IsNumbered}
-use Rattle.mst_lag.specs.Aggregation.{Plug, plugs, same_name, lans_as_one}
-use Rattle.mst_lag.specs.Lag.{lag_of}
-use Rattle.mst_lag.specs.View.{LogicalLan, LogicalPort, logical_lan, logical_port, members, up_members, is_up, speed, is_on, as_lan, as_port, view_lans, view_ports}
-use Rattle.mst_lag.specs.Viewed.{Viewed, IsView, named_lan, named_port, member_lan, member_port, HasNumbers}
+use Rattle.mst_view.specs.Aggregation.{Plug, plugs, same_name, lans_as_one}
+use Rattle.mst_view.specs.Lag.{lag_of}
+use Rattle.mst_view.specs.View.{LogicalLan, LogicalPort, logical_lan, logical_port, members, up_members, is_up, speed, is_on, as_lan, as_port, view_lans, view_ports}
+use Rattle.mst_view.specs.Viewed.{Viewed, IsView, named_lan, named_port, member_lan, member_port, HasNumbers}
 use Rattle.mst_lag.specs.Seen.{total_of}
 use Rattle.mst_lag.specs.Renewed.{DifferInLan, IsViewButLan, is_up_there, logical_among, seen_member, member_again, lan_again, port_again}
-use Rattle.mst_lag.specs.declared.in_view.PortInView.{PortInView}
-use Rattle.mst_lag.specs.declared.in_view.LanInView.{LanInView}
-use Rattle.mst_lag.specs.declared.in_view.MemberLan.{MemberLan}
+use Rattle.mst_view.specs.declared.in_view.PortInView.{PortInView}
+use Rattle.mst_view.specs.declared.in_view.LanInView.{LanInView}
+use Rattle.mst_view.specs.declared.in_view.MemberLan.{MemberLan}
 use Rattle.mst_lag.specs.declared.members.LanSeen.{LanSeen}
 use Rattle.mst_lag.specs.declared.members.Total.{Total}
-use Rattle.mst_lag.proofs.Lists.{all_weaker, all_both, all_of, all_mapped, all_filtered, filter_mapped, mapped_twice, same_map, map_itself, filter_map_mapped, kept_mapped, sum_mapped, any_mapped}
-use Rattle.mst_lag.proofs.Entries.{entries_found}
-use Rattle.mst_lag.proofs.Names.{same_names}
+use Rattle.mst_view.proofs.Lists.{all_weaker, all_both, all_of, all_mapped, all_filtered, filter_mapped, mapped_twice, same_map, map_itself, filter_map_mapped, kept_mapped, sum_mapped, any_mapped}
+use Rattle.mst_view.proofs.Entries.{entries_found}
+use Rattle.mst_view.proofs.Names.{same_names}
 
 pub there_is : {A : Type 0} (o : Option A) (d : A) → is_some o ≡ true → o ≡ Some (unwrap_or o d)
 there_is None d h = absurd (true≢false (sym h))

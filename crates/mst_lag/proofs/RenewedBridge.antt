@@ -11,19 +11,19 @@ use Rattle.std.specs.FinMap.{contains_key-keys}
 use Rattle.mst_ids.specs.Names.{name_cmp}
 use Rattle.mst_tables.specs.Tables.{Net, Numbers, BridgeRow, LanRow, IsNetwork, port_eq}
 use Rattle.mst_tables.specs.Seen.{bridge_row}
-use Rattle.mst_lag.specs.Aggregation.{Plug, Side, plugs, same_name, sides}
-use Rattle.mst_lag.specs.Lag.{lag_of, lag_between, end_of}
-use Rattle.mst_lag.specs.Trees.{mstis_of}
-use Rattle.mst_lag.specs.View.{LogicalPort, logical_lan, logical_port, members, is_up, speed, is_on, as_lan, as_port, view_lans, view_ports}
-use Rattle.mst_lag.specs.Viewed.{Viewed, IsView, named_bridge, named_port, bridge_trees, HasNumbers}
+use Rattle.mst_view.specs.Aggregation.{Plug, Side, plugs, same_name, sides}
+use Rattle.mst_view.specs.Lag.{lag_of, lag_between, end_of}
+use Rattle.mst_view.specs.Trees.{mstis_of}
+use Rattle.mst_view.specs.View.{LogicalPort, logical_lan, logical_port, members, is_up, speed, is_on, as_lan, as_port, view_lans, view_ports}
+use Rattle.mst_view.specs.Viewed.{Viewed, IsView, named_bridge, named_port, bridge_trees, HasNumbers}
 use Rattle.mst_lag.specs.Seen.{named_row}
 use Rattle.mst_lag.specs.Renewed.{BridgePart, bridge_part, IsViewButBridge, port_powered}
-use Rattle.mst_lag.specs.declared.lag.LagEnd.{LagEnd}
-use Rattle.mst_lag.specs.declared.in_view.BridgeInView.{BridgeInView}
-use Rattle.mst_lag.specs.declared.in_view.PortInView.{PortInView}
-use Rattle.mst_lag.proofs.Lists.{all_weaker, all_both, all_of, all_mapped, all_filtered, mapped_twice, same_map, kept_mapped}
-use Rattle.mst_lag.proofs.Entries.{entries_found}
-use Rattle.mst_lag.proofs.Names.{same_names}
+use Rattle.mst_view.specs.declared.lag.LagEnd.{LagEnd}
+use Rattle.mst_view.specs.declared.in_view.BridgeInView.{BridgeInView}
+use Rattle.mst_view.specs.declared.in_view.PortInView.{PortInView}
+use Rattle.mst_view.proofs.Lists.{all_weaker, all_both, all_of, all_mapped, all_filtered, mapped_twice, same_map, kept_mapped}
+use Rattle.mst_view.proofs.Entries.{entries_found}
+use Rattle.mst_view.proofs.Names.{same_names}
 use Rattle.mst_lag.proofs.Viewing.{bridges_are}
 use Rattle.mst_lag.proofs.Renewal.{there_is, swapped, entries_by}
 

@@ -11,17 +11,17 @@ use Rattle.mst_tables.specs.Tables.{Net, Numbers, PortRow, LanRow, IsNetwork, po
 use Rattle.mst_tables.specs.declared.settings.PortSettings.{PortSettings}
 use Rattle.mst_tables.specs.After.{new_settings}
 use Rattle.mst_tables.specs.Contents.{IsNumbered}
-use Rattle.mst_lag.specs.Aggregation.{Plug, Side, plug_of, plugs, plugs_in, same_name, same_sides, sides_of, sides, lans_as_one, ports_as_one}
-use Rattle.mst_lag.specs.Lag.{lag_of, lag_between, end_of}
-use Rattle.mst_lag.specs.View.{LogicalPort, logical_lan, logical_port, is_up, speed, is_on, as_port, view_lans, view_ports}
-use Rattle.mst_lag.specs.Viewed.{Viewed, IsView, named_port, member_port, HasNumbers}
+use Rattle.mst_view.specs.Aggregation.{Plug, Side, plug_of, plugs, plugs_in, same_name, same_sides, sides_of, sides, lans_as_one, ports_as_one}
+use Rattle.mst_view.specs.Lag.{lag_of, lag_between, end_of}
+use Rattle.mst_view.specs.View.{LogicalPort, logical_lan, logical_port, is_up, speed, is_on, as_port, view_lans, view_ports}
+use Rattle.mst_view.specs.Viewed.{Viewed, IsView, named_port, member_port, HasNumbers}
 use Rattle.mst_lag.specs.Renewed.{PortPart, port_part, IsViewButPort, settings_there, port_set}
-use Rattle.mst_lag.specs.declared.in_view.PortInView.{PortInView}
-use Rattle.mst_lag.proofs.Lists.{some_is, all_weaker, all_of, all_mapped, all_filtered, filter_mapped, filter_same, find_same, mapped_twice, same_map, map_itself, kept_mapped, kept_alike}
-use Rattle.mst_lag.proofs.Entries.{entries_found}
-use Rattle.mst_lag.proofs.Names.{same_ports, own_port}
+use Rattle.mst_view.specs.declared.in_view.PortInView.{PortInView}
+use Rattle.mst_view.proofs.Lists.{some_is, all_weaker, all_of, all_mapped, all_filtered, filter_mapped, filter_same, find_same, mapped_twice, same_map, map_itself, kept_mapped, kept_alike}
+use Rattle.mst_view.proofs.Entries.{entries_found}
+use Rattle.mst_view.proofs.Names.{same_ports, own_port}
 use Rattle.mst_lag.proofs.Known.{IsPlug, all_plugs}
-use Rattle.mst_lag.proofs.Sides.{ports_total}
+use Rattle.mst_view.proofs.Orders.{ports_total}
 use Rattle.mst_lag.proofs.Renewal.{there_is}
 
 -- the first that passes of a list that is changed

@@ -12,9 +12,9 @@ use Rattle.mst_tables.specs.Tables.{Net, Numbers}
 use Rattle.mst_tables.specs.After.{after, effect, set_with, refusal_of}
 use Rattle.mst_tables.specs.Contents.{Contents, Commits}
 use Rattle.mst_tables.specs.declared.refusal.Refusal.{Refusal}
-use Rattle.mst_lag.specs.Viewed.{Viewed, IsView, bridge_trees}
+use Rattle.mst_view.specs.Viewed.{Viewed, IsView, bridge_trees}
 use Rattle.mst_lag.specs.Renewed.{IsViewButSet, IsViewButSettings, leaves_tables}
-use Rattle.mst_lag.specs.declared.in_view.BridgeInView.{BridgeInView}
+use Rattle.mst_view.specs.declared.in_view.BridgeInView.{BridgeInView}
 
 effect_is : (change : TreeChange) (old new : Net) (o : Option Refusal) → option_map_or Err o (Ok (effect (SetByTree change) old)) ≡ Ok new → effect (SetByTree change) old ≡ new
 effect_is change old new None h = ap net_in h

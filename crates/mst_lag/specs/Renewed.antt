@@ -16,12 +16,12 @@ use Rattle.mst_tables.specs.After.{new_settings}
 use Rattle.mst_tables.specs.Contents.{IsNumbered}
 use Rattle.mst_tables.specs.declared.settings.PortSettings.{PortSettings}
 use Rattle.mst_tables.specs.Tables.{Net, Numbers, BridgeRow, PortRow, LanRow, IsNetwork, port_eq}
-use Rattle.mst_lag.specs.Aggregation.{same_name}
-use Rattle.mst_lag.specs.View.{is_on}
-use Rattle.mst_lag.specs.Viewed.{Viewed, IsView}
-use Rattle.mst_lag.specs.declared.in_view.PortInView.{PortInView}
-use Rattle.mst_lag.specs.declared.in_view.LanInView.{LanInView}
-use Rattle.mst_lag.specs.declared.in_view.MemberLan.{MemberLan}
+use Rattle.mst_view.specs.Aggregation.{same_name}
+use Rattle.mst_view.specs.View.{is_on}
+use Rattle.mst_view.specs.Viewed.{Viewed, IsView}
+use Rattle.mst_view.specs.declared.in_view.PortInView.{PortInView}
+use Rattle.mst_view.specs.declared.in_view.LanInView.{LanInView}
+use Rattle.mst_view.specs.declared.in_view.MemberLan.{MemberLan}
 use Rattle.mst_lag.specs.declared.members.LanSeen.{LanSeen}
 use Rattle.mst_lag.specs.declared.members.Total.{Total}
 

@@ -9,7 +9,7 @@ ghost use Rattle.mst_lang.specs.declared.line.TreeChange.{TreeChange};
 ghost use Rattle.mst_tables.specs.Tables.{Net, Numbers, IsNetwork};
 ghost use Rattle.mst_tables.specs.After.{effect};
 ghost use Rattle.mst_tables.specs.Contents.{Contents, Commits, IsNumbered};
-ghost use Rattle.mst_lag.specs.Viewed.{Viewed, IsView};
+ghost use Rattle.mst_view.specs.Viewed.{Viewed, IsView};
 ghost use Rattle.mst_lag.specs.Renewed.{IsViewButLan, IsViewButBridge, IsViewButSet, IsViewButSettings, leaves_links, leaves_tables, leaves_key, IsViewButPort, IsViewButPorts};
 
 /// An edit of the state or the speed of a LAN changes nothing else: the view before it is that of the network that it makes,

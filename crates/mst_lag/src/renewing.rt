@@ -2,14 +2,14 @@ ghost use Rattle.std.specs.Prelude.{◌≡◌, IfOk, OnOk, OnErr, map, filter, f
 ghost use Rattle.std.specs.List.{find, AllByRecursion};
 ghost use Rattle.std.specs.FinMap as fin;
 ghost use Rattle.std.specs.Option.{option_copied};
-ghost use Rattle.mst_lag.specs.Aggregation.{same_name};
-ghost use Rattle.mst_lag.specs.View.{is_on as bridge_is_on};
-ghost use Rattle.mst_lag.specs.Viewed.{IsView, named_bridge};
+ghost use Rattle.mst_view.specs.Aggregation.{same_name};
+ghost use Rattle.mst_view.specs.View.{is_on as bridge_is_on};
+ghost use Rattle.mst_view.specs.Viewed.{IsView, named_bridge};
 ghost use Rattle.mst_lag.specs.Seen.{total_of, named_row};
 ghost use Rattle.mst_lag.specs.Renewed.{IsViewButLan, IsViewButBridge, IsViewButSet, IsViewButSettings, leaves_links as leaves_what_links, leaves_tables as leaves_all_tables, leaves_key as leaves_own_key, IsViewButPort, IsViewButPorts, settings_there, port_set, port_with as set_of_port, port_powered, powered, is_up_there, logical_among, seen_member, member_again, lan_again as lan_renewed, port_again as port_renewed, port_giving};
 
-use crate::in_view::{BridgeInView, LanInView, MemberLan, PortInView, View};
-use crate::listed::Listed;
+use mst_view::{BridgeInView, LanInView, MemberLan, PortInView, View};
+use mst_view::Listed;
 use crate::members::{LanSeen, Total, total_at, totals};
 use crate::viewed::{Links, links_now, listed_bridges, listed_trees};
 use mst_ids::{Name, PortName};

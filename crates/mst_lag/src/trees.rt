@@ -1,66 +1,14 @@
 ghost use Rattle.std.specs.Prelude.{◌≡◌, IfOk, map};
-ghost use Rattle.std.specs.List.Sorted.{IsNonDecreasingBy};
 ghost use Rattle.mst_tables.specs.Seen.{bridge_row};
-ghost use Rattle.mst_lag.specs.Trees.{mstis_of, is_among};
-ghost use Rattle.mst_lag.specs.Viewed.{bridge_trees};
+ghost use Rattle.mst_view.specs.Trees.{mstis_of};
+ghost use Rattle.mst_view.specs.Viewed.{bridge_trees};
 
-use crate::in_view::BridgeInView;
-use mst_ids::{BridgeNo, Tree};
+use mst_view::{RisingTrees, TreesInView};
+use mst_view::BridgeInView;
+use mst_ids::Tree;
 use mst_lang::Kind;
 use mst_tables::Contents;
 use std::alloc::{AllocError, Global};
-use std::marker::Model;
-
-/// Trees in rising order.
-#[derive(Drop)]
-pub(crate) struct RisingTrees {
-    trees: Vec<Tree>,
-}
-
-impl Model for RisingTrees {
-    ghost use Rattle.std.specs.Prelude.{ℕ, List};
-    ghost use Rattle.std.specs.List.Sorted.{IsNonDecreasingBy};
-
-    ghost Value = { List ℕ };
-
-    ghost view = { λ r. r.trees.items };
-
-    ghost invariant = { λ r. IsNonDecreasingBy (λ t. t) r.trees.items };
-}
-
-impl RisingTrees {
-    /// These trees.
-    pub(crate) fn new(trees: Vec<Tree>) -> Self
-        requires { IsNonDecreasingBy (λ t. t) trees.items }
-        ensures { result ≡ trees.items }
-    {
-        RisingTrees { trees }
-    }
-
-    /// The trees, in their order.
-    pub(crate) fn as_slice(&self) -> &[Tree]
-        ensures { result.now ≡ self.now }
-    {
-        self.trees.as_slice()
-    }
-
-    /// Whether a tree is one of these, found by halves.
-    pub(crate) fn has(&self, tree: Tree) -> bool
-        ensures { result ≡ is_among self.now tree }
-    {
-        self.trees
-            .as_slice()
-            .binary_search_by_key(&tree.value(), |it| it.value())
-            .is_ok()
-    }
-}
-
-/// A bridge's number, and the trees that it has beside the CIST.
-#[derive(Drop)]
-pub(crate) struct TreesInView {
-    pub(crate) bridge: BridgeNo,
-    pub(crate) trees: RisingTrees,
-}
 
 /// The trees of each of these bridges.
 pub(crate) fn trees_in_view<C: Contents>(

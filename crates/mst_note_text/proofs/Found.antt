@@ -3,7 +3,7 @@ use Rattle.std.proofs.Common.{◌≡◌, ℕ, ◌<◌, List, length, Option, sub
 use Rattle.std.specs.Prelude.{Result, Ok, Err}
 use Rattle.std.specs.Result.{IfOk}
 use Rattle.mst_tables.specs.Tables.{Net, Numbers}
-use Rattle.mst_lag.specs.Viewed.{Viewed}
+use Rattle.mst_view.specs.Viewed.{Viewed}
 use Rattle.mst_forest.specs.Agrees.{AreOf}
 use Rattle.mst_forest.specs.Forest.{IsForest, Forest}
 use Rattle.mst_forest.specs.Outcome.{trees_of}

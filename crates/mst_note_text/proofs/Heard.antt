@@ -8,9 +8,9 @@ use Rattle.mst_topology.specs.Topology.{TreePort}
 use Rattle.mst_topology.specs.Settled.{IsDesignated, Designates}
 use Rattle.mst_topology.proofs.Below.{one_designated}
 use Rattle.mst_tables.specs.Tables.{Net, Numbers}
-use Rattle.mst_lag.specs.View.{LogicalPort}
-use Rattle.mst_lag.specs.Viewed.{Viewed, named_port}
-use Rattle.mst_lag.specs.declared.in_view.PortInView.{PortInView}
+use Rattle.mst_view.specs.View.{LogicalPort}
+use Rattle.mst_view.specs.Viewed.{Viewed, named_port}
+use Rattle.mst_view.specs.declared.in_view.PortInView.{PortInView}
 use Rattle.mst_forest.specs.Sight.{Sight, tree_of, tree_port}
 use Rattle.mst_forest.specs.Outcome.{TreeOutcome, IsTreeOutcome}
 use Rattle.mst_forest.specs.Agrees.{Agrees, IsNameOf, AreOf}

@@ -17,10 +17,10 @@ use Rattle.mst_topology.specs.Topology.{HasBridge}
 use Rattle.mst_outcome.specs.Assignment.{vector_of, designated_of}
 use Rattle.mst_tables.specs.Tables.{Net, Numbers, BridgeRow}
 use Rattle.mst_tables.specs.ByTree.{ByTree, by_tree, port_priority_in}
-use Rattle.mst_lag.specs.Trees.{is_among}
-use Rattle.mst_lag.specs.Viewed.{Viewed, named_port}
-use Rattle.mst_lag.specs.declared.in_view.BridgeInView.{BridgeInView}
-use Rattle.mst_lag.specs.declared.in_view.PortInView.{PortInView}
+use Rattle.mst_view.specs.Trees.{is_among}
+use Rattle.mst_view.specs.Viewed.{Viewed, named_port}
+use Rattle.mst_view.specs.declared.in_view.BridgeInView.{BridgeInView}
+use Rattle.mst_view.specs.declared.in_view.PortInView.{PortInView}
 use Rattle.mst_forest.specs.Sight.{Sight, tree_of}
 use Rattle.mst_forest.specs.Cist.{cist_port, cist_sight}
 use Rattle.mst_forest.specs.Msti.{msti_bridge, msti_port, msti_sight, has_msti, is_internal}

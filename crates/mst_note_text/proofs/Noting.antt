@@ -19,9 +19,9 @@ use Rattle.mst_tables.specs.Tables.{Net, Numbers, BridgeRow}
 use Rattle.mst_tables.specs.ByTree.{by_tree}
 use Rattle.mst_tables.specs.Contents.{priority_of}
 use Rattle.mst_tables.specs.Seen.{bridge_row}
-use Rattle.mst_lag.specs.Viewed.{Viewed, named_bridge}
-use Rattle.mst_lag.specs.declared.in_view.BridgeInView.{BridgeInView}
-use Rattle.mst_lag.proofs.Lists.{mapped_twice}
+use Rattle.mst_view.specs.Viewed.{Viewed, named_bridge}
+use Rattle.mst_view.specs.declared.in_view.BridgeInView.{BridgeInView}
+use Rattle.mst_view.proofs.Lists.{mapped_twice}
 use Rattle.mst_config.specs.Regions.{region_of}
 use Rattle.mst_forest.specs.Cist.{cist_bridge, cist_sight}
 use Rattle.mst_forest.specs.Msti.{msti_bridge, msti_sight, has_msti}

@@ -12,7 +12,7 @@ use Rattle.mst_vector.specs.declared.msti.MstiVector.{MstiVector}
 use Rattle.mst_tables.specs.Tables.{Net}
 use Rattle.mst_rows.specs.Cells.{word, number}
 use Rattle.mst_rows.specs.Rows.{Row, row_of}
-use Rattle.mst_lag.specs.View.{LogicalPort, view_ports}
+use Rattle.mst_view.specs.View.{LogicalPort, view_ports}
 use Rattle.mst_forest.specs.Outcome.{Outcome, trees_of}
 use Rattle.mst_note_text.specs.AreDepths.{TreeDepths, AreDepths}
 

@@ -8,7 +8,7 @@ use crate::member::{Member, RootPath};
 use crate::parent::Depths;
 use crate::places::Macs;
 use mst_ids::{BridgeId, Tree};
-use mst_lag::BridgeInView;
+use mst_view::BridgeInView;
 use mst_rows::Rows;
 use std::alloc::AllocError;
 

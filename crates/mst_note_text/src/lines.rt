@@ -1,11 +1,11 @@
 ghost use Rattle.std.specs.Prelude.{◌++◌, ◌∷◌, [], List, OnOk};
-ghost use Rattle.mst_lag.specs.Viewed.{named_port};
+ghost use Rattle.mst_view.specs.Viewed.{named_port};
 ghost use Rattle.mst_rows.specs.Rows.{Row};
 ghost use Rattle.mst_note_text.specs.NotesText.{hops_note, age_note, external_note, internal_note, restricted_row, restricted_note};
 
 use mst_ids::{MaxAge, MaxHops, Name, PortName, Tree};
 use mst_kinds::{Kind, NoteLine};
-use mst_lag::PortInView;
+use mst_view::PortInView;
 use mst_rows::{Rows, Value, put};
 use std::alloc::AllocError;
 

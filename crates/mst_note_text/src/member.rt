@@ -3,7 +3,7 @@ ghost use Rattle.mst_note_text.specs.SeenTree.{cist_member as cist_member_of, ms
 
 use mst_forest::Forest;
 use mst_ids::{BridgeId, BridgeNo, Name, Tree};
-use mst_lag::{BridgeInView, View};
+use mst_view::{BridgeInView, View};
 use mst_vector::{CistVector, MstiVector};
 use std::alloc::{AllocError, Global};
 

@@ -1,7 +1,7 @@
 ghost use Rattle.std.specs.List.{flat_map};
 ghost use Rattle.std.specs.Prelude.{◌≡◌, ◌<◌, ◌++◌, ℕ, List, false, length, OnOk, slice_index_or};
-ghost use Rattle.mst_lag.specs.declared.in_view.BridgeInView.{BridgeInView as BridgeOf};
-ghost use Rattle.mst_lag.specs.Viewed.{named_port};
+ghost use Rattle.mst_view.specs.declared.in_view.BridgeInView.{BridgeInView as BridgeOf};
+ghost use Rattle.mst_view.specs.Viewed.{named_port};
 ghost use Rattle.mst_forest.specs.Outcome.{trees_of};
 ghost use Rattle.mst_forest.specs.Settled.{outcome_of};
 ghost use Rattle.mst_rows.specs.Rows.{Row};
@@ -16,7 +16,7 @@ use crate::tree::put_tree;
 use mst_forest::laws::nested;
 use mst_forest::{Settled, trees_in_use};
 use mst_ids::Tree;
-use mst_lag::{PortInView, View};
+use mst_view::{PortInView, View};
 use mst_rows::Rows;
 use std::alloc::{AllocError, Global};
 

@@ -9,7 +9,7 @@ use crate::parent::Parent;
 use crate::places::Places;
 use mst_forest::{Forest, Role, port_role};
 use mst_ids::Tree;
-use mst_lag::{PortInView, View};
+use mst_view::{PortInView, View};
 use std::alloc::{AllocError, Global};
 
 /// The parents of the bridges of a tree, in one pass over the ports: a root port gives its bridge's.

@@ -1,12 +1,12 @@
 ghost use Rattle.std.specs.Prelude.{IfOk};
 ghost use Rattle.mst_note_text.specs.declared.member.Member.{Member as MemberOf};
-ghost use Rattle.mst_lag.specs.declared.in_view.BridgeInView.{BridgeInView as BridgeOf};
+ghost use Rattle.mst_view.specs.declared.in_view.BridgeInView.{BridgeInView as BridgeOf};
 ghost use Rattle.mst_note_text.specs.Placed.{ArePlaces};
 
 use crate::member::Member;
 use indexmap::IndexMap;
 use mst_ids::{BridgeNo, Mac};
-use mst_lag::BridgeInView;
+use mst_view::BridgeInView;
 use std::alloc::{AllocError, Global};
 
 /// The places of the bridges of a tree, by the numbers of their records.

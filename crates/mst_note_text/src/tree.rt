@@ -1,5 +1,5 @@
 ghost use Rattle.std.specs.Prelude.{◌++◌, List, OnOk};
-ghost use Rattle.mst_lag.specs.declared.in_view.BridgeInView.{BridgeInView as BridgeOf};
+ghost use Rattle.mst_view.specs.declared.in_view.BridgeInView.{BridgeInView as BridgeOf};
 ghost use Rattle.mst_forest.specs.Outcome.{trees_of};
 ghost use Rattle.mst_forest.specs.Settled.{outcome_of};
 ghost use Rattle.mst_rows.specs.Rows.{Row};

@@ -5,8 +5,8 @@ use Rattle.std.specs.List.{Contains, filter, find, flat_map}
 use Rattle.std.specs.Option.{option_map_or}
 use Rattle.std.specs.FinMap as fin
 use Rattle.std.proofs.lemmas.Bool.{eqb-true}
-use Rattle.mst_lag.specs.declared.in_view.BridgeInView.{BridgeInView}
-use Rattle.mst_lag.specs.declared.in_view.PortInView.{PortInView}
+use Rattle.mst_view.specs.declared.in_view.BridgeInView.{BridgeInView}
+use Rattle.mst_view.specs.declared.in_view.PortInView.{PortInView}
 use Rattle.mst_tables.specs.After.{table_of}
 use Rattle.mst_tables.specs.ByTree.{table_in}
 use Rattle.mst_tables.specs.Seen.{bridge_row}

@@ -3,10 +3,10 @@ use Rattle.std.proofs.Common.{◌≡◌, ℕ, ◌++◌, List, map, sym, ap, code
 use Rattle.std.specs.List.{Contains, filter, flat_map}
 use Rattle.std.specs.FinMap as fin
 use Rattle.std.proofs.lemmas.List.Folds.{flat_map-map}
-use Rattle.mst_lag.specs.Aggregation.{same_name}
-use Rattle.mst_lag.specs.View.{LogicalLan, LogicalPort}
-use Rattle.mst_lag.specs.Viewed.{Viewed, named_bridge, named_lan, named_port}
-use Rattle.mst_lag.specs.declared.in_view.PortInView.{PortInView}
+use Rattle.mst_view.specs.Aggregation.{same_name}
+use Rattle.mst_view.specs.View.{LogicalLan, LogicalPort}
+use Rattle.mst_view.specs.Viewed.{Viewed, named_bridge, named_lan, named_port}
+use Rattle.mst_view.specs.declared.in_view.PortInView.{PortInView}
 use Rattle.mst_forest.specs.Outcome.{Outcome}
 use Rattle.mst_forest.specs.Settled.{SettledNet, outcome_of, IsSettledNet}
 use Rattle.mst_forest.proofs.Lists.{all_contained, all_passing, all_there, filter_mapped, mapped_twice}

@@ -3,7 +3,7 @@ use Rattle.std.specs.Prelude.{ℕ, ◌&&◌, Bool, true, false, List, [], ◌∷
 use Rattle.std.specs.List.{flat_map}
 use Rattle.std.specs.Option.{option_map_or}
 use Rattle.mst_tables.specs.Tables.{Net}
-use Rattle.mst_lag.specs.View.{LogicalPort, view_lans}
+use Rattle.mst_view.specs.View.{LogicalPort, view_lans}
 use Rattle.mst_forest.specs.Outcome.{Outcome}
 use Rattle.mst_forest.specs.Roles.{role_in, role_of, tree_of_vid, forwards}
 use Rattle.mst_forest.specs.declared.kind.Role.{Role}

@@ -11,7 +11,7 @@ use crate::pieces::push_pieces;
 use indexmap::IndexMap;
 use mst_forest::Settled;
 use mst_ids::{Name, push_bytes};
-use mst_lag::{LanInView, PortInView};
+use mst_view::{LanInView, PortInView};
 use mst_summary::{kept_for, ports_by_lan};
 use std::alloc::{AllocError, Global};
 

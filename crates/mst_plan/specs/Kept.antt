@@ -1,7 +1,7 @@
 -- What is kept of a plan, and of what network it is.
 use Rattle.std.specs.Prelude.{◌≡◌, ℕ, Bool, true, false, List}
 use Rattle.mst_config.specs.Shared.{AreRegions}
-use Rattle.mst_lag.specs.Viewed.{IsView}
+use Rattle.mst_view.specs.Viewed.{IsView}
 use Rattle.mst_lang.specs.declared.line.Edit.{Edit}
 use Rattle.mst_net.specs.tables.Contents.{Contents, Commits, IsNumbered}
 use Rattle.mst_net.specs.tables.Tables.{Net, Numbers, IsNetwork}

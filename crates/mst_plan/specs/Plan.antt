@@ -3,7 +3,7 @@ use Rattle.std.specs.Prelude.{ℕ, List}
 use Rattle.mst_net.specs.tables.Tables.{Net, Numbers, IsNetwork}
 use Rattle.mst_net.specs.tables.Contents.{Contents, Commits, IsNumbered}
 use Rattle.mst_lang.specs.declared.line.Edit.{Edit}
-use Rattle.mst_lag.specs.Viewed.{Viewed, IsView}
+use Rattle.mst_view.specs.Viewed.{Viewed, IsView}
 use Rattle.mst_config.specs.Shared.{AreRegions}
 use Rattle.mst_forest.specs.Agrees.{AreOf}
 use Rattle.mst_forest.specs.Forest.{Forest, IsForest}

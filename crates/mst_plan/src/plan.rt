@@ -1,17 +1,15 @@
 ghost use Rattle.std.specs.Prelude.{◌≡◌, true, IfOk};
 ghost use Rattle.mst_config.specs.Shared.{AreRegions};
 ghost use Rattle.mst_plan.specs.Plan.{IsPlan, AreTrees, WasViewed};
-ghost use Rattle.mst_lag.specs.Viewed.{IsView};
+ghost use Rattle.mst_view.specs.Viewed.{IsView};
 ghost use Rattle.mst_plan.specs.Standing.{standing_of, msti_settlings, KeepsBounds};
 ghost use Rattle.mst_trees.specs.Bound.{SettlesNoUnused};
 
 use mst_config::{Regions, regions_of};
 use mst_forest::Forest;
 use mst_lag::laws::{bridge_alone, lan_alone, port_alone, ports_alone, set_alone};
-use mst_lag::{
-    View, leaves_key, leaves_links, leaves_tables, renew_bridge, renew_lan, renew_links,
-    renew_port, renew_settings, renew_tables, view,
-};
+use mst_view::View;
+use mst_lag::{leaves_key, leaves_links, leaves_tables, renew_bridge, renew_lan, renew_links, renew_port, renew_settings, renew_tables, view};
 use mst_lang::Edit;
 use mst_net::{Contents, Network};
 use mst_trees::repaired_forest;

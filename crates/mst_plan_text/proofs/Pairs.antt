@@ -6,7 +6,7 @@ use Rattle.std.specs.Cmp.Lexicographic.{pointwise, pointwise_decides}
 use Rattle.std.proofs.lemmas.Bool.{and_parts, and_from}
 use Rattle.mst_ids.specs.declared.name.PortName.{PortName}
 use Rattle.mst_tables.specs.Tables.{port_eq}
-use Rattle.mst_lag.proofs.Lists.{mapped_twice, map_itself}
+use Rattle.mst_view.proofs.Lists.{mapped_twice, map_itself}
 use Rattle.mst_rows.specs.declared.value.ActivePort.{ActivePort}
 use Rattle.mst_forest.proofs.Named.{port_is, port_same}
 use Rattle.mst_plan_text.specs.Bodies.{pair_of}

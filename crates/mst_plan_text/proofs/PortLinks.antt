@@ -6,11 +6,11 @@ use Rattle.std.specs.FinMap as fin
 use Rattle.mst_ids.specs.declared.name.PortName.{PortName}
 use Rattle.mst_graph.specs.Islands.{Link, AreIslands}
 use Rattle.mst_tables.specs.Tables.{Net, PortRow, port_eq}
-use Rattle.mst_lag.specs.Aggregation.{Plug, plug_of, plugs}
-use Rattle.mst_lag.specs.View.{LogicalPort, as_port, logical_lan, logical_port, view_ports}
-use Rattle.mst_lag.proofs.Entries.{entries_found}
-use Rattle.mst_lag.proofs.Lists.{some_is, no_some, all_filtered, all_kept}
-use Rattle.mst_lag.proofs.Sides.{ports_total}
+use Rattle.mst_view.specs.Aggregation.{Plug, plug_of, plugs}
+use Rattle.mst_view.specs.View.{LogicalPort, as_port, logical_lan, logical_port, view_ports}
+use Rattle.mst_view.proofs.Entries.{entries_found}
+use Rattle.mst_view.proofs.Lists.{some_is, no_some, all_filtered, all_kept}
+use Rattle.mst_view.proofs.Orders.{ports_total}
 use Rattle.mst_rows.specs.declared.value.ActivePort.{ActivePort}
 use Rattle.mst_forest.specs.Outcome.{Outcome}
 use Rattle.mst_forest.specs.Roles.{forwards_for}

@@ -2,9 +2,9 @@
 use Rattle.std.proofs.Common.{◌≡◌, ℕ, List, [], ◌∷◌, ◌||◌, Bool, map, refl, sym, ap, ◌∙◌}
 use Rattle.std.specs.List.{AllByRecursion, filter, list_any, range_with_len}
 use Rattle.std.specs.FinMap as fin
-use Rattle.mst_lag.specs.Trees.{is_among}
-use Rattle.mst_lag.specs.Viewed.{Viewed, named_bridge}
-use Rattle.mst_lag.specs.declared.in_view.BridgeInView.{BridgeInView}
+use Rattle.mst_view.specs.Trees.{is_among}
+use Rattle.mst_view.specs.Viewed.{Viewed, named_bridge}
+use Rattle.mst_view.specs.declared.in_view.BridgeInView.{BridgeInView}
 use Rattle.mst_tables.specs.Tables.{Net, Numbers, BridgeRow}
 use Rattle.mst_forest.specs.Agrees.{AreOf}
 use Rattle.mst_forest.specs.InUse.{is_in_use, seen_mstis}

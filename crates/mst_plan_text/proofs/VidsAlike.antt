@@ -6,7 +6,7 @@ use Rattle.mst_graph.proofs.Splits.{kept_each}
 use Rattle.mst_tables.specs.ByTree.{table_in, vlans_in}
 use Rattle.mst_tables.specs.Table.{tree_in}
 use Rattle.mst_tables.specs.Tables.{Net, Numbers}
-use Rattle.mst_lag.specs.Viewed.{Viewed}
+use Rattle.mst_view.specs.Viewed.{Viewed}
 use Rattle.mst_forest.specs.Agrees.{AreOf}
 use Rattle.mst_forest.specs.Outcome.{Outcome}
 use Rattle.mst_forest.specs.Forest.{Forest}

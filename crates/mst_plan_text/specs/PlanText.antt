@@ -5,7 +5,7 @@ use Rattle.mst_ids.specs.Vids.{runs_from, set_where}
 use Rattle.mst_graph.specs.Groups.{AreGroups}
 use Rattle.mst_graph.specs.Islands.{Island}
 use Rattle.mst_tables.specs.Tables.{Net}
-use Rattle.mst_lag.specs.Trees.{is_among}
+use Rattle.mst_view.specs.Trees.{is_among}
 use Rattle.mst_rows.specs.Rows.{Row}
 use Rattle.mst_text.specs.vlan.classes.AllVids.{all_vids}
 use Rattle.mst_forest.specs.Outcome.{Outcome}

@@ -5,7 +5,7 @@ ghost use Rattle.mst_plan_text.specs.Bodies.{pairs_of, seen_pair};
 
 use mst_forest::Settled;
 use mst_ids::{PortName, Vid};
-use mst_lag::{PortInView, View};
+use mst_view::{PortInView, View};
 use mst_text::{active_ports, is_member};
 use std::alloc::{AllocError, Global};
 

@@ -16,13 +16,13 @@ use Rattle.mst_ids.specs.declared.name.PortName.{PortName}
 use Rattle.mst_net.specs.tables.After.{has_bridge, is_plugged, table_of}
 use Rattle.mst_net.specs.tables.Table.{has_tree as is_mapped, mstis_in}
 use Rattle.mst_net.specs.tables.Tables.{BridgeRow, Net, PortRow, port_eq}
-use Rattle.mst_lag.specs.Aggregation.{Plug, can_aggregate, plug_of, plugs, plugs_in, ports_as_one, same_name, same_sides, side_of, sides, sides_of}
-use Rattle.mst_lag.specs.Trees.{is_among, mstis_of}
-use Rattle.mst_lag.specs.View.{LogicalPort, as_port, logical_port, view_ports}
-use Rattle.mst_lag.proofs.Entries.{entries_found}
-use Rattle.mst_lag.proofs.Lists.{all_filtered, all_kept, all_mapped, all_weaker, found_passes, no_some, some_is}
-use Rattle.mst_lag.proofs.Names.{name_is, own_port, same_ports, tied}
-use Rattle.mst_lag.proofs.Sides.{ports_total}
+use Rattle.mst_view.specs.Aggregation.{Plug, can_aggregate, plug_of, plugs, plugs_in, ports_as_one, same_name, same_sides, side_of, sides, sides_of}
+use Rattle.mst_view.specs.Trees.{is_among, mstis_of}
+use Rattle.mst_view.specs.View.{LogicalPort, as_port, logical_port, view_ports}
+use Rattle.mst_view.proofs.Entries.{entries_found}
+use Rattle.mst_view.proofs.Lists.{all_filtered, all_kept, all_mapped, all_weaker, found_passes, no_some, some_is}
+use Rattle.mst_view.proofs.Names.{name_is, own_port, same_ports, tied}
+use Rattle.mst_view.proofs.Orders.{ports_total}
 use Rattle.mst_advise.specs.declared.goal.Goal.{Goal}
 use Rattle.mst_advise.specs.declared.goal.Goal.TheVariants as goal
 use Rattle.mst_questions.specs.Unadvised.{unadvised_of}

@@ -9,10 +9,10 @@ use Rattle.mst_ids.specs.declared.name.PortName.{PortName}
 use Rattle.mst_tables.specs.After.{has_bridge}
 use Rattle.mst_tables.specs.Tables.{Net, Numbers, BridgeRow, IsNetwork, port_eq}
 use Rattle.mst_rows.specs.Rows.{Row}
-use Rattle.mst_lag.specs.Trees.{mstis_of, is_among}
-use Rattle.mst_lag.specs.View.{LogicalPort, view_ports}
-use Rattle.mst_lag.specs.Viewed.{Viewed, named_port}
-use Rattle.mst_lag.specs.declared.in_view.PortInView.{PortInView}
+use Rattle.mst_view.specs.Trees.{mstis_of, is_among}
+use Rattle.mst_view.specs.View.{LogicalPort, view_ports}
+use Rattle.mst_view.specs.Viewed.{Viewed, named_port}
+use Rattle.mst_view.specs.declared.in_view.PortInView.{PortInView}
 use Rattle.mst_forest.specs.Agrees.{AreOf}
 use Rattle.mst_forest.specs.InUse.{seen_has}
 use Rattle.mst_forest.specs.Msti.{has_msti}

@@ -6,7 +6,7 @@ use Rattle.mst_ids.specs.declared.name.PortName.{PortName}
 use Rattle.mst_tables.specs.After.{has_bridge}
 use Rattle.mst_tables.specs.Tables.{Net, port_eq}
 use Rattle.mst_rows.specs.Rows.{Row}
-use Rattle.mst_lag.specs.View.{LogicalPort, view_ports}
+use Rattle.mst_view.specs.View.{LogicalPort, view_ports}
 use Rattle.mst_forest.specs.Msti.{has_msti}
 use Rattle.mst_forest.specs.Outcome.{Outcome, IsOutcome}
 use Rattle.mst_advise.specs.explain.Explained.{AreExplained, trees_of_bridge}

@@ -8,7 +8,7 @@ use mst_advise::explain_laws::some_explained;
 use mst_advise::{port_named, put_explanation, put_explanations};
 use mst_forest::Settled;
 use mst_ids::{PortName, Tree};
-use mst_lag::PortInView;
+use mst_view::PortInView;
 use mst_rows::Rows;
 use mst_tables::Contents;
 use mst_tool::Planner;

@@ -1,7 +1,7 @@
 -- The names of a view's bridges are the network's.
 use Rattle.std.proofs.Common.{◌≡◌, ℕ, List, map, sym, ap, ◌∙◌}
 use Rattle.std.specs.FinMap as fin
-use Rattle.mst_lag.specs.Viewed.{Viewed, IsView, named_bridge}
+use Rattle.mst_view.specs.Viewed.{Viewed, IsView, named_bridge}
 use Rattle.mst_tables.specs.Tables.{Net, Numbers, BridgeRow}
 use Rattle.mst_forest.proofs.Lists.{mapped_twice}
 use Rattle.mst_reasons.specs.Seen.{names_in}

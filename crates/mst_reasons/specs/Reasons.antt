@@ -13,9 +13,9 @@ use Rattle.mst_rows.specs.Rows.{Row}
 use Rattle.mst_graph.specs.Groups.{AreGroups, IsThinned}
 use Rattle.mst_tables.specs.Tables.{Net}
 use Rattle.mst_config.specs.Regions.{same_region}
-use Rattle.mst_lag.specs.Aggregation.{same_name}
-use Rattle.mst_lag.specs.Trees.{is_among}
-use Rattle.mst_lag.specs.View.{LogicalPort}
+use Rattle.mst_view.specs.Aggregation.{same_name}
+use Rattle.mst_view.specs.Trees.{is_among}
+use Rattle.mst_view.specs.View.{LogicalPort}
 use Rattle.mst_note_text.specs.Children.{HasSteps}
 use Rattle.mst_note_text.specs.Depths.{ParentIn}
 use Rattle.mst_note_text.specs.NotesText.{AreNoteRows}

@@ -6,7 +6,7 @@ use Rattle.std.specs.FinMap as fin
 use Rattle.mst_tables.specs.ByTree.{by_tree}
 use Rattle.mst_tables.specs.Tables.{Net}
 use Rattle.mst_config.specs.Regions.{same_region}
-use Rattle.mst_lag.specs.Aggregation.{same_name}
+use Rattle.mst_view.specs.Aggregation.{same_name}
 use Rattle.mst_forest.specs.InUse.{id_in}
 use Rattle.mst_forest.specs.Outcome.{Outcome}
 use Rattle.mst_sweep.specs.facts.Roots.{root_of, root_name}

@@ -1,6 +1,6 @@
 ghost use Rattle.std.specs.Prelude.{◌≡◌, false};
 ghost use Rattle.std.specs.Option.{option_map_or};
-ghost use Rattle.mst_lag.specs.Aggregation.{same_name};
+ghost use Rattle.mst_view.specs.Aggregation.{same_name};
 ghost use Rattle.mst_reasons.specs.Judged.{is_its_bridge as is_bridge_of, is_its_lan as is_lan_of, asks_for as list_asks_for, asks_now as promise_asks_now, asks as promise_asks, has_now as scope_has_now, looks_back as looks_back_of, scope_asks};
 
 use mst_ids::Name;

@@ -5,14 +5,14 @@ ghost use Rattle.std.specs.Option.{option_map};
 ghost use Rattle.mst_forest.specs.Agrees.{AreOf};
 ghost use Rattle.mst_forest.specs.Forest.{IsForest};
 ghost use Rattle.mst_trees.specs.Bound.{SettlesNoUnused};
-ghost use Rattle.mst_lag.specs.Viewed.{IsView};
+ghost use Rattle.mst_view.specs.Viewed.{IsView};
 ghost use Rattle.mst_changes.specs.Stored.{kept_entries};
 
 use crate::laws::entries_of_network;
 use mst_changes::Entries;
 use mst_forest::{Forest, Settled};
 use mst_ids::Tree;
-use mst_lag::View;
+use mst_view::View;
 use mst_lang::Edit;
 use mst_net::{Contents, Network, Refusal};
 use mst_plan::{KeptPlan, Plan};

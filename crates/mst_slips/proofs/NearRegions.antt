@@ -11,11 +11,11 @@ use Rattle.mst_tables.specs.After.{table_of}
 use Rattle.mst_tables.specs.ByTree.{ByTree, table_in}
 use Rattle.mst_tables.specs.Seen.{bridge_row}
 use Rattle.mst_tables.specs.Tables.{Net, Numbers, BridgeRow, IsNetwork}
-use Rattle.mst_lag.specs.Aggregation.{same_name}
-use Rattle.mst_lag.specs.Viewed.{Viewed, IsView, named_bridge}
-use Rattle.mst_lag.specs.declared.in_view.BridgeInView.{BridgeInView}
-use Rattle.mst_lag.proofs.Lists.{some_is, all_both, all_weaker, all_filtered, filter_same, filter_mapped, mapped_twice}
-use Rattle.mst_lag.proofs.Entries.{entries_found}
+use Rattle.mst_view.specs.Aggregation.{same_name}
+use Rattle.mst_view.specs.Viewed.{Viewed, IsView, named_bridge}
+use Rattle.mst_view.specs.declared.in_view.BridgeInView.{BridgeInView}
+use Rattle.mst_view.proofs.Lists.{some_is, all_both, all_weaker, all_filtered, filter_same, filter_mapped, mapped_twice}
+use Rattle.mst_view.proofs.Entries.{entries_found}
 use Rattle.mst_config.specs.Shared.{AreRegions, same_in}
 use Rattle.mst_config.specs.Regions.{same_region, first_of_region, region_of}
 use Rattle.mst_config.proofs.SameRegion.{has_first, HasFirst}

@@ -5,12 +5,12 @@ use Rattle.std.specs.List.{filter, flat_map}
 use Rattle.std.proofs.lemmas.List.Folds.{flat_map-map}
 use Rattle.mst_tables.specs.ByTree.{vlans_in}
 use Rattle.mst_tables.specs.Tables.{Net, Numbers}
-use Rattle.mst_lag.specs.Aggregation.{same_name}
-use Rattle.mst_lag.specs.View.{LogicalPort, view_ports}
-use Rattle.mst_lag.specs.Viewed.{Viewed, IsView, named_lan, named_port}
-use Rattle.mst_lag.specs.declared.in_view.LanInView.{LanInView}
-use Rattle.mst_lag.specs.declared.in_view.PortInView.{PortInView}
-use Rattle.mst_lag.proofs.Lists.{filter_mapped, mapped_twice}
+use Rattle.mst_view.specs.Aggregation.{same_name}
+use Rattle.mst_view.specs.View.{LogicalPort, view_ports}
+use Rattle.mst_view.specs.Viewed.{Viewed, IsView, named_lan, named_port}
+use Rattle.mst_view.specs.declared.in_view.LanInView.{LanInView}
+use Rattle.mst_view.specs.declared.in_view.PortInView.{PortInView}
+use Rattle.mst_view.proofs.Lists.{filter_mapped, mapped_twice}
 use Rattle.mst_slips.specs.declared.kept.Kept.{Kept}
 use Rattle.mst_slips.specs.Kept.{kept_at, AreKept, kept_speeds, kept_between, kept_rows, kept_link}
 use Rattle.mst_slips.specs.Lans.{bridges_on, is_beside, just_two, least, rows_where_slower, speeds_beside, rows_between, rows_of_lan, lan_rows}

@@ -5,10 +5,10 @@ use Rattle.std.specs.HashMap.{HashMap, get}
 use Rattle.std.specs.declared.alloc.Global.{Global}
 use Rattle.mst_rows.specs.Rows.{Row}
 use Rattle.mst_tables.specs.ByTree.{ByTree, vlans_in}
-use Rattle.mst_lag.specs.Aggregation.{same_name}
-use Rattle.mst_lag.specs.Viewed.{named_port}
-use Rattle.mst_lag.specs.declared.in_view.LanInView.{LanInView}
-use Rattle.mst_lag.specs.declared.in_view.PortInView.{PortInView}
+use Rattle.mst_view.specs.Aggregation.{same_name}
+use Rattle.mst_view.specs.Viewed.{named_port}
+use Rattle.mst_view.specs.declared.in_view.LanInView.{LanInView}
+use Rattle.mst_view.specs.declared.in_view.PortInView.{PortInView}
 use Rattle.mst_slips.specs.declared.kept.Kept.{Kept}
 use Rattle.mst_slips.specs.Lans.{is_beside, just_two, least, rows_where_slower}
 use Rattle.mst_slips.specs.Vlans.{rows_of_ends}

@@ -6,8 +6,8 @@ use Rattle.mst_kinds.specs.declared.summary_line.SummaryLine.TheVariants as summ
 use Rattle.mst_rows.specs.Cells.{number, word}
 use Rattle.mst_rows.specs.Rows.{Row, row_of}
 use Rattle.mst_tables.specs.Tables.{Net}
-use Rattle.mst_lag.specs.Aggregation.{same_name}
-use Rattle.mst_lag.specs.View.{LogicalLan, LogicalPort, view_lans, view_ports}
+use Rattle.mst_view.specs.Aggregation.{same_name}
+use Rattle.mst_view.specs.View.{LogicalLan, LogicalPort, view_lans, view_ports}
 
 -- the bridges of the logical ports of a logical LAN, one for each port
 abbrev pub bridges_on : Net → List ℕ → List (List ℕ)

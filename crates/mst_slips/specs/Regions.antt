@@ -9,7 +9,7 @@ use Rattle.mst_rows.specs.Cells.{names, word}
 use Rattle.mst_rows.specs.Rows.{Row, row_of}
 use Rattle.mst_tables.specs.Tables.{Net, BridgeRow}
 use Rattle.mst_tables.specs.After.{table_of}
-use Rattle.mst_lag.specs.Aggregation.{same_name}
+use Rattle.mst_view.specs.Aggregation.{same_name}
 use Rattle.mst_config.specs.Regions.{same_region, first_of_region}
 use Rattle.mst_slips.specs.Near.{are_near}
 

@@ -7,9 +7,9 @@ use Rattle.mst_ids.specs.Identifiers.{bridge_id}
 use Rattle.mst_rows.specs.Rows.{Row}
 use Rattle.mst_tables.specs.ByTree.{table_in}
 use Rattle.mst_tables.specs.Seen.{bridge_row}
-use Rattle.mst_lag.specs.Aggregation.{same_name}
-use Rattle.mst_lag.specs.Viewed.{Viewed, named_bridge}
-use Rattle.mst_lag.specs.declared.in_view.BridgeInView.{BridgeInView}
+use Rattle.mst_view.specs.Aggregation.{same_name}
+use Rattle.mst_view.specs.Viewed.{Viewed, named_bridge}
+use Rattle.mst_view.specs.declared.in_view.BridgeInView.{BridgeInView}
 use Rattle.mst_config.specs.Shared.{same_in}
 use Rattle.mst_slips.specs.Near.{are_near}
 use Rattle.mst_slips.specs.Regions.{is_named, region_row}

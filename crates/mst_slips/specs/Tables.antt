@@ -10,7 +10,7 @@ use Rattle.mst_rows.specs.Rows.{Row, row_of}
 use Rattle.mst_tables.specs.Table.{tree_in}
 use Rattle.mst_tables.specs.Tables.{Net, BridgeRow}
 use Rattle.mst_tables.specs.After.{table_of}
-use Rattle.mst_lag.specs.Aggregation.{same_name}
+use Rattle.mst_view.specs.Aggregation.{same_name}
 use Rattle.mst_slips.specs.Regions.{is_named_first, bridges_with}
 use Rattle.mst_slips.specs.Vids.{vids_that}
 

@@ -11,8 +11,8 @@ use Rattle.mst_rows.specs.Cells.{port, vids}
 use Rattle.mst_rows.specs.Rows.{Row, row_of}
 use Rattle.mst_tables.specs.Tables.{Net}
 use Rattle.mst_tables.specs.After.{vlans_of}
-use Rattle.mst_lag.specs.Aggregation.{same_name}
-use Rattle.mst_lag.specs.View.{LogicalLan, view_lans, view_ports}
+use Rattle.mst_view.specs.Aggregation.{same_name}
+use Rattle.mst_view.specs.View.{LogicalLan, view_lans, view_ports}
 use Rattle.mst_slips.specs.Vids.{vids_without}
 
 -- the logical ports of a logical LAN, by the names of their bridges and their numbers

@@ -1,11 +1,11 @@
 ghost use Rattle.std.specs.Prelude.{◌≡◌, ◌++◌, ◌∷◌, [], List, ℕ, IfOk, OnOk, None, cond};
 ghost use Rattle.indexmap.specs.IndexMap.{get};
-ghost use Rattle.mst_lag.specs.Aggregation.{same_name};
+ghost use Rattle.mst_view.specs.Aggregation.{same_name};
 ghost use Rattle.mst_slips.specs.Kept.{kept_at, AreKept};
 
 use indexmap::IndexMap;
 use mst_ids::Name;
-use mst_lag::PortInView;
+use mst_view::PortInView;
 use std::alloc::{AllocError, Global};
 use std::slice::from_ref;
 

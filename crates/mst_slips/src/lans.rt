@@ -2,15 +2,15 @@ ghost use Rattle.std.specs.Prelude.{◌≡◌, ◌++◌, ◌∷◌, [], ◌||◌
 ghost use Rattle.std.specs.List.{flat_map, list_all};
 ghost use Rattle.mst_rows.specs.Rows.{Row};
 ghost use Rattle.mst_tables.specs.Tables.{Net, Numbers};
-ghost use Rattle.mst_lag.specs.Aggregation.{same_name};
-ghost use Rattle.mst_lag.specs.Viewed.{IsView, named_port};
+ghost use Rattle.mst_view.specs.Aggregation.{same_name};
+ghost use Rattle.mst_view.specs.Viewed.{IsView, named_port};
 ghost use Rattle.mst_slips.specs.Kept.{AreKept, kept_speeds, kept_between, kept_rows};
 ghost use Rattle.mst_slips.specs.Lans.{just_two as the_two, is_beside as is_beside_of, two_alone as alone, with_lesser, is_far_slower as are_far_apart, lan_row, rows_where_slower, lan_rows};
 
 use crate::kept::{Kept, kept_for};
 use mst_ids::Name;
 use mst_kinds::{Kind, SummaryLine};
-use mst_lag::{LanInView, PortInView, View};
+use mst_view::{LanInView, PortInView, View};
 use mst_rows::{Rows, Value, put};
 use std::alloc::{AllocError, Global};
 

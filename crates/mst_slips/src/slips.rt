@@ -1,7 +1,7 @@
 ghost use Rattle.std.specs.Prelude.{◌≡◌, ◌++◌, List, OnOk};
 ghost use Rattle.mst_rows.specs.Rows.{Row};
 ghost use Rattle.mst_tables.specs.Tables.{Net, Numbers, IsNetwork};
-ghost use Rattle.mst_lag.specs.Viewed.{IsView};
+ghost use Rattle.mst_view.specs.Viewed.{IsView};
 ghost use Rattle.mst_config.specs.Shared.{AreRegions};
 ghost use Rattle.mst_slips.specs.Slips.{slip_rows};
 
@@ -11,7 +11,7 @@ use crate::regions::put_near_regions;
 use crate::tables::put_odd_tables;
 use crate::vlans::put_links;
 use mst_config::Regions;
-use mst_lag::View;
+use mst_view::View;
 use mst_rows::Rows;
 use std::alloc::{AllocError, Global};
 

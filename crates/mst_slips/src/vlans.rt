@@ -4,7 +4,7 @@ ghost use Rattle.mst_ids.specs.Vids.{has};
 ghost use Rattle.mst_rows.specs.Rows.{Row};
 ghost use Rattle.mst_tables.specs.ByTree.{vlans_in};
 ghost use Rattle.mst_tables.specs.Tables.{Net, Numbers};
-ghost use Rattle.mst_lag.specs.Viewed.{IsView};
+ghost use Rattle.mst_view.specs.Viewed.{IsView};
 ghost use Rattle.mst_slips.specs.Kept.{AreKept, kept_link};
 ghost use Rattle.mst_slips.specs.Vids.{vids_without as without};
 ghost use Rattle.mst_slips.specs.Vlans.{ends_row, rows_of_ends, vlans_row, vlans_rows};
@@ -12,7 +12,7 @@ ghost use Rattle.mst_slips.specs.Vlans.{ends_row, rows_of_ends, vlans_row, vlans
 use crate::kept::{Kept, kept_for};
 use mst_ids::{PortName, Vid, VidSet};
 use mst_kinds::{Kind, SummaryLine};
-use mst_lag::{LanInView, PortInView, View};
+use mst_view::{LanInView, PortInView, View};
 use mst_rows::{Rows, Value, put};
 use std::alloc::AllocError;
 

@@ -9,11 +9,11 @@ use Rattle.mst_graph.specs.Islands.{Island, members}
 use Rattle.mst_graph.specs.Walks.{bridge_at, lan_at}
 use Rattle.mst_graph.proofs.Members.{cases, from_filter, from_map, here, in_filter, in_map, in_none, passing}
 use Rattle.mst_net.specs.tables.Tables.{Net, IsNetwork}
-use Rattle.mst_lag.specs.Aggregation.{same_name}
+use Rattle.mst_view.specs.Aggregation.{same_name}
 use Rattle.mst_rows.specs.Rows.{Row}
 use Rattle.mst_diff.specs.vlan.Reach.{AreIslandsOf, bridges_on, lans_up}
 use Rattle.mst_forest.specs.Outcome.{Outcome, IsOutcome}
-use Rattle.mst_lag.specs.View.{bridge_names}
+use Rattle.mst_view.specs.View.{bridge_names}
 use Rattle.mst_diff.specs.vlan.classes.AllVids.{all_vids}
 use Rattle.mst_diff.specs.DiffText.{AreDiffRowsOf, diff_row}
 use Rattle.mst_diff.specs.Ports.{port_rows}

@@ -9,7 +9,7 @@ use Rattle.mst_net.specs.tables.Tables.{Net}
 use Rattle.mst_rows.specs.Rows.{Row}
 use Rattle.mst_diff.specs.vlan.Reach.{AreIslandsOf}
 use Rattle.mst_forest.specs.Outcome.{Outcome}
-use Rattle.mst_lag.specs.View.{bridge_names}
+use Rattle.mst_view.specs.View.{bridge_names}
 use Rattle.mst_diff.specs.vlan.classes.AllVids.{all_vids}
 use Rattle.mst_graph.specs.Lists.{has_any}
 use Rattle.mst_verdict.specs.sweep.Cuts.{runs_of}

@@ -5,12 +5,12 @@ use Rattle.std.specs.List.{Contains, filter, flat_map}
 use Rattle.mst_ids.specs.Vids.{has, set_where}
 use Rattle.mst_graph.specs.Groups.{AreGroups}
 use Rattle.mst_graph.proofs.Members.{here, there}
-use Rattle.mst_lag.specs.Trees.{is_among}
+use Rattle.mst_view.specs.Trees.{is_among}
 use Rattle.mst_net.specs.tables.Tables.{Net}
 use Rattle.mst_policy.specs.declared.item.NameItem.TheVariants.{Any}
 use Rattle.mst_rows.specs.Rows.{Row}
 use Rattle.mst_forest.specs.Outcome.{Outcome}
-use Rattle.mst_lag.specs.View.{bridge_names}
+use Rattle.mst_view.specs.View.{bridge_names}
 use Rattle.mst_diff.specs.vlan.classes.AllVids.{all_vids}
 use Rattle.mst_graph.specs.Lists.{has_any}
 use Rattle.mst_forest.proofs.Pieces.{flat_map-flat_map}

@@ -12,12 +12,12 @@ use Rattle.mst_ids.specs.Vids.{has}
 use Rattle.mst_tables.specs.ByTree.{by_tree, vlans_in}
 use Rattle.mst_tables.specs.Seen.{bridge_row}
 use Rattle.mst_tables.specs.Tables.{Net, BridgeRow, IsNetwork}
-use Rattle.mst_lag.specs.Aggregation.{same_name}
-use Rattle.mst_lag.specs.View.{LogicalLan, LogicalPort, bridge_names}
-use Rattle.mst_lag.specs.Viewed.{named_bridge, named_lan, named_port}
-use Rattle.mst_lag.specs.declared.in_view.BridgeInView.{BridgeInView}
-use Rattle.mst_lag.specs.declared.in_view.LanInView.{LanInView}
-use Rattle.mst_lag.specs.declared.in_view.PortInView.{PortInView}
+use Rattle.mst_view.specs.Aggregation.{same_name}
+use Rattle.mst_view.specs.View.{LogicalLan, LogicalPort, bridge_names}
+use Rattle.mst_view.specs.Viewed.{named_bridge, named_lan, named_port}
+use Rattle.mst_view.specs.declared.in_view.BridgeInView.{BridgeInView}
+use Rattle.mst_view.specs.declared.in_view.LanInView.{LanInView}
+use Rattle.mst_view.specs.declared.in_view.PortInView.{PortInView}
 use Rattle.mst_config.specs.Shared.{AreRegions}
 use Rattle.mst_config.specs.Regions.{region_of}
 use Rattle.mst_config.proofs.SameRegion.{has_first, HasFirst}

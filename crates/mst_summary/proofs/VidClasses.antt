@@ -17,10 +17,10 @@ use Rattle.mst_tables.specs.ByTree.{table_in, vlans_in}
 use Rattle.mst_tables.specs.Seen.{bridge_row}
 use Rattle.mst_tables.specs.Table.{tree_in}
 use Rattle.mst_tables.specs.Tables.{Numbers}
-use Rattle.mst_lag.specs.Aggregation.{same_name}
-use Rattle.mst_lag.specs.Viewed.{Viewed, named_port}
-use Rattle.mst_lag.specs.declared.in_view.BridgeInView.{BridgeInView}
-use Rattle.mst_lag.specs.declared.in_view.PortInView.{PortInView}
+use Rattle.mst_view.specs.Aggregation.{same_name}
+use Rattle.mst_view.specs.Viewed.{Viewed, named_port}
+use Rattle.mst_view.specs.declared.in_view.BridgeInView.{BridgeInView}
+use Rattle.mst_view.specs.declared.in_view.PortInView.{PortInView}
 use Rattle.mst_forest.specs.Forest.{Forest}
 use Rattle.mst_forest.specs.Settled.{SettledNet, outcome_of, IsSettledNet}
 use Rattle.mst_forest.proofs.Entries.{all_weaker}

@@ -6,7 +6,7 @@ use Rattle.mst_kinds.specs.declared.summary_line.SummaryLine.TheVariants as summ
 use Rattle.mst_rows.specs.Cells.{number, ports}
 use Rattle.mst_rows.specs.Rows.{Row, row_of}
 use Rattle.mst_tables.specs.Tables.{Net}
-use Rattle.mst_lag.specs.View.{LogicalPort, view_ports}
+use Rattle.mst_view.specs.View.{LogicalPort, view_ports}
 use Rattle.mst_forest.specs.Outcome.{Outcome}
 use Rattle.mst_forest.specs.Roles.{role_of, forwards}
 use Rattle.mst_forest.specs.declared.kind.Role.{Role}

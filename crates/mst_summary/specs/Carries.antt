@@ -7,9 +7,9 @@ use Rattle.mst_kinds.specs.declared.summary_line.SummaryLine.TheVariants as summ
 use Rattle.mst_rows.specs.Cells.{word, names, vids}
 use Rattle.mst_rows.specs.Rows.{Row, row_of}
 use Rattle.mst_tables.specs.Tables.{Net}
-use Rattle.mst_lag.specs.Aggregation.{same_name}
-use Rattle.mst_lag.specs.Trees.{is_among}
-use Rattle.mst_lag.specs.View.{LogicalPort, view_ports}
+use Rattle.mst_view.specs.Aggregation.{same_name}
+use Rattle.mst_view.specs.Trees.{is_among}
+use Rattle.mst_view.specs.View.{LogicalPort, view_ports}
 use Rattle.mst_forest.specs.Outcome.{Outcome}
 use Rattle.mst_forest.specs.Roles.{forwards_for}
 use Rattle.mst_vlan.specs.Reach.{is_member, lans_up}

@@ -7,8 +7,8 @@ use Rattle.mst_kinds.specs.declared.summary_line.SummaryLine.TheVariants as summ
 use Rattle.mst_rows.specs.Cells.{number}
 use Rattle.mst_rows.specs.Rows.{Row, row_of}
 use Rattle.mst_tables.specs.Tables.{Net}
-use Rattle.mst_lag.specs.Aggregation.{same_name}
-use Rattle.mst_lag.specs.View.{view_ports, bridge_names}
+use Rattle.mst_view.specs.Aggregation.{same_name}
+use Rattle.mst_view.specs.View.{view_ports, bridge_names}
 use Rattle.mst_config.specs.Regions.{first_of_region}
 use Rattle.mst_forest.specs.Msti.{has_tree}
 use Rattle.mst_forest.specs.AllTrees.{all_trees}

@@ -1,6 +1,6 @@
 ghost use Rattle.std.specs.Prelude.{◌≡◌, ◌++◌, ◌∷◌, [], List, IfOk, OnOk};
 ghost use Rattle.std.specs.List.{Contains};
-ghost use Rattle.mst_lag.specs.Viewed.{named_port};
+ghost use Rattle.mst_view.specs.Viewed.{named_port};
 ghost use Rattle.mst_rows.specs.Rows.{Row};
 ghost use Rattle.mst_forest.specs.Settled.{outcome_of};
 ghost use Rattle.mst_summary.specs.Blocked.{stops as stops_of, is_blocked as blocks, blocked_row};
@@ -10,7 +10,7 @@ use crate::looked_up::role;
 use mst_forest::{Role, Settled};
 use mst_ids::{PortName, Tree};
 use mst_kinds::{Kind, SummaryLine};
-use mst_lag::PortInView;
+use mst_view::PortInView;
 use mst_rows::{Rows, Value, put};
 use std::alloc::{AllocError, Global};
 

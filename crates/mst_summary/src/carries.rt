@@ -1,6 +1,6 @@
 ghost use Rattle.std.specs.Prelude.{◌≡◌, ◌++◌, ◌∷◌, [], ◌+◌, ◌<◌, ℕ, List, length, vec_len, IfOk, OnOk};
 ghost use Rattle.std.specs.List.{All, AllZip, flat_map};
-ghost use Rattle.mst_lag.specs.Aggregation.{same_name};
+ghost use Rattle.mst_view.specs.Aggregation.{same_name};
 ghost use Rattle.mst_rows.specs.Rows.{Row};
 ghost use Rattle.mst_vlan.specs.Carried.{with_trees};
 ghost use Rattle.mst_vlan.specs.classes.AllVids.{all_vids};

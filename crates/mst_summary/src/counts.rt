@@ -9,7 +9,7 @@ ghost use Rattle.mst_summary.specs.Seen.{seen_counts};
 use mst_config::Regions;
 use mst_ids::Tree;
 use mst_kinds::{Kind, SummaryLine};
-use mst_lag::{BridgeInView, PortInView, View};
+use mst_view::{BridgeInView, PortInView, View};
 use mst_rows::{Rows, Value, put};
 use mst_slips::is_first;
 use std::alloc::AllocError;

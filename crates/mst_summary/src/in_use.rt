@@ -5,7 +5,7 @@ ghost use Rattle.mst_summary.specs.Seen.{seen_used, seen_trees};
 
 use mst_forest::{is_had, trees_in_use};
 use mst_ids::Tree;
-use mst_lag::{BridgeInView, View};
+use mst_view::{BridgeInView, View};
 use std::alloc::{AllocError, Global};
 
 /// Whether there is a bridge.

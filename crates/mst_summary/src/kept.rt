@@ -4,7 +4,7 @@ ghost use Rattle.mst_summary.specs.Seen.{seen_on};
 
 use indexmap::IndexMap;
 use mst_ids::Name;
-use mst_lag::{PortInView, View};
+use mst_view::{PortInView, View};
 use mst_slips::add_port;
 use std::alloc::{AllocError, Global};
 

@@ -5,7 +5,7 @@ ghost use Rattle.mst_forest.specs.Settled.{outcome_of};
 
 use mst_forest::{Role, Settled, port_role};
 use mst_ids::Tree;
-use mst_lag::PortInView;
+use mst_view::PortInView;
 
 /// The role of a logical port of the view in a tree, or nothing where its bridge hasn't that tree.
 pub fn role(plan: &Settled, tree: Tree, port: &PortInView) -> Option<Role>

@@ -1,13 +1,13 @@
 ghost use Rattle.std.specs.Prelude.{◌≡◌, not, IfOk, filter, map};
 ghost use Rattle.std.specs.List.{list_any};
-ghost use Rattle.mst_lag.specs.Aggregation.{same_name};
-ghost use Rattle.mst_lag.specs.Viewed.{named_port};
+ghost use Rattle.mst_view.specs.Aggregation.{same_name};
+ghost use Rattle.mst_view.specs.Viewed.{named_port};
 ghost use Rattle.mst_summary.specs.Carries.{are_of_two as ports_of_two};
 ghost use Rattle.mst_summary.specs.Seen.{seen_carries, seen_joins, seen_over};
 
 use mst_forest::{Settled, port_forwards};
 use mst_ids::Vid;
-use mst_lag::PortInView;
+use mst_view::PortInView;
 use mst_vlan::is_member;
 use std::alloc::{AllocError, Global};
 

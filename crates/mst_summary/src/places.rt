@@ -1,12 +1,12 @@
 ghost use Rattle.std.specs.Prelude.{◌≡◌, List, ℕ, IfOk};
-ghost use Rattle.mst_lag.specs.Aggregation.{same_name};
+ghost use Rattle.mst_view.specs.Aggregation.{same_name};
 ghost use Rattle.mst_summary.specs.Grouped.{group_at};
 ghost use Rattle.mst_summary.specs.Places.{places_on};
 
 use crate::grouped::add;
 use indexmap::IndexMap;
 use mst_ids::Name;
-use mst_lag::View;
+use mst_view::View;
 use std::alloc::{AllocError, Global};
 
 /// The places in the view of the logical ports of each logical LAN that has one, by the names of the LANs. It goes over the

@@ -1,6 +1,6 @@
 ghost use Rattle.std.specs.Prelude.{◌≡◌, ◌==◌, ◌++◌, ◌∷◌, [], ℕ, List, Some, None, nat_eq, not, filter, length, IfOk, OnOk};
 ghost use Rattle.std.specs.List.{Contains, flat_map};
-ghost use Rattle.mst_lag.specs.Viewed.{named_bridge};
+ghost use Rattle.mst_view.specs.Viewed.{named_bridge};
 ghost use Rattle.mst_rows.specs.Rows.{Row};
 ghost use Rattle.mst_tables.specs.ByTree.{by_tree};
 ghost use Rattle.mst_graph.specs.Lists.{has_any};
@@ -16,7 +16,7 @@ use mst_facts::root_of;
 use mst_forest::{Settled, bridge_id};
 use mst_ids::{BridgeId, Name, Tree};
 use mst_kinds::{Kind, SummaryLine};
-use mst_lag::BridgeInView;
+use mst_view::BridgeInView;
 use mst_rows::{Rows, Value, put};
 use std::alloc::{AllocError, Global};
 

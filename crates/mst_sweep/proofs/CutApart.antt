@@ -11,8 +11,8 @@ use Rattle.mst_graph.specs.Walks.{Walk, Node, bridge_at, lan_at}
 use Rattle.mst_graph.proofs.Members.{in_map, from_map, in_filter, from_filter, passing}
 use Rattle.mst_net.specs.tables.After.{after, effect}
 use Rattle.mst_net.specs.tables.Tables.{Net, IsNetwork, BridgeRow, port_eq}
-use Rattle.mst_lag.specs.Aggregation.{plugs, same_name}
-use Rattle.mst_lag.specs.View.{LogicalPort, IsUnrestricted, logical_port, as_port, view_ports, bridge_names}
+use Rattle.mst_view.specs.Aggregation.{plugs, same_name}
+use Rattle.mst_view.specs.View.{LogicalPort, IsUnrestricted, logical_port, as_port, view_ports, bridge_names}
 use Rattle.mst_forest.specs.Outcome.{Outcome, IsOutcome}
 use Rattle.mst_forest.proofs.Lists.{kept_in, kept_from, no_some, some_is}
 use Rattle.mst_forest.specs.Roles.{forwards_for}

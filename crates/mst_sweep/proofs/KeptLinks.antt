@@ -15,10 +15,10 @@ use Rattle.mst_net.specs.tables.ByTree.{table_in, vlans_in}
 use Rattle.mst_net.specs.tables.Table.{tree_in, has_tree, mstis_in}
 use Rattle.mst_net.specs.tables.After.{table_of}
 use Rattle.mst_net.specs.tables.Tables.{Net, Numbers, BridgeRow}
-use Rattle.mst_lag.specs.Trees.{is_among, mstis_of}
-use Rattle.mst_lag.specs.View.{LogicalPort, view_ports}
-use Rattle.mst_lag.specs.Viewed.{Viewed, named_port}
-use Rattle.mst_lag.specs.declared.in_view.PortInView.{PortInView}
+use Rattle.mst_view.specs.Trees.{is_among, mstis_of}
+use Rattle.mst_view.specs.View.{LogicalPort, view_ports}
+use Rattle.mst_view.specs.Viewed.{Viewed, named_port}
+use Rattle.mst_view.specs.declared.in_view.PortInView.{PortInView}
 use Rattle.mst_forest.specs.Agrees.{AreOf}
 use Rattle.mst_forest.specs.Forest.{Forest, IsForest}
 use Rattle.mst_forest.specs.InUse.{is_in_use, seen_mstis}

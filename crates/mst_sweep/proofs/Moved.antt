@@ -13,11 +13,11 @@ use Rattle.std.proofs.lemmas.List.Sums.{count_by_more_yes, count_by_more_no, cou
 use Rattle.mst_ids.specs.declared.name.PortName.{PortName}
 use Rattle.mst_net.specs.tables.Tables.{Net, Numbers, port_eq}
 use Rattle.mst_net.specs.tables.Seen.{bridge_row}
-use Rattle.mst_lag.specs.Aggregation.{Plug, plug_of, plugs, same_name}
-use Rattle.mst_lag.specs.View.{LogicalPort, logical_port, as_port, view_ports, bridge_names, port_names}
-use Rattle.mst_lag.specs.Viewed.{Viewed, named_port}
-use Rattle.mst_lag.specs.declared.in_view.BridgeInView.{BridgeInView}
-use Rattle.mst_lag.specs.declared.in_view.PortInView.{PortInView}
+use Rattle.mst_view.specs.Aggregation.{Plug, plug_of, plugs, same_name}
+use Rattle.mst_view.specs.View.{LogicalPort, logical_port, as_port, view_ports, bridge_names, port_names}
+use Rattle.mst_view.specs.Viewed.{Viewed, named_port}
+use Rattle.mst_view.specs.declared.in_view.BridgeInView.{BridgeInView}
+use Rattle.mst_view.specs.declared.in_view.PortInView.{PortInView}
 use Rattle.mst_forest.specs.Agrees.{AreOf}
 use Rattle.mst_forest.specs.Forest.{Forest, IsForest}
 use Rattle.mst_forest.specs.Msti.{has_msti}

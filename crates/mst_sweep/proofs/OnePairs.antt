@@ -8,7 +8,7 @@ use Rattle.mst_net.specs.tables.Tables.{Net, IsNetwork}
 use Rattle.mst_forest.specs.Outcome.{Outcome, IsOutcome}
 use Rattle.mst_vlan.specs.Reach.{AreIslandsOf}
 use Rattle.mst_vlan.proofs.classes_lemmas.VidPlaces.{OneGrouping}
-use Rattle.mst_lag.specs.View.{bridge_names}
+use Rattle.mst_view.specs.View.{bridge_names}
 use Rattle.mst_graph.specs.Lists.{has_any}
 use Rattle.mst_vlan.proofs.OneList.{OneList}
 use Rattle.mst_sweep.specs.Parts.{all_parts}

@@ -17,7 +17,7 @@ use Rattle.mst_forest.proofs.Entries.{entries_found}
 use Rattle.mst_forest.proofs.Lists.{all_contained}
 use Rattle.mst_vlan.specs.Reach.{AreIslandsOf, bridges_on}
 use Rattle.mst_vlan.proofs.classes_lemmas.VidPlaces.{OneGrouping}
-use Rattle.mst_lag.specs.View.{bridge_names}
+use Rattle.mst_view.specs.View.{bridge_names}
 use Rattle.mst_graph.specs.Lists.{has_any}
 use Rattle.mst_vlan.proofs.OneList.{OneList}
 use Rattle.mst_sweep.specs.declared.failure.Failure.{Failure}

@@ -13,9 +13,9 @@ use Rattle.mst_graph.specs.declared.keys.Numbering.{Numbering}
 use Rattle.mst_graph.proofs.Members.{from_map}
 use Rattle.mst_ids.specs.Vids.{is_vid}
 use Rattle.mst_net.specs.tables.Tables.{Net, Numbers}
-use Rattle.mst_lag.specs.Aggregation.{same_name}
-use Rattle.mst_lag.specs.Viewed.{Viewed}
-use Rattle.mst_lag.specs.declared.in_view.BridgeInView.{BridgeInView}
+use Rattle.mst_view.specs.Aggregation.{same_name}
+use Rattle.mst_view.specs.Viewed.{Viewed}
+use Rattle.mst_view.specs.declared.in_view.BridgeInView.{BridgeInView}
 use Rattle.mst_vlan.specs.classes.Alike.{AreAlike, TellApart}
 use Rattle.mst_vlan.specs.Reach.{AreIslandsOf}
 use Rattle.mst_forest.specs.Agrees.{AreOf}
@@ -27,7 +27,7 @@ use Rattle.mst_forest.proofs.Lists.{kept_in, kept_from, no_some, some_is}
 use Rattle.mst_forest.proofs.Seen.{bridge_seen}
 use Rattle.mst_facts.proofs.Named.{names_are}
 use Rattle.mst_vlan.proofs.OneList.{OneList}
-use Rattle.mst_lag.specs.View.{bridge_names}
+use Rattle.mst_view.specs.View.{bridge_names}
 use Rattle.mst_facts.specs.declared.both.Both.{Both}
 use Rattle.mst_graph.specs.Lists.{has_any}
 use Rattle.mst_facts.specs.Both.{seen_both, seen_in_both}

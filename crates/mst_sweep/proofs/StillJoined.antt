@@ -9,7 +9,7 @@ use Rattle.mst_net.specs.tables.Tables.{Net}
 use Rattle.mst_forest.specs.Outcome.{Outcome}
 use Rattle.mst_forest.proofs.Lists.{kept_from, some_is}
 use Rattle.mst_vlan.specs.Reach.{vid_links, AreIslandsOf}
-use Rattle.mst_lag.specs.View.{bridge_names}
+use Rattle.mst_view.specs.View.{bridge_names}
 use Rattle.mst_graph.specs.Lists.{has_any}
 use Rattle.mst_sweep.specs.Parts.{stays_at, staying, all_parts}
 use Rattle.mst_sweep.proofs.CutApart.{both_true, not_true, stays_is, two_apart}

@@ -15,7 +15,7 @@ use Rattle.mst_net.proofs.tables_lemmas.AfterLemmas.{bridge_changed, lan_changed
 use Rattle.mst_net.proofs.tables_lemmas.Changed.{get_changed, contains_changed}
 use Rattle.mst_net.proofs.tables_lemmas.Keys.{names}
 use Rattle.mst_net.proofs.tables_lemmas.NamesInOrder.{names_stay}
-use Rattle.mst_lag.specs.Aggregation.{same_name}
+use Rattle.mst_view.specs.Aggregation.{same_name}
 use Rattle.mst_sweep.specs.declared.failure.Failure.{Failure}
 use Rattle.mst_sweep.specs.declared.failure.Failure.TheVariants.{Lan, Bridge}
 use Rattle.mst_sweep.specs.Failures.{edit_of}

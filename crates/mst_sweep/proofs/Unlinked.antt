@@ -4,7 +4,7 @@ use Rattle.std.specs.List.{Contains}
 use Rattle.std.proofs.lemmas.List.{get_or_default}
 use Rattle.mst_graph.specs.Islands.{Island}
 use Rattle.mst_net.specs.tables.Tables.{Net, Numbers}
-use Rattle.mst_lag.specs.Viewed.{Viewed}
+use Rattle.mst_view.specs.Viewed.{Viewed}
 use Rattle.mst_forest.specs.Agrees.{AreOf}
 use Rattle.mst_forest.specs.Forest.{Forest, IsForest}
 use Rattle.mst_vlan.specs.Reach.{vid_links, AreIslandsOf}

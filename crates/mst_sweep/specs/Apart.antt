@@ -3,7 +3,7 @@ use Rattle.std.specs.Prelude.{◌≡◌, ℕ, true, List}
 use Rattle.std.specs.List.{Contains}
 use Rattle.mst_graph.specs.Walks.{Walk, bridge_at}
 use Rattle.mst_net.specs.tables.Tables.{Net}
-use Rattle.mst_lag.specs.View.{LogicalPort, view_ports}
+use Rattle.mst_view.specs.View.{LogicalPort, view_ports}
 use Rattle.mst_vlan.specs.Active.{port_ends, IsEnabled}
 use Rattle.mst_vlan.specs.Reach.{bridges_on, is_member}
 

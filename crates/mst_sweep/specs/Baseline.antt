@@ -7,7 +7,7 @@ use Rattle.mst_graph.specs.Islands.{Island}
 use Rattle.mst_graph.specs.Numbers.{AreNumbers}
 use Rattle.mst_net.specs.tables.ByTree.{table_in, vlans_in}
 use Rattle.mst_net.specs.tables.Tables.{Net, Numbers}
-use Rattle.mst_lag.specs.Viewed.{Viewed}
+use Rattle.mst_view.specs.Viewed.{Viewed}
 use Rattle.mst_forest.specs.Agrees.{AreOf}
 use Rattle.mst_forest.specs.Forest.{Forest, IsForest}
 use Rattle.mst_forest.specs.Outcome.{Outcome}

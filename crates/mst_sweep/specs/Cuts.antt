@@ -12,7 +12,7 @@ use Rattle.mst_rows.specs.Cells as cell
 use Rattle.mst_rows.specs.Rows.{Row, row_of}
 use Rattle.mst_graph.specs.Groups.{AreGroups}
 use Rattle.mst_net.specs.tables.Tables.{Net}
-use Rattle.mst_lag.specs.Trees.{is_among}
+use Rattle.mst_view.specs.Trees.{is_among}
 use Rattle.mst_forest.specs.Outcome.{Outcome}
 use Rattle.mst_vlan.specs.classes.AllVids.{all_vids}
 use Rattle.mst_graph.specs.Lists.{has_any}

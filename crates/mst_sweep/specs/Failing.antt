@@ -1,6 +1,6 @@
 -- Which failures are of a LAN, and which of a bridge, and what they make of settings.
 use Rattle.std.specs.Prelude.{ℕ, Bool, false, List, if◌then◌else◌}
-use Rattle.mst_lag.specs.Aggregation.{same_name}
+use Rattle.mst_view.specs.Aggregation.{same_name}
 use Rattle.mst_lang.specs.declared.line.BridgeChange.TheVariants.{Power}
 use Rattle.mst_lang.specs.declared.line.LanChange.TheVariants.{State}
 use Rattle.mst_lang.specs.declared.line.LanState.TheVariants.{Down}

@@ -4,7 +4,7 @@ use Rattle.std.specs.FinMap as fin
 use Rattle.std.specs.Option.{option_map}
 use Rattle.mst_net.specs.tables.ByTree.{by_tree}
 use Rattle.mst_net.specs.tables.Tables.{Net}
-use Rattle.mst_lag.specs.View.{view_ports, bridge_names, port_names}
+use Rattle.mst_view.specs.View.{view_ports, bridge_names, port_names}
 
 -- the kind of the bridge of a name
 abbrev pub kind_in : Net → List ℕ → Option Bool

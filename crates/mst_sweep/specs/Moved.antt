@@ -8,7 +8,7 @@ use Rattle.mst_forest.specs.Roles.{role_of}
 use Rattle.mst_forest.specs.declared.kind.Role.{Role}
 use Rattle.mst_forest.specs.declared.kind.Role.TheVariants.{Disabled}
 use Rattle.mst_forest.specs.AllTrees.{all_trees}
-use Rattle.mst_lag.specs.View.{bridge_names, port_names}
+use Rattle.mst_view.specs.View.{bridge_names, port_names}
 use Rattle.mst_forest.specs.RoleNumbers.{role_number}
 use Rattle.mst_facts.specs.Roots.{root_of}
 

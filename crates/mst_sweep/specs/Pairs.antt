@@ -17,7 +17,7 @@ use Rattle.mst_net.specs.tables.After.{after, change, bridge_with, lan_with}
 use Rattle.mst_net.specs.tables.Tables.{Net, BridgeRow, LanRow}
 use Rattle.mst_forest.specs.Outcome.{Outcome, IsOutcome}
 use Rattle.mst_vlan.specs.Reach.{AreIslandsOf}
-use Rattle.mst_lag.specs.View.{bridge_names}
+use Rattle.mst_view.specs.View.{bridge_names}
 use Rattle.mst_graph.specs.Lists.{has_any}
 use Rattle.mst_sweep.specs.declared.failure.Failure.{Failure}
 use Rattle.mst_sweep.specs.declared.failure.Failure.TheVariants.{Lan, Bridge}

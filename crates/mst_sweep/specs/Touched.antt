@@ -1,8 +1,8 @@
 -- Ports whose roles a failure changes, by their places in the view, and links that it takes away.
 use Rattle.std.specs.Prelude.{◌≡◌, ℕ, ◌<◌, ◌==◌, ◌&&◌, not, Bool, true, false, List, ◌∷◌, length, slice_index_or, Option, Some, None}
 use Rattle.std.specs.List.{Contains, list_any}
-use Rattle.mst_lag.specs.Viewed.{Viewed}
-use Rattle.mst_lag.specs.declared.in_view.PortInView.{PortInView}
+use Rattle.mst_view.specs.Viewed.{Viewed}
+use Rattle.mst_view.specs.declared.in_view.PortInView.{PortInView}
 use Rattle.mst_forest.specs.Forest.{Forest}
 use Rattle.mst_forest.specs.InUse.{seen_mstis}
 use Rattle.mst_forest.specs.SeenRoles.{seen_role, seen_forwards}

@@ -1,11 +1,11 @@
 ghost use Rattle.std.specs.Prelude.{◌≡◌, IfOk, map, filter};
 ghost use Rattle.mst_net.specs.tables.Seen.{bridge_row};
 ghost use Rattle.mst_net.specs.tables.Tables.{Net, Numbers};
-ghost use Rattle.mst_lag.specs.Viewed.{IsView};
+ghost use Rattle.mst_view.specs.Viewed.{IsView};
 ghost use Rattle.mst_sweep.specs.Failures.{edit_of, failures as all_failures};
 
 use mst_ids::Name;
-use mst_lag::{BridgeInView, MemberLan, View};
+use mst_view::{BridgeInView, MemberLan, View};
 use mst_lang::{BridgeChange, Edit, LanChange, LanState, Power};
 use std::alloc::{AllocError, Global};
 

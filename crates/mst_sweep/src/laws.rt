@@ -3,7 +3,7 @@ ghost use Rattle.std.specs.Prelude.{◌≡◌, ◌↔◌, ◌+◌, ◌-◌, ◌*
 ghost use Rattle.std.specs.List.{Contains, flat_map, sum_by};
 ghost use Rattle.mst_net.specs.tables.After.{after};
 ghost use Rattle.mst_net.specs.tables.Tables.{Net, IsNetwork};
-ghost use Rattle.mst_lag.specs.View.{IsUnrestricted};
+ghost use Rattle.mst_view.specs.View.{IsUnrestricted};
 ghost use Rattle.mst_forest.specs.Outcome.{Outcome, IsOutcome};
 ghost use Rattle.mst_graph.specs.Lists.{has_any};
 ghost use Rattle.mst_sweep.specs.Apart.{AllAreMembers, ComeApart};

@@ -5,7 +5,7 @@ ghost use Rattle.mst_sweep.specs.Touched.{seen_is_link, seen_beside_link, seen_b
 use mst_facts::Planned;
 use mst_forest::port_forwards;
 use mst_ids::Vid;
-use mst_lag::PortInView;
+use mst_view::PortInView;
 use mst_vlan::is_member;
 
 /// Whether a port forwards for a VID and is a member of its VLAN: then it links its bridge and its LAN.

@@ -1,10 +1,10 @@
 ghost use Rattle.std.specs.Prelude.{◌≡◌, Some, IfOk, IfSome};
-ghost use Rattle.mst_lag.specs.Aggregation.{same_name};
+ghost use Rattle.mst_view.specs.Aggregation.{same_name};
 ghost use Rattle.mst_forest.specs.Agrees.{Known};
 ghost use Rattle.mst_facts.specs.Both.{seen_both, seen_in_both};
 
 use mst_facts::{Both, Planned};
-use mst_lag::BridgeInView;
+use mst_view::BridgeInView;
 use std::alloc::{AllocError, Global};
 
 /// Whether a bridge has the name of another.

@@ -4,7 +4,7 @@ ghost use Rattle.mst_ids.specs.declared.name.PortName.{PortName};
 ghost use Rattle.mst_net.specs.tables.After.{after};
 ghost use Rattle.mst_forest.specs.Agrees.{Known};
 ghost use Rattle.mst_forest.specs.InUse.{AreInUse, seen_mstis};
-ghost use Rattle.mst_lag.specs.View.{port_names};
+ghost use Rattle.mst_view.specs.View.{port_names};
 ghost use Rattle.mst_forest.specs.RoleNumbers.{role_number};
 ghost use Rattle.mst_sweep.specs.Between.{OfNetworks};
 ghost use Rattle.mst_sweep.specs.declared.failure.Failure.{Failure as FailureOf};
@@ -16,7 +16,7 @@ ghost use Rattle.mst_sweep.specs.Touched.{AreTouched};
 use mst_facts::Planned;
 use mst_forest::{Role, is_had, port_role, trees_in_use};
 use mst_ids::Tree;
-use mst_lag::PortInView;
+use mst_view::PortInView;
 
 /// Whether a role is other than Disabled.
 fn takes_part(role: Role) -> bool

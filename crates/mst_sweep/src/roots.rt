@@ -1,7 +1,7 @@
 ghost use Rattle.std.specs.Prelude.{◌≡◌, IfOk};
 ghost use Rattle.std.specs.List.{list_any};
 ghost use Rattle.mst_forest.specs.InUse.{AreInUse};
-ghost use Rattle.mst_lag.specs.View.{bridge_names};
+ghost use Rattle.mst_view.specs.View.{bridge_names};
 ghost use Rattle.mst_facts.specs.Both.{seen_both};
 ghost use Rattle.mst_sweep.specs.Between.{OfNetworks};
 ghost use Rattle.mst_sweep.specs.Moved.{is_other_root, root_moved as root_moved_in, moved_roots as all_moved_roots};

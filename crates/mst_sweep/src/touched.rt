@@ -6,7 +6,7 @@ ghost use Rattle.mst_sweep.specs.Touched.{differ, KeepsRoles, HaveSameRoles, Are
 use mst_facts::Planned;
 use mst_forest::{Role, mstis_in_use, port_role};
 use mst_ids::Tree;
-use mst_lag::PortInView;
+use mst_view::PortInView;
 use std::alloc::{AllocError, Global};
 
 /// Whether two roles aren't the same, or just one of them is there.

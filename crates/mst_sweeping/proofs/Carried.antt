@@ -6,8 +6,8 @@ use Rattle.mst_graph.specs.Islands.{Link as Ends}
 use Rattle.mst_graph.proofs.Splits.{map_of_map}
 use Rattle.mst_net.specs.tables.ByTree.{vlans_in}
 use Rattle.mst_net.specs.tables.Tables.{Net, Numbers}
-use Rattle.mst_lag.specs.View.{LogicalPort}
-use Rattle.mst_lag.specs.Viewed.{Viewed, named_port}
+use Rattle.mst_view.specs.View.{LogicalPort}
+use Rattle.mst_view.specs.Viewed.{Viewed, named_port}
 use Rattle.mst_sweep.specs.vlan.Active.{active_ports}
 use Rattle.mst_sweep.specs.vlan.Reach.{is_member, vid_links}
 use Rattle.mst_sweep.specs.vlan.Seen.{seen_active}

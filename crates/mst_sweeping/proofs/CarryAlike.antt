@@ -1,6 +1,6 @@
 -- What carries a VID, by names, is what carries it by the plan.
 use Rattle.std.proofs.Common.{◌≡◌, ℕ, List, [], ◌∷◌, map, refl, sym, ap, ◌∙◌}
-use Rattle.mst_lag.specs.declared.in_view.PortInView.{PortInView}
+use Rattle.mst_view.specs.declared.in_view.PortInView.{PortInView}
 use Rattle.mst_sweep.specs.vlan.Carried.{ViewWithTrees, CarryAlike, names_of, seen_carried as seen_names}
 use Rattle.mst_sweep.specs.facts.declared.planned.Planned.{Planned}
 use Rattle.mst_sweep.specs.Breaking.{IsCarriageOf}

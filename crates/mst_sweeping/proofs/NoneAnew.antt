@@ -13,8 +13,8 @@ use Rattle.mst_net.specs.tables.After.{after, effect, bridge_with, table_of}
 use Rattle.mst_net.specs.tables.Tables.{Net, BridgeRow, port_eq}
 use Rattle.mst_net.proofs.tables_lemmas.Changed.{get_changed}
 use Rattle.mst_net.proofs.tables_lemmas.Keys.{names}
-use Rattle.mst_lag.specs.Aggregation.{same_name}
-use Rattle.mst_lag.specs.View.{LogicalPort, view_ports, bridge_names, port_names}
+use Rattle.mst_view.specs.Aggregation.{same_name}
+use Rattle.mst_view.specs.View.{LogicalPort, view_ports, bridge_names, port_names}
 use Rattle.mst_forest.proofs.Entries.{all_weaker}
 use Rattle.mst_forest.proofs.Lists.{all_there, apart_cases, some_is}
 use Rattle.mst_forest.proofs.Looking.{first_found}

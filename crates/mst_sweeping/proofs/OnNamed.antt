@@ -3,9 +3,9 @@ use Rattle.std.proofs.Common.{◌≡◌, ℕ, ◌&&◌, ◌||◌, Bool, true, fa
 use Rattle.std.specs.List.{filter, list_any}
 use Rattle.mst_net.specs.tables.Seen.{bridge_row}
 use Rattle.mst_net.specs.tables.Tables.{Net, Numbers, BridgeRow}
-use Rattle.mst_lag.specs.Aggregation.{same_name}
-use Rattle.mst_lag.specs.Viewed.{Viewed, named_bridge}
-use Rattle.mst_lag.specs.declared.in_view.BridgeInView.{BridgeInView}
+use Rattle.mst_view.specs.Aggregation.{same_name}
+use Rattle.mst_view.specs.Viewed.{Viewed, named_bridge}
+use Rattle.mst_view.specs.declared.in_view.BridgeInView.{BridgeInView}
 use Rattle.mst_forest.specs.Agrees.{AreOf}
 use Rattle.mst_forest.specs.Forest.{Forest}
 use Rattle.mst_forest.proofs.Lists.{filter_mapped, mapped_twice}

@@ -7,8 +7,8 @@ use Rattle.std.proofs.lemmas.Bool.{and_parts, and_from}
 use Rattle.mst_graph.specs.Islands.{Island, AreIslands, AreJoined}
 use Rattle.mst_graph.specs.Walks.{bridge_at}
 use Rattle.mst_net.specs.tables.Tables.{Net, Numbers, port_eq}
-use Rattle.mst_lag.specs.Aggregation.{same_name}
-use Rattle.mst_lag.specs.Viewed.{Viewed}
+use Rattle.mst_view.specs.Aggregation.{same_name}
+use Rattle.mst_view.specs.Viewed.{Viewed}
 use Rattle.mst_sweep.specs.vlan.Reach.{bridges_on, lans_up, vid_links, AreIslandsOf}
 use Rattle.mst_forest.specs.Agrees.{AreOf}
 use Rattle.mst_forest.specs.Forest.{Forest, IsForest}

@@ -10,7 +10,7 @@ use Rattle.mst_net.specs.tables.Contents.{PerKind, numbers_after}
 use Rattle.mst_net.specs.tables.Tables.{Net, Numbers}
 use Rattle.mst_config.specs.Shared.{AreRegions}
 use Rattle.mst_config.specs.Touching.{touches_regions}
-use Rattle.mst_lag.specs.Viewed.{Viewed, IsView}
+use Rattle.mst_view.specs.Viewed.{Viewed, IsView}
 use Rattle.mst_lag.proofs.LanAlone as lan_alone
 use Rattle.mst_lag.proofs.BridgeAlone as bridge_alone
 use Rattle.mst_sweep.specs.declared.failure.Failure.{Failure}

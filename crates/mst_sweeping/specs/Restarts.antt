@@ -7,8 +7,8 @@ use Rattle.std.specs.Option.{option_map_or}
 use Rattle.mst_ids.specs.declared.name.PortName.{PortName}
 use Rattle.mst_net.specs.tables.After.{table_of}
 use Rattle.mst_net.specs.tables.Tables.{Net, BridgeRow, port_eq}
-use Rattle.mst_lag.specs.Aggregation.{same_name}
-use Rattle.mst_lag.specs.View.{LogicalPort, view_ports, bridge_names}
+use Rattle.mst_view.specs.Aggregation.{same_name}
+use Rattle.mst_view.specs.View.{LogicalPort, view_ports, bridge_names}
 use Rattle.mst_sweep.specs.facts.Told.{same_told}
 
 -- a bridge stays what it was: it has its MAC address, its kind and, of kind mstp, its MST configuration, which is a name, a revision

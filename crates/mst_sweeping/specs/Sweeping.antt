@@ -11,7 +11,7 @@ use Rattle.mst_sweep.specs.Pairs.{failed}
 use Rattle.mst_sweep.specs.SweepText.{Told, IsTold, IsSweep}
 use Rattle.mst_sweep.specs.SweepParts.{PartOf, ToldOfPart, IsSweepPart}
 use Rattle.mst_sweep.specs.declared.failure.Failure.TheVariants.{Lan, Bridge}
-use Rattle.mst_lag.specs.Viewed.{Viewed}
+use Rattle.mst_view.specs.Viewed.{Viewed}
 use Rattle.mst_lag.specs.Renewed.{IsViewButLan, IsViewButBridge}
 
 -- these are the rows of what each single failure does, and this is the number of those that cut some VID, by a settled outcome

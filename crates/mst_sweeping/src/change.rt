@@ -1,6 +1,6 @@
 ghost use Rattle.std.specs.Prelude.{◌≡◌, ℕ, List};
 ghost use Rattle.std.specs.HashSet.{contains};
-ghost use Rattle.mst_lag.specs.Aggregation.{same_name};
+ghost use Rattle.mst_view.specs.Aggregation.{same_name};
 ghost use Rattle.mst_sweep.specs.facts.Both.{seen_both};
 ghost use Rattle.mst_sweep.specs.Breaking.{IsCarriageOf};
 ghost use Rattle.mst_sweeping.specs.Seen.{seen_on, seen_stays};

@@ -1,6 +1,6 @@
 ghost use Rattle.std.specs.Prelude.{[], ◌∷◌, IfOk, OnOk};
 ghost use Rattle.mst_config.specs.Shared.{AreRegions};
-ghost use Rattle.mst_lag.specs.Viewed.{IsView};
+ghost use Rattle.mst_view.specs.Viewed.{IsView};
 ghost use Rattle.mst_plan.specs.Plan.{IsPlan, AreTrees};
 ghost use Rattle.mst_sweep.specs.Pairs.{failed};
 ghost use Rattle.mst_sweeping.specs.Sweeping.{IsViewBut};
@@ -8,7 +8,8 @@ ghost use Rattle.mst_sweeping.specs.Sweeping.{IsViewBut};
 use mst_config::Regions;
 use mst_config::laws::regions_stay;
 use mst_forest::Forest;
-use mst_lag::{View, renew_bridge, renew_lan};
+use mst_view::View;
+use mst_lag::{renew_bridge, renew_lan};
 use mst_net::{Contents, Network};
 use mst_plan::{Plan, repaired_forest};
 use mst_sweep::{Failing, Failure};

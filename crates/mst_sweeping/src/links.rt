@@ -1,7 +1,7 @@
 ghost use Rattle.std.specs.Prelude.{◌≡◌, ◌&&◌, ℕ, List, IfOk, filter, map};
 ghost use Rattle.std.specs.HashSet.{contains};
 ghost use Rattle.std.specs.List.{list_any};
-ghost use Rattle.mst_lag.specs.Aggregation.{same_name};
+ghost use Rattle.mst_view.specs.Aggregation.{same_name};
 ghost use Rattle.mst_sweeping.specs.Links.{same_links, shared as shared_of, staying as staying_of};
 ghost use Rattle.mst_sweeping.specs.Seen.{link_by, seen_carried, seen_stays, is_other as is_other_by, AreUsers};
 

@@ -1,11 +1,11 @@
 ghost use Rattle.std.specs.Prelude.{◌≡◌, ◌&&◌, ℕ, List, IfOk};
 ghost use Rattle.std.specs.HashSet.{contains};
-ghost use Rattle.mst_lag.specs.Aggregation.{same_name};
+ghost use Rattle.mst_view.specs.Aggregation.{same_name};
 ghost use Rattle.mst_sweeping.specs.Seen.{seen_on};
 
 use indexmap::IndexSet;
 use mst_ids::Name;
-use mst_lag::View;
+use mst_view::View;
 use std::alloc::{AllocError, Global};
 
 /// The names of the bridges that are on. `AllocError`: memory was wanted and refused.

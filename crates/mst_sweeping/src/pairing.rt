@@ -1,6 +1,6 @@
 ghost use Rattle.std.specs.Prelude.{◌≡◌, ◌≤◌, ◌-◌, ◌*◌, ◌/◌, List, [], ◌∷◌, IfOk, OnOk, length, map};
 ghost use Rattle.std.specs.List.{AllByRecursion};
-ghost use Rattle.mst_lag.specs.Viewed.{IsView};
+ghost use Rattle.mst_view.specs.Viewed.{IsView};
 ghost use Rattle.mst_forest.specs.Forest.{IsForest};
 ghost use Rattle.mst_plan.specs.Plan.{IsPlan, AreTrees};
 ghost use Rattle.mst_sweeping.specs.Pairing.{SweepsPairs, AreSingles, HasHomes, IsSingle, IsPairing, ArePairsTold, TellsPair};
@@ -13,7 +13,8 @@ use crate::failing::{renew, trees_ahead, trees_failed, without_failure};
 use crate::sweeping::baseline_of;
 use mst_config::laws::regions_stay;
 use mst_forest::Forest;
-use mst_lag::{View, view};
+use mst_view::View;
+use mst_lag::view;
 use mst_net::Network;
 use mst_plan::Plan;
 use mst_rows::Rows;

@@ -2,7 +2,7 @@ ghost use Rattle.std.specs.Prelude.{◌≡◌, ◌≤◌, ◌*◌, IfOk, filter_
 ghost use Rattle.std.specs.List.{count_by};
 ghost use Rattle.mst_forest.specs.Agrees.{Known};
 ghost use Rattle.mst_forest.specs.InUse.{AreInUse};
-ghost use Rattle.mst_lag.specs.View.{port_names};
+ghost use Rattle.mst_view.specs.View.{port_names};
 ghost use Rattle.mst_sweep.specs.Between.{OfNetworks};
 ghost use Rattle.mst_sweep.specs.Moved.{port_moved as port_moved_in, moved_ports as all_moved_ports};
 ghost use Rattle.mst_sweeping.specs.Seen.{seen_both_ports, seen_port_in_both, seen_moved, ArePortsByName};
@@ -10,7 +10,7 @@ ghost use Rattle.mst_sweeping.specs.Seen.{seen_both_ports, seen_port_in_both, se
 use indexmap::IndexMap;
 use mst_forest::{is_had, port_role, trees_in_use};
 use mst_ids::{PortName, Tree};
-use mst_lag::{PortInView, View};
+use mst_view::{PortInView, View};
 use mst_sweep::{Planned, changes_role};
 use std::alloc::{AllocError, Global};
 

@@ -4,7 +4,7 @@ ghost use Rattle.std.specs.HashSet.{contains};
 ghost use Rattle.std.specs.List.{list_any};
 ghost use Rattle.mst_net.specs.tables.ByTree.{table_in};
 ghost use Rattle.mst_net.specs.tables.Seen.{bridge_row};
-ghost use Rattle.mst_lag.specs.Aggregation.{same_name};
+ghost use Rattle.mst_view.specs.Aggregation.{same_name};
 ghost use Rattle.mst_sweep.specs.facts.Told.{same_told};
 ghost use Rattle.mst_sweep.specs.facts.Both.{seen_both};
 ghost use Rattle.mst_sweep.specs.Between.{OfNetworks};
@@ -14,7 +14,7 @@ ghost use Rattle.mst_sweeping.specs.Seen.{seen_anew, seen_as_it_was, seen_both_p
 use crate::ports::BothPorts;
 use indexmap::IndexSet;
 use mst_ids::{Name, PortName};
-use mst_lag::View;
+use mst_view::View;
 use mst_lang::Kind;
 use mst_net::{Bridge, Table};
 use mst_sweep::{Both, Planned};

@@ -5,12 +5,13 @@ ghost use Rattle.mst_forest.specs.Agrees.{Known};
 ghost use Rattle.mst_forest.specs.Forest.{IsForest};
 ghost use Rattle.mst_sweep.specs.Baseline.{IsBaseline};
 ghost use Rattle.mst_sweep.specs.SweepText.{IsTold};
-ghost use Rattle.mst_lag.specs.Viewed.{IsView};
+ghost use Rattle.mst_view.specs.Viewed.{IsView};
 ghost use Rattle.mst_plan.specs.Plan.{IsPlan};
 ghost use Rattle.mst_sweeping.specs.Sweeping.{SweepsPart, AreTold, CanFail, Puts};
 
 use crate::failing::{trees_failed, without_failure};
-use mst_lag::{View, view};
+use mst_view::View;
+use mst_lag::view;
 use mst_net::Network;
 use mst_plan::Plan;
 use mst_rows::Rows;

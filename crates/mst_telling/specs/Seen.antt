@@ -1,8 +1,8 @@
 -- The failure after which a promise is judged, as it is seen in a view.
 use Rattle.std.specs.Prelude.{◌&&◌, Bool}
 use Rattle.mst_tables.specs.Seen.{bridge_row}
-use Rattle.mst_lag.specs.declared.in_view.BridgeInView.{BridgeInView}
-use Rattle.mst_lag.specs.declared.in_view.MemberLan.{MemberLan}
+use Rattle.mst_view.specs.declared.in_view.BridgeInView.{BridgeInView}
+use Rattle.mst_view.specs.declared.in_view.MemberLan.{MemberLan}
 use Rattle.mst_policy.specs.Items as policy
 use Rattle.mst_policy.specs.declared.expectation.Promise.{Promise}
 use Rattle.mst_policy.specs.declared.item.NameItem.{NameItem}

@@ -8,7 +8,7 @@ ghost use Rattle.mst_telling.specs.Seen.{seen_bridge_fails, seen_lan_fails};
 
 use mst_forest::Settled;
 use mst_ids::{Name, Tree};
-use mst_lag::{BridgeInView, MemberLan, PortInView, View};
+use mst_view::{BridgeInView, MemberLan, PortInView, View};
 use mst_policy::{Expectation, NameItem, PortItem, Promise, Scope};
 use mst_reasons::{Failure, Missing, asks};
 

@@ -8,8 +8,8 @@ use Rattle.std.proofs.lemmas.List.{take_more}
 use Rattle.std.proofs.lemmas.List.Folds.{find-append}
 use Rattle.mst_ids.specs.Identifiers.{mac_of}
 use Rattle.mst_tables.specs.Tables.{Net, Numbers, BridgeRow}
-use Rattle.mst_lag.specs.Viewed.{Viewed, IsView, named_bridge}
-use Rattle.mst_lag.specs.declared.in_view.BridgeInView.{BridgeInView}
+use Rattle.mst_view.specs.Viewed.{Viewed, IsView, named_bridge}
+use Rattle.mst_view.specs.declared.in_view.BridgeInView.{BridgeInView}
 use Rattle.mst_text.specs.Held.{name_with}
 use Rattle.mst_text.specs.Holders.{holder}
 

@@ -5,15 +5,15 @@ use Rattle.std.specs.Option.{option_map_or}
 use Rattle.std.proofs.lemmas.List.Folds.{flat_map-map}
 use Rattle.std.specs.FinMap as fin
 use Rattle.mst_tables.specs.Tables.{Net, Numbers}
-use Rattle.mst_lag.specs.Aggregation.{plugs, same_name}
-use Rattle.mst_lag.specs.Lag.{lag_id_text}
-use Rattle.mst_lag.specs.View.{LogicalLan, members, up_members, member_plugs}
-use Rattle.mst_lag.specs.Viewed.{Viewed, IsView, named_lan, member_lan, member_port}
-use Rattle.mst_lag.specs.declared.lag.LagId.{LagId}
-use Rattle.mst_lag.specs.declared.in_view.LanInView.{LanInView}
-use Rattle.mst_lag.specs.declared.in_view.MemberLan.{MemberLan}
-use Rattle.mst_lag.specs.declared.in_view.MemberPort.{MemberPort}
-use Rattle.mst_lag.proofs.Lists.{filter_mapped, mapped_twice}
+use Rattle.mst_view.specs.Aggregation.{plugs, same_name}
+use Rattle.mst_view.specs.Lag.{lag_id_text}
+use Rattle.mst_view.specs.View.{LogicalLan, members, up_members, member_plugs}
+use Rattle.mst_view.specs.Viewed.{Viewed, IsView, named_lan, member_lan, member_port}
+use Rattle.mst_view.specs.declared.lag.LagId.{LagId}
+use Rattle.mst_view.specs.declared.in_view.LanInView.{LanInView}
+use Rattle.mst_view.specs.declared.in_view.MemberLan.{MemberLan}
+use Rattle.mst_view.specs.declared.in_view.MemberPort.{MemberPort}
+use Rattle.mst_view.proofs.Lists.{filter_mapped, mapped_twice}
 use Rattle.mst_rows.specs.Rows.{Row}
 use Rattle.mst_text.specs.LagText.{lag_row, row_of_lag, lags_rows}
 use Rattle.mst_text.specs.LagView.{lans_in, up_of, ports_in, lan_of, port_of, class_row, class_rows, classes_rows}

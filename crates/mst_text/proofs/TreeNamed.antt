@@ -8,11 +8,11 @@ use Rattle.std.specs.FinMap as fin
 use Rattle.mst_ids.specs.Names.{name_cmp, port_cmp}
 use Rattle.mst_ids.specs.declared.name.PortName.{PortName}
 use Rattle.mst_tables.specs.Tables.{Net, BridgeRow}
-use Rattle.mst_lag.specs.Aggregation.{same_name}
-use Rattle.mst_lag.specs.View.{LogicalPort}
-use Rattle.mst_lag.specs.Viewed.{Viewed, named_bridge, named_port}
-use Rattle.mst_lag.specs.declared.in_view.BridgeInView.{BridgeInView}
-use Rattle.mst_lag.specs.declared.in_view.PortInView.{PortInView}
+use Rattle.mst_view.specs.Aggregation.{same_name}
+use Rattle.mst_view.specs.View.{LogicalPort}
+use Rattle.mst_view.specs.Viewed.{Viewed, named_bridge, named_port}
+use Rattle.mst_view.specs.declared.in_view.BridgeInView.{BridgeInView}
+use Rattle.mst_view.specs.declared.in_view.PortInView.{PortInView}
 use Rattle.mst_forest.specs.Outcome.{Outcome}
 use Rattle.mst_forest.specs.Settled.{SettledNet, outcome_of, IsSettledNet}
 use Rattle.mst_forest.proofs.Entries.{all_weaker}

@@ -5,7 +5,7 @@ use Rattle.std.specs.Option.{option_map}
 use Rattle.indexmap.specs.IndexMap.{get}
 use Rattle.mst_ids.specs.Identifiers.{mac_of}
 use Rattle.mst_tables.specs.Tables.{Net}
-use Rattle.mst_lag.specs.declared.in_view.BridgeInView.{BridgeInView}
+use Rattle.mst_view.specs.declared.in_view.BridgeInView.{BridgeInView}
 use Rattle.mst_text.specs.Holders.{holder}
 use Rattle.mst_text.specs.declared.holders.Holders.{Holders}
 

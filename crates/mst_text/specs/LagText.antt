@@ -6,9 +6,9 @@ use Rattle.mst_ids.specs.declared.name.PortName.{PortName}
 use Rattle.mst_kinds.specs.declared.kind.Kind.TheVariants as kind
 use Rattle.mst_kinds.specs.declared.region_line.RegionLine.TheVariants as region_line
 use Rattle.mst_tables.specs.Tables.{Net}
-use Rattle.mst_lag.specs.Lag.{lag_id_text}
-use Rattle.mst_lag.specs.View.{LogicalLan, members, up_members, member_plugs, view_lans}
-use Rattle.mst_lag.specs.declared.lag.LagId.{LagId}
+use Rattle.mst_view.specs.Lag.{lag_id_text}
+use Rattle.mst_view.specs.View.{LogicalLan, members, up_members, member_plugs, view_lans}
+use Rattle.mst_view.specs.declared.lag.LagId.{LagId}
 use Rattle.mst_rows.specs.Cells.{names, number, ports, word}
 use Rattle.mst_rows.specs.Rows.{Row, row_of}
 

@@ -1,6 +1,6 @@
 -- The members of each logical LAN.
 use Rattle.std.specs.Prelude.{◌≡◌, ℕ, List, map}
-use Rattle.mst_lag.specs.Viewed.{Viewed}
+use Rattle.mst_view.specs.Viewed.{Viewed}
 use Rattle.mst_text.specs.KeptByLan.{kept_at}
 use Rattle.mst_text.specs.LagView.{lans_in, up_of, ports_in, lan_of, port_of}
 use Rattle.mst_text.specs.declared.by_lan.LanMembers.{LanMembers}

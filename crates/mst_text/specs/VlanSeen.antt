@@ -1,7 +1,7 @@
 -- The rows of a VID, under the numbers of records.
 use Rattle.std.specs.Prelude.{ℕ, List, filter_map}
-use Rattle.mst_lag.specs.Viewed.{Viewed}
-use Rattle.mst_lag.specs.declared.in_view.PortInView.{PortInView}
+use Rattle.mst_view.specs.Viewed.{Viewed}
+use Rattle.mst_view.specs.declared.in_view.PortInView.{PortInView}
 use Rattle.mst_rows.specs.declared.value.ActivePort.{ActivePort}
 use Rattle.mst_rows.specs.Rows.{Row}
 use Rattle.mst_vlan.specs.Seen.{seen_member, seen_bridge, seen_lan}

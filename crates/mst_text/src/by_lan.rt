@@ -1,13 +1,13 @@
 ghost use Rattle.std.specs.Prelude.{◌≡◌, ◌++◌, ◌∷◌, [], List, ℕ, map, IfOk, OnOk, None, cond};
 ghost use Rattle.indexmap.specs.IndexMap.{get};
-ghost use Rattle.mst_lag.specs.Aggregation.{same_name};
+ghost use Rattle.mst_view.specs.Aggregation.{same_name};
 ghost use Rattle.mst_text.specs.KeptByLan.{kept_at};
 ghost use Rattle.mst_text.specs.LagView.{lans_in, up_of as up_members, ports_in, lan_of, port_of};
 ghost use Rattle.mst_text.specs.MembersByLan.{AreLanMembers};
 
 use indexmap::IndexMap;
 use mst_ids::{Name, PortName};
-use mst_lag::{MemberLan, MemberPort, View};
+use mst_view::{MemberLan, MemberPort, View};
 use std::alloc::{AllocError, Global};
 
 /// By the names of logical LANs the names of the members that are up, of all members and of their ports.

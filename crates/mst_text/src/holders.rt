@@ -8,7 +8,7 @@ ghost use Rattle.mst_text.specs.Holders.{holder_cell};
 use indexmap::IndexMap;
 use mst_forest::Settled;
 use mst_ids::{BridgeId, Mac, Name};
-use mst_lag::BridgeInView;
+use mst_view::BridgeInView;
 use mst_rows::Value;
 use std::alloc::{AllocError, Global};
 

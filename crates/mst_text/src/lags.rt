@@ -1,6 +1,6 @@
 ghost use Rattle.std.specs.Prelude.{◌≡◌, ◌++◌, ◌∷◌, [], List, OnOk};
 ghost use Rattle.mst_tables.specs.Tables.{Net, Numbers};
-ghost use Rattle.mst_lag.specs.Viewed.{IsView};
+ghost use Rattle.mst_view.specs.Viewed.{IsView};
 ghost use Rattle.mst_rows.specs.Rows.{Row};
 ghost use Rattle.mst_text.specs.LagText.{lag_row, lags_rows};
 ghost use Rattle.mst_text.specs.LagView.{class_row, class_rows, classes_rows};
@@ -9,7 +9,7 @@ ghost use Rattle.mst_text.specs.MembersByLan.{AreLanMembers};
 use crate::by_lan::{LanMembers, kept_for, members_by_lan};
 use mst_ids::{Name, PortName};
 use mst_kinds::{Kind, RegionLine};
-use mst_lag::{LagId, LanInView, View, lag_text};
+use mst_view::{LagId, LanInView, View, lag_text};
 use mst_rows::{Rows, Value, put};
 use std::alloc::{AllocError, Global};
 

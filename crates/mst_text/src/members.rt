@@ -3,7 +3,7 @@ ghost use Rattle.mst_text.specs.Members.{kept_for, names_in};
 
 use mst_config::Regions;
 use mst_ids::{BridgeId, Name};
-use mst_lag::BridgeInView;
+use mst_view::BridgeInView;
 use std::alloc::{AllocError, Global};
 use std::collections::BTreeMap;
 

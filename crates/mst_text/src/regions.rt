@@ -2,7 +2,7 @@ ghost use Rattle.std.specs.Prelude.{◌≡◌, ◌++◌, ◌∷◌, [], ℕ, Lis
 ghost use Rattle.std.specs.List.{flat_map};
 ghost use Rattle.mst_tables.specs.Seen.{bridge_row};
 ghost use Rattle.mst_tables.specs.Tables.{Net, Numbers, IsNetwork};
-ghost use Rattle.mst_lag.specs.Viewed.{IsView};
+ghost use Rattle.mst_view.specs.Viewed.{IsView};
 ghost use Rattle.mst_config.specs.Shared.{AreRegions};
 ghost use Rattle.mst_rows.specs.Rows.{Row};
 ghost use Rattle.mst_text.specs.Members.{kept_for, names_in, seen_region};
@@ -13,7 +13,7 @@ use crate::members::{Members, members_of, names_of};
 use mst_config::Regions;
 use mst_ids::{BridgeId, Name};
 use mst_kinds::{Kind, RegionLine};
-use mst_lag::{BridgeInView, View};
+use mst_view::{BridgeInView, View};
 use mst_lang::Kind as BridgeKind;
 use mst_rows::{Rows, Value, put};
 use mst_tables::{Bridge, Table};

@@ -13,7 +13,7 @@ use crate::tree_port::put_port;
 use mst_forest::Settled;
 use mst_ids::{Name, Tree};
 use mst_kinds::{Kind, TreeLine};
-use mst_lag::{BridgeInView, PortInView};
+use mst_view::{BridgeInView, PortInView};
 use mst_rows::{Rows, Value, put};
 use std::alloc::{AllocError, Global};
 

@@ -1,6 +1,6 @@
 ghost use Rattle.std.specs.Prelude.{◌≡◌, ◌++◌, ◌∷◌, [], List, OnOk};
 ghost use Rattle.std.specs.List.{Contains};
-ghost use Rattle.mst_lag.specs.Viewed.{named_bridge};
+ghost use Rattle.mst_view.specs.Viewed.{named_bridge};
 ghost use Rattle.mst_tables.specs.Tables.{Net};
 ghost use Rattle.mst_rows.specs.Rows.{Row};
 ghost use Rattle.mst_forest.specs.Settled.{outcome_of};
@@ -12,7 +12,7 @@ use crate::holders::Holders;
 use mst_forest::{Settled, bridge_id};
 use mst_ids::{BridgeId, Name, Tree};
 use mst_kinds::{Kind, TreeLine};
-use mst_lag::BridgeInView;
+use mst_view::BridgeInView;
 use mst_lang::Power;
 use mst_rows::{Rows, Value, put};
 use mst_vector::{CistVector, MstiVector};

@@ -1,6 +1,6 @@
 ghost use Rattle.std.specs.Prelude.{◌≡◌, ◌++◌, ◌∷◌, [], List, OnOk};
 ghost use Rattle.std.specs.List.{Contains};
-ghost use Rattle.mst_lag.specs.Viewed.{named_port};
+ghost use Rattle.mst_view.specs.Viewed.{named_port};
 ghost use Rattle.mst_rows.specs.Rows.{Row};
 ghost use Rattle.mst_text.specs.TreeRows.{cist_port_row, disabled_row, msti_port_row, port_row};
 ghost use Rattle.mst_text.specs.TreeRuns.{port_of};
@@ -8,7 +8,7 @@ ghost use Rattle.mst_text.specs.TreeRuns.{port_of};
 use mst_forest::{Role, Settled, cist_port, msti_port, role_of};
 use mst_ids::Tree;
 use mst_kinds::{Kind, TreeLine};
-use mst_lag::PortInView;
+use mst_view::PortInView;
 use mst_rows::{Rows, Value, put};
 use mst_tables::TreeSettings;
 use mst_vector::{CistPort, MstiPort};

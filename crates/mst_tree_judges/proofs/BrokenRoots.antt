@@ -9,7 +9,7 @@ use Rattle.std.proofs.lemmas.Bool.{eqb-true}
 use Rattle.mst_graph.proofs.Members.{in_none, in_filter, from_filter}
 use Rattle.mst_tables.specs.ByTree.{by_tree}
 use Rattle.mst_tables.specs.Tables.{Net, BridgeRow, IsNetwork}
-use Rattle.mst_lag.specs.Aggregation.{same_name}
+use Rattle.mst_view.specs.Aggregation.{same_name}
 use Rattle.mst_forest.specs.InUse.{id_in}
 use Rattle.mst_forest.specs.Outcome.{Outcome}
 use Rattle.mst_graph.specs.Lists.{has_any}

@@ -7,7 +7,7 @@ use Rattle.std.proofs.lemmas.Bool.{eqb-true}
 use Rattle.mst_ids.specs.declared.name.PortName.{PortName}
 use Rattle.mst_graph.specs.Groups.{IsThinned, nothing, kept, left_out}
 use Rattle.mst_graph.proofs.Members.{filter_thins, from_filter, from_map, in_filter, in_map, in_none, here, there, cases}
-use Rattle.mst_lag.specs.Aggregation.{same_name}
+use Rattle.mst_view.specs.Aggregation.{same_name}
 use Rattle.mst_judged.specs.reasons.note_text.Children.{AreChildren, HasSteps, IsChild}
 use Rattle.mst_judged.specs.reasons.note_text.Depths.{ParentIn}
 use Rattle.mst_judged.specs.reasons.note_text.declared.children.Child.{Child}

@@ -9,10 +9,10 @@ use Rattle.std.specs.FinMap as fin
 use Rattle.mst_ids.specs.Names.{name_cmp}
 use Rattle.mst_graph.proofs.Members.{from_map, in_map}
 use Rattle.mst_tables.specs.Tables.{Net, LanRow}
-use Rattle.mst_lag.specs.Aggregation.{same_name}
-use Rattle.mst_lag.specs.View.{logical_lan}
-use Rattle.mst_lag.specs.Viewed.{Viewed, member_lan}
-use Rattle.mst_lag.specs.declared.in_view.MemberLan.{MemberLan}
+use Rattle.mst_view.specs.Aggregation.{same_name}
+use Rattle.mst_view.specs.View.{logical_lan}
+use Rattle.mst_view.specs.Viewed.{Viewed, member_lan}
+use Rattle.mst_view.specs.declared.in_view.MemberLan.{MemberLan}
 use Rattle.mst_forest.specs.Settled.{SettledNet, IsSettledNet, outcome_of}
 use Rattle.mst_judged.specs.reasons.summary.Seen.{seen_on, seen_over}
 use Rattle.mst_judged.proofs.reasons_lemmas.summary_lemmas.Named.{over_named as logical_over}

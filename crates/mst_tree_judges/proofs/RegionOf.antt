@@ -5,9 +5,9 @@ use Rattle.std.specs.Option.{option_map_or}
 use Rattle.std.specs.Cmp.Lexicographic.{pointwise, bytes_decides}
 use Rattle.std.specs.FinMap as fin
 use Rattle.mst_graph.proofs.Members.{here, there, from_map}
-use Rattle.mst_lag.specs.Aggregation.{same_name}
-use Rattle.mst_lag.specs.Viewed.{Viewed}
-use Rattle.mst_lag.specs.declared.in_view.BridgeInView.{BridgeInView}
+use Rattle.mst_view.specs.Aggregation.{same_name}
+use Rattle.mst_view.specs.Viewed.{Viewed}
+use Rattle.mst_view.specs.declared.in_view.BridgeInView.{BridgeInView}
 use Rattle.mst_tables.specs.Tables.{Net, Numbers, BridgeRow}
 use Rattle.mst_config.specs.Regions.{same_configuration, same_region}
 use Rattle.mst_config.specs.Shared.{same_in}

@@ -6,8 +6,8 @@ use Rattle.std.specs.Option.{option_map, option_map_or}
 use Rattle.std.specs.FinMap as fin
 use Rattle.std.proofs.lemmas.Bool.{eqb-true}
 use Rattle.std.proofs.lemmas.List.{length-take, length_push}
-use Rattle.mst_lag.specs.Viewed.{named_bridge}
-use Rattle.mst_lag.specs.declared.in_view.BridgeInView.{BridgeInView}
+use Rattle.mst_view.specs.Viewed.{named_bridge}
+use Rattle.mst_view.specs.declared.in_view.BridgeInView.{BridgeInView}
 use Rattle.mst_tables.specs.Tables.{Net, IsNetwork}
 use Rattle.mst_forest.specs.Outcome.{Outcome}
 use Rattle.mst_graph.specs.Lists.{has_any}
@@ -22,7 +22,7 @@ use Rattle.mst_judged.specs.reasons.declared.reason.Reason.{Reason}
 use Rattle.mst_judged.specs.reasons.declared.reason.Reason.TheVariants as why
 use Rattle.mst_tree_judges.proofs.Keys.{InNet}
 use Rattle.mst_tree_judges.proofs.RootsTold.{any_concerned, next_told, others_told}
-use Rattle.mst_lag.specs.Aggregation.{same_name}
+use Rattle.mst_view.specs.Aggregation.{same_name}
 
 -- ---- how many name each root
 abbrev pub naming : ℕ → List Follower → List Follower

@@ -8,7 +8,7 @@ use Rattle.std.specs.FinMap as fin
 use Rattle.std.proofs.lemmas.Bool.{eqb-true}
 use Rattle.std.proofs.lemmas.List.{length-map}
 use Rattle.mst_graph.proofs.Members.{in_none, in_filter, from_filter, in_map, from_map, here, there}
-use Rattle.mst_lag.specs.Aggregation.{same_name}
+use Rattle.mst_view.specs.Aggregation.{same_name}
 use Rattle.mst_tables.specs.ByTree.{by_tree}
 use Rattle.mst_tables.specs.Tables.{Net, BridgeRow, IsNetwork}
 use Rattle.mst_forest.specs.InUse.{id_in}

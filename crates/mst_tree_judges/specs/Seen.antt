@@ -9,9 +9,9 @@ use Rattle.mst_ids.specs.declared.name.PortName.{PortName}
 use Rattle.mst_tables.specs.ByTree.{by_tree}
 use Rattle.mst_tables.specs.Tables.{Net, BridgeRow}
 use Rattle.mst_config.specs.Regions.{same_region}
-use Rattle.mst_lag.specs.Aggregation.{same_name}
-use Rattle.mst_lag.specs.Viewed.{Viewed}
-use Rattle.mst_lag.specs.declared.in_view.PortInView.{PortInView}
+use Rattle.mst_view.specs.Aggregation.{same_name}
+use Rattle.mst_view.specs.Viewed.{Viewed}
+use Rattle.mst_view.specs.declared.in_view.PortInView.{PortInView}
 use Rattle.mst_judged.specs.reasons.note_text.declared.children.Child.{Child}
 use Rattle.mst_forest.specs.Forest.{Forest}
 use Rattle.mst_forest.specs.InUse.{id_in}

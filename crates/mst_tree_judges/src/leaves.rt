@@ -1,7 +1,7 @@
 ghost use Rattle.std.specs.Prelude.{◌≡◌, ◌++◌, ◌∷◌, [], ℕ, List, Some, None, cond, IfOk, OnOk, map, filter};
 ghost use Rattle.std.specs.List.{flat_map};
 ghost use Rattle.indexmap.specs.IndexMap.{get};
-ghost use Rattle.mst_lag.specs.Aggregation.{same_name};
+ghost use Rattle.mst_view.specs.Aggregation.{same_name};
 ghost use Rattle.mst_forest.specs.Settled.{outcome_of};
 ghost use Rattle.mst_judged.specs.reasons.Named.{named as named_in};
 ghost use Rattle.mst_judged.specs.reasons.Reasons.{AreLeafReasons, leaf_reason};
@@ -11,7 +11,7 @@ use indexmap::IndexMap;
 use mst_forest::laws::nested;
 use mst_ids::{Name, Tree};
 use mst_judged::{BridgeNames, Child, Judged, Reason, children_of, named};
-use mst_lag::BridgeInView;
+use mst_view::BridgeInView;
 use mst_policy::NameList;
 use std::alloc::{AllocError, Global};
 

@@ -9,7 +9,7 @@ use mst_forest::Settled;
 use mst_graph::groups;
 use mst_ids::Name;
 use mst_judged::{Judged, Parts, Reason, has_two, named};
-use mst_lag::BridgeInView;
+use mst_view::BridgeInView;
 use mst_policy::NameList;
 use std::alloc::{AllocError, Global};
 

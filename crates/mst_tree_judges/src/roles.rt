@@ -1,6 +1,6 @@
 ghost use Rattle.std.specs.Prelude.{◌≡◌, ◌++◌, not, ◌||◌, IfOk, OnOk, filter, map};
 ghost use Rattle.mst_ids.specs.declared.name.PortName.{PortName as PortNameOf};
-ghost use Rattle.mst_lag.specs.Viewed.{named_port};
+ghost use Rattle.mst_view.specs.Viewed.{named_port};
 ghost use Rattle.mst_tables.specs.Tables.{Net, port_eq};
 ghost use Rattle.mst_forest.specs.Settled.{outcome_of};
 ghost use Rattle.mst_judged.specs.reasons.Named.{ports_named as ports_named_in};
@@ -12,7 +12,7 @@ ghost use Rattle.mst_tree_judges.specs.Seen.{seen_with_role, seen_role_reason};
 use mst_forest::{Role, Settled, port_role};
 use mst_ids::{PortName, Tree};
 use mst_judged::{Before, Judged, PortNames, Reason};
-use mst_lag::PortInView;
+use mst_view::PortInView;
 use mst_policy::{PortList, Roles};
 use std::alloc::{AllocError, Global};
 

@@ -2,8 +2,8 @@ ghost use Rattle.std.specs.Prelude.{◌≡◌, ◌==◌, ◌||◌, ◌++◌, ◌
 ghost use Rattle.std.specs.List.{Contains, find, flat_map};
 ghost use Rattle.std.specs.Option.{option_copied, option_map, option_map_or};
 ghost use Rattle.indexmap.specs.IndexMap.{get};
-ghost use Rattle.mst_lag.specs.Aggregation.{same_name};
-ghost use Rattle.mst_lag.specs.Viewed.{named_bridge};
+ghost use Rattle.mst_view.specs.Aggregation.{same_name};
+ghost use Rattle.mst_view.specs.Viewed.{named_bridge};
 ghost use Rattle.mst_config.specs.Regions.{same_region};
 ghost use Rattle.mst_forest.specs.Settled.{outcome_of};
 ghost use Rattle.mst_graph.specs.Lists.{has_any};
@@ -17,7 +17,7 @@ use mst_forest::laws::nested;
 use mst_forest::{Settled, bridge_id};
 use mst_ids::{Name, Tree};
 use mst_judged::{Follower, Judged, Reason, as_follower, least};
-use mst_lag::BridgeInView;
+use mst_view::BridgeInView;
 use std::alloc::{AllocError, Global};
 
 /// The bridge of a name.

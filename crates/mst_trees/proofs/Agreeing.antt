@@ -10,7 +10,7 @@ use Rattle.mst_outcome.specs.Renamed.{Renaming, IsRenamed}
 use Rattle.mst_outcome.specs.Assignment.{Assignment, vector_of, designated_of, IsSettledFor}
 use Rattle.mst_net.specs.tables.Tables.{Net, Numbers, IsNetwork}
 use Rattle.mst_net.specs.tables.Contents.{IsNumbered}
-use Rattle.mst_lag.specs.Viewed.{Viewed, IsView}
+use Rattle.mst_view.specs.Viewed.{Viewed, IsView}
 use Rattle.mst_forest.specs.Sight.{Sight, tree_of}
 use Rattle.mst_forest.specs.Outcome.{TreeOutcome, IsTreeOutcome}
 use Rattle.mst_forest.specs.Agrees.{Agrees, IsNameOf}

@@ -18,8 +18,8 @@ use Rattle.mst_vector.specs.Cist.{cist_rules}
 use Rattle.mst_vector.specs.declared.msti.MstiVector.{MstiVector}
 use Rattle.mst_outcome.specs.Assignment.{Assignment, vector_of}
 use Rattle.mst_topology.specs.Repair.{WithinBounds, CountsVectors}
-use Rattle.mst_lag.specs.Viewed.{Viewed}
-use Rattle.mst_lag.specs.declared.in_view.PortInView.{PortInView}
+use Rattle.mst_view.specs.Viewed.{Viewed}
+use Rattle.mst_view.specs.declared.in_view.PortInView.{PortInView}
 use Rattle.mst_trees.specs.SettledBy.{IsSettledBy}
 use Rattle.mst_forest.specs.Seen.{cist_seen}
 use Rattle.mst_trees.specs.Mstis.{AreOutcomes}

@@ -21,9 +21,9 @@ use Rattle.mst_topology.specs.Wiring.{settings_in, port_in, topology_of}
 use Rattle.mst_outcome.specs.Held.{Tree, IsHeld}
 use Rattle.mst_net.specs.tables.Tables.{Net, Numbers}
 use Rattle.mst_net.specs.tables.Seen.{bridge_row}
-use Rattle.mst_lag.specs.Trees.{is_among}
-use Rattle.mst_lag.specs.Viewed.{Viewed, named_port}
-use Rattle.mst_lag.specs.declared.in_view.PortInView.{PortInView}
+use Rattle.mst_view.specs.Trees.{is_among}
+use Rattle.mst_view.specs.Viewed.{Viewed, named_port}
+use Rattle.mst_view.specs.declared.in_view.PortInView.{PortInView}
 use Rattle.mst_forest.specs.Apart.{Apart}
 use Rattle.mst_forest.specs.Agrees.{AreOf}
 use Rattle.mst_trees.specs.Internal.{KnownInternal}

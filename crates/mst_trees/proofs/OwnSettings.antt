@@ -13,9 +13,9 @@ use Rattle.mst_net.specs.tables.ByTree.{ByTree, AreInTrees, port_priority_in, po
 use Rattle.mst_net.specs.tables.TreesSet.{trees_where}
 use Rattle.mst_net.proofs.tables_lemmas.SettingsLemmas.{network_in_trees}
 use Rattle.mst_net.proofs.tables_lemmas.TreesListed.{all_listed, priority_told, cost_told}
-use Rattle.mst_lag.specs.Trees.{is_among}
-use Rattle.mst_lag.specs.Viewed.{Viewed, named_port}
-use Rattle.mst_lag.specs.declared.in_view.PortInView.{PortInView}
+use Rattle.mst_view.specs.Trees.{is_among}
+use Rattle.mst_view.specs.Viewed.{Viewed, named_port}
+use Rattle.mst_view.specs.declared.in_view.PortInView.{PortInView}
 use Rattle.mst_trees.specs.Internal.{KnownInternal}
 use Rattle.mst_forest.specs.Apart.{Apart}
 use Rattle.mst_forest.specs.Msti.{msti_port}

@@ -12,8 +12,8 @@ use Rattle.mst_topology.specs.Settled.{Settled}
 use Rattle.mst_outcome.specs.Renamed.{Renaming, IsRenamed}
 use Rattle.mst_outcome.specs.Assignment.{Assignment, vector_of, designated_of, IsSettledFor}
 use Rattle.mst_net.specs.tables.Tables.{Net, Numbers}
-use Rattle.mst_lag.specs.Viewed.{Viewed}
-use Rattle.mst_lag.specs.declared.in_view.PortInView.{PortInView}
+use Rattle.mst_view.specs.Viewed.{Viewed}
+use Rattle.mst_view.specs.declared.in_view.PortInView.{PortInView}
 use Rattle.mst_forest.specs.Cist.{cist_sight, cist_of}
 use Rattle.mst_forest.specs.Msti.{msti_sight, msti_of}
 use Rattle.mst_forest.specs.Outcome.{Outcome, IsOutcome, trees_of}

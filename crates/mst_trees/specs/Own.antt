@@ -5,8 +5,8 @@ use Rattle.mst_ids.specs.declared.name.PortName.{PortName}
 use Rattle.mst_vector.specs.declared.msti.MstiPort.{MstiPort}
 use Rattle.mst_topology.specs.Places.{in_map}
 use Rattle.mst_net.specs.tables.ByTree.{ByTree, port_priority_in, port_cost_in}
-use Rattle.mst_lag.specs.Viewed.{Viewed, named_port}
-use Rattle.mst_lag.specs.declared.in_view.PortInView.{PortInView}
+use Rattle.mst_view.specs.Viewed.{Viewed, named_port}
+use Rattle.mst_view.specs.declared.in_view.PortInView.{PortInView}
 use Rattle.mst_forest.specs.Msti.{msti_port}
 use Rattle.mst_trees.specs.Wirings.{own_in}
 

@@ -1,6 +1,6 @@
 ghost use Rattle.std.specs.Prelude.{ℕ, ◌==◌, IfOk, OnOk};
 ghost use Rattle.mst_net.specs.tables.ByTree.{AreInTrees};
-ghost use Rattle.mst_lag.specs.Trees.{is_among};
+ghost use Rattle.mst_view.specs.Trees.{is_among};
 ghost use Rattle.mst_trees.specs.Internal.{KnownInternal};
 ghost use Rattle.mst_trees.specs.Own.{is_set, IsNoted};
 ghost use Rattle.mst_trees.specs.Wirings.{HaveNumbers, AreOwn, own_in, msti_wires};
@@ -8,7 +8,7 @@ ghost use Rattle.mst_trees.specs.Wirings.{HaveNumbers, AreOwn, own_in, msti_wire
 use indexmap::IndexMap;
 use mst_forest::msti_port;
 use mst_ids::Tree;
-use mst_lag::{PortInView, View};
+use mst_view::{PortInView, View};
 use mst_vector::MstiPort;
 use std::alloc::{AllocError, Global};
 use std::collections::BTreeMap;

@@ -22,7 +22,7 @@ use mst_config::Regions;
 use mst_forest::laws::{has_outcome, nested};
 use mst_forest::{Forest, Mstis};
 use mst_ids::{BridgeNo, LanNo, Name, PortName, PortNo};
-use mst_lag::{PortInView, View};
+use mst_view::{PortInView, View};
 use mst_outcome::SpanningTree;
 use mst_outcome::laws::renamed;
 use mst_topology::Wiring;

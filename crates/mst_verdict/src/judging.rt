@@ -1,6 +1,6 @@
 ghost use Rattle.std.specs.Prelude.{◌≡◌, ◌++◌, ◌∷◌, [], ℕ, None, Some, IfOk, MatchOption, OnOk, filter, length, map, option_map, ⊤};
 ghost use Rattle.std.specs.List.{AllByRecursion, AllZip, list_any};
-ghost use Rattle.mst_lag.specs.Viewed.{IsView};
+ghost use Rattle.mst_view.specs.Viewed.{IsView};
 ghost use Rattle.mst_net.specs.tables.After.{after};
 ghost use Rattle.mst_net.specs.tables.Tables.{Net};
 ghost use Rattle.mst_graph.specs.Lists.{has_any};
@@ -22,7 +22,8 @@ ghost use Rattle.mst_verify.specs.tree_judges.judged.Seen.{IsBefore};
 use crate::laws::line_where_unkept;
 use mst_forest::Settled;
 use mst_ids::{Name, Vid, VidSet};
-use mst_lag::{View, view};
+use mst_view::View;
+use mst_lag::view;
 use mst_net::Network;
 use mst_policy::{Expectation, PolicyLine, Promise};
 use mst_sweeping::{Carriage, Failure, Plan, failures, trees_failed, without_failure};

@@ -6,8 +6,8 @@ use Rattle.std.proofs.lemmas.Bool.{eqb-true}
 use Rattle.mst_ids.specs.Vids.{set_where}
 use Rattle.mst_graph.proofs.Members.{in_filter, from_filter}
 use Rattle.mst_net.specs.tables.Tables.{Net}
-use Rattle.mst_lag.specs.Trees.{is_among}
-use Rattle.mst_lag.specs.View.{LogicalPort}
+use Rattle.mst_view.specs.Trees.{is_among}
+use Rattle.mst_view.specs.View.{LogicalPort}
 use Rattle.mst_forest.specs.Outcome.{Outcome}
 use Rattle.mst_forest.specs.Roles.{role_in}
 use Rattle.mst_forest.specs.declared.kind.Role.{Role}

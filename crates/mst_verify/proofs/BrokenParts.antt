@@ -8,8 +8,8 @@ use Rattle.mst_graph.proofs.Members.{here, cases, in_none, in_whole, in_filter, 
 use Rattle.mst_graph.proofs.Unique as unique
 use Rattle.mst_net.specs.tables.Tables.{Net}
 use Rattle.mst_config.specs.Regions.{same_region}
-use Rattle.mst_lag.specs.Aggregation.{same_name}
-use Rattle.mst_lag.specs.Trees.{is_among}
+use Rattle.mst_view.specs.Aggregation.{same_name}
+use Rattle.mst_view.specs.Trees.{is_among}
 use Rattle.mst_forest.specs.Outcome.{Outcome}
 use Rattle.mst_graph.specs.Lists.{has_any}
 use Rattle.mst_island_judges.specs.judged.reasons.sweep.vlan.Reach.{bridges_on}

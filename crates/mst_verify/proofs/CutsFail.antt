@@ -13,7 +13,7 @@ use Rattle.mst_net.specs.tables.After.{after}
 use Rattle.mst_net.specs.tables.Tables.{Net, IsNetwork}
 use Rattle.mst_policy.specs.declared.item.NameItem.TheVariants.{Any}
 use Rattle.mst_rows.specs.Rows.{Row}
-use Rattle.mst_lag.specs.View.{bridge_names}
+use Rattle.mst_view.specs.View.{bridge_names}
 use Rattle.mst_graph.specs.Lists.{has_any}
 use Rattle.mst_island_judges.specs.judged.reasons.sweep.vlan.classes.AllVids.{all_vids}
 use Rattle.mst_forest.specs.Outcome.{Outcome, IsOutcome}

@@ -16,8 +16,8 @@ use Rattle.mst_net.specs.tables.declared.refusal.Refusal.TheVariants.{E04, E06}
 use Rattle.mst_net.specs.tables.Tables.{Net, IsNetwork, BridgeRow, LanRow, port_eq}
 use Rattle.mst_net.proofs.tables_lemmas.Changed.{get_changed}
 use Rattle.mst_net.proofs.tables_lemmas.Keys.{names}
-use Rattle.mst_lag.specs.Aggregation.{plugs, same_name}
-use Rattle.mst_lag.specs.View.{LogicalPort, IsUnrestricted, as_port, logical_port, view_ports}
+use Rattle.mst_view.specs.Aggregation.{plugs, same_name}
+use Rattle.mst_view.specs.View.{LogicalPort, IsUnrestricted, as_port, logical_port, view_ports}
 use Rattle.mst_forest.proofs.Entries.{entries_found}
 use Rattle.mst_forest.proofs.Lists.{all_contained, no_some, some_is}
 use Rattle.mst_forest.proofs.Views.{bridges_are, entry_there}

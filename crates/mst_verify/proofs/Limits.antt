@@ -6,7 +6,7 @@ use Rattle.std.specs.Option.{option_map_or}
 use Rattle.std.specs.FinMap as fin
 use Rattle.mst_rows.specs.Rows.{Row}
 use Rattle.mst_graph.proofs.Members.{in_none, in_filter, from_filter}
-use Rattle.mst_lag.specs.View.{LogicalPort, view_ports}
+use Rattle.mst_view.specs.View.{LogicalPort, view_ports}
 use Rattle.mst_net.specs.tables.Tables.{Net, BridgeRow}
 use Rattle.mst_vector.specs.declared.cist.CistVector.{CistVector}
 use Rattle.mst_vector.specs.declared.msti.MstiVector.{MstiVector}

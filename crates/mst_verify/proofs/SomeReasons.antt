@@ -12,7 +12,7 @@ use Rattle.mst_graph.specs.Walks.{bridge_at, stay}
 use Rattle.mst_graph.proofs.Alike.{alike_groups}
 use Rattle.mst_graph.proofs.Members.{here, there, cases, from_filter, in_filter, in_none}
 use Rattle.mst_graph.proofs.Walks.{back, joined_to}
-use Rattle.mst_lag.specs.Aggregation.{same_name}
+use Rattle.mst_view.specs.Aggregation.{same_name}
 use Rattle.mst_island_judges.specs.judged.reasons.note_text.declared.children.Child.{Child}
 use Rattle.mst_island_judges.specs.judged.reasons.note_text.NotesText.{AreNoteRows}
 use Rattle.mst_policy.specs.declared.expectation.Expectation.{Expectation}

@@ -7,7 +7,7 @@ use Rattle.mst_ids.specs.Vids.{has, set_where}
 use Rattle.mst_graph.specs.Groups.{AreGroups}
 use Rattle.mst_graph.specs.Islands.{Island}
 use Rattle.mst_graph.proofs.Members.{from_filter, here, in_filter, there}
-use Rattle.mst_lag.specs.Trees.{is_among}
+use Rattle.mst_view.specs.Trees.{is_among}
 use Rattle.mst_lang.specs.Ranges.{InRange}
 use Rattle.mst_lang.specs.declared.line.Edit.{Edit}
 use Rattle.mst_net.specs.tables.After.{after}
@@ -15,7 +15,7 @@ use Rattle.mst_net.specs.tables.Tables.{IsNetwork, Net}
 use Rattle.mst_policy.specs.declared.item.NameItem.TheVariants.{Any}
 use Rattle.mst_rows.specs.Rows.{Row}
 use Rattle.mst_forest.proofs.Pieces.{flat_map-flat_map}
-use Rattle.mst_lag.specs.View.{bridge_names}
+use Rattle.mst_view.specs.View.{bridge_names}
 use Rattle.mst_graph.specs.Lists.{has_any}
 use Rattle.mst_island_judges.specs.judged.reasons.sweep.vlan.classes.AllVids.{all_vids}
 use Rattle.mst_forest.specs.Outcome.{IsOutcome, Outcome}

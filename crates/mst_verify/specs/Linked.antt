@@ -1,7 +1,7 @@
 -- Bridges that enabled ports link, and that stay so.
 use Rattle.std.specs.Prelude.{◌≡◌, ◌≢◌, ℕ, true, false, Bool, List, Ok, None}
 use Rattle.std.specs.List.{Contains}
-use Rattle.mst_lag.specs.View.{IsUnrestricted}
+use Rattle.mst_view.specs.View.{IsUnrestricted}
 use Rattle.mst_policy.specs.declared.expectation.Expectation.TheVariants as expect
 use Rattle.mst_policy.specs.declared.expectation.Promise.{Promise}
 use Rattle.mst_policy.specs.declared.expectation.Scope.TheVariants as scope

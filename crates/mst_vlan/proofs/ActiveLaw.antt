@@ -21,7 +21,7 @@ use Rattle.mst_nested.specs.Roles.{Forwards}
 use Rattle.mst_nested.specs.Active.{IsTreeOfVid, IsActive}
 use Rattle.mst_tables.specs.Tables.{Net, BridgeRow, IsNetwork}
 use Rattle.mst_tables.specs.ByTree.{by_tree}
-use Rattle.mst_lag.specs.View.{LogicalPort, view_ports}
+use Rattle.mst_view.specs.View.{LogicalPort, view_ports}
 use Rattle.mst_config.specs.Regions.{same_region, region_of}
 use Rattle.mst_config.proofs.SameRegion.{told}
 use Rattle.mst_forest.specs.Sight.{tree_port}

@@ -11,7 +11,7 @@ use Rattle.mst_nested.specs.Roles.{Forwards}
 use Rattle.mst_nested.specs.Trees.{IsSettled, SamePart, HasTree}
 use Rattle.mst_tables.specs.Tables.{Net, IsNetwork}
 use Rattle.mst_tables.specs.ByTree.{by_tree}
-use Rattle.mst_lag.specs.View.{LogicalPort, view_ports}
+use Rattle.mst_view.specs.View.{LogicalPort, view_ports}
 use Rattle.mst_forest.specs.Msti.{msti_bridge, has_msti, msti_sight}
 use Rattle.mst_forest.specs.Outcome.{Outcome, trees_of}
 use Rattle.mst_forest.proofs.Lists.{no_some, all_contained}

@@ -10,9 +10,9 @@ use Rattle.mst_ids.specs.Names.{name_cmp}
 use Rattle.mst_ids.specs.declared.name.PortName.{PortName}
 use Rattle.mst_graph.proofs.Members.{in_map, from_map, in_filter, from_filter, passing}
 use Rattle.mst_tables.specs.Tables.{Net, BridgeRow, PortRow, IsNetwork, port_eq}
-use Rattle.mst_lag.specs.Aggregation.{Plug, plug_of, plugs}
-use Rattle.mst_lag.specs.View.{LogicalPort, logical_lan, logical_port, as_port, is_on, is_up, view_ports}
-use Rattle.mst_lag.proofs.Names.{name_is, tied}
+use Rattle.mst_view.specs.Aggregation.{Plug, plug_of, plugs}
+use Rattle.mst_view.specs.View.{LogicalPort, logical_lan, logical_port, as_port, is_on, is_up, view_ports}
+use Rattle.mst_view.proofs.Names.{name_is, tied}
 use Rattle.mst_forest.proofs.Entries.{entries_found}
 use Rattle.mst_forest.proofs.Lists.{some_is, no_some, all_contained, kept_from}
 use Rattle.mst_forest.proofs.Views.{ports_total, entry_there, row_on}

@@ -12,9 +12,9 @@ use Rattle.mst_graph.proofs.HasList.{has_islands}
 use Rattle.mst_graph.proofs.Members.{in_none, cases}
 use Rattle.mst_graph.proofs.OneList.{one_islands}
 use Rattle.mst_tables.specs.Tables.{Net, BridgeRow, LanRow, IsNetwork}
-use Rattle.mst_lag.specs.Aggregation.{same_name}
-use Rattle.mst_lag.specs.View.{LogicalLan, as_lan, logical_lan, view_lans}
-use Rattle.mst_lag.proofs.Names.{same_names}
+use Rattle.mst_view.specs.Aggregation.{same_name}
+use Rattle.mst_view.specs.View.{LogicalLan, as_lan, logical_lan, view_lans}
+use Rattle.mst_view.proofs.Names.{same_names}
 use Rattle.mst_forest.specs.Apart.{Apart}
 use Rattle.mst_forest.specs.Outcome.{Outcome}
 use Rattle.mst_forest.proofs.Entries.{entries_apart}

@@ -4,8 +4,8 @@ use Rattle.std.proofs.lemmas.List.{length-map, map-append, get_or-map, ext_get_o
 use Rattle.mst_ids.specs.Vids.{has}
 use Rattle.mst_graph.specs.Islands.{Link, Island, AreIslands, HaveEnds}
 use Rattle.mst_tables.specs.ByTree.{vlans_in}
-use Rattle.mst_lag.specs.Viewed.{Viewed}
-use Rattle.mst_lag.specs.declared.in_view.PortInView.{PortInView}
+use Rattle.mst_view.specs.Viewed.{Viewed}
+use Rattle.mst_view.specs.declared.in_view.PortInView.{PortInView}
 use Rattle.mst_forest.specs.Forest.{Forest}
 use Rattle.mst_forest.specs.SeenRoles.{seen_forwards}
 use Rattle.mst_forest.specs.Agrees.{Known}

@@ -12,12 +12,12 @@ use Rattle.mst_graph.proofs.Splits.{kept_each, map_of_map}
 use Rattle.mst_tables.specs.Tables.{Net, Numbers, BridgeRow}
 use Rattle.mst_tables.specs.ByTree.{vlans_in}
 use Rattle.mst_tables.specs.Seen.{bridge_row}
-use Rattle.mst_lag.specs.Trees.{is_among}
-use Rattle.mst_lag.specs.View.{LogicalPort, LogicalLan}
-use Rattle.mst_lag.specs.Viewed.{Viewed, named_bridge, named_port, named_lan}
-use Rattle.mst_lag.specs.declared.in_view.BridgeInView.{BridgeInView}
-use Rattle.mst_lag.specs.declared.in_view.PortInView.{PortInView}
-use Rattle.mst_lag.specs.declared.in_view.LanInView.{LanInView}
+use Rattle.mst_view.specs.Trees.{is_among}
+use Rattle.mst_view.specs.View.{LogicalPort, LogicalLan}
+use Rattle.mst_view.specs.Viewed.{Viewed, named_bridge, named_port, named_lan}
+use Rattle.mst_view.specs.declared.in_view.BridgeInView.{BridgeInView}
+use Rattle.mst_view.specs.declared.in_view.PortInView.{PortInView}
+use Rattle.mst_view.specs.declared.in_view.LanInView.{LanInView}
 use Rattle.mst_forest.specs.Agrees.{AreOf}
 use Rattle.mst_forest.specs.Forest.{IsForest, Forest}
 use Rattle.mst_forest.specs.Seen.{trees_at}

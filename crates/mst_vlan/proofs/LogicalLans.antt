@@ -8,12 +8,12 @@ use Rattle.std.specs.FinMap as fin
 use Rattle.std.proofs.lemmas.Bool.{and_parts, eqb-true}
 use Rattle.mst_graph.proofs.Members.{in_map, in_filter}
 use Rattle.mst_tables.specs.Tables.{Net}
-use Rattle.mst_lag.specs.Aggregation.{Side, sides, same_name, same_sides, lans_as_one}
-use Rattle.mst_lag.specs.View.{logical_lan, LogicalLan, as_lan, view_lans, is_up}
+use Rattle.mst_view.specs.Aggregation.{Side, sides, same_name, same_sides, lans_as_one}
+use Rattle.mst_view.specs.View.{logical_lan, LogicalLan, as_lan, view_lans, is_up}
 use Rattle.mst_lag.specs.Seen.{kept_class, class_eq}
 use Rattle.mst_lag.specs.declared.classes.Class.{Class}
-use Rattle.mst_lag.proofs.Lists.{some_is, no_some, all_of, find_same, found_passes}
-use Rattle.mst_lag.proofs.Names.{same_names}
+use Rattle.mst_view.proofs.Lists.{some_is, no_some, all_of, find_same, found_passes}
+use Rattle.mst_view.proofs.Names.{same_names}
 use Rattle.mst_lag.proofs.Sides.{lan_sides_in_order, same_class}
 use Rattle.mst_forest.proofs.Looking.{IsFirst, first_found}
 use Rattle.mst_vlan.specs.Reach.{lans_up}

@@ -4,10 +4,10 @@ use Rattle.std.specs.List.{Contains, filter}
 use Rattle.std.specs.FinMap as fin
 use Rattle.mst_graph.proofs.Members.{from_map, from_filter}
 use Rattle.mst_tables.specs.Tables.{Net, Numbers, BridgeRow}
-use Rattle.mst_lag.specs.View.{LogicalLan, view_lans}
-use Rattle.mst_lag.specs.Viewed.{Viewed, named_bridge, named_lan}
-use Rattle.mst_lag.specs.declared.in_view.BridgeInView.{BridgeInView}
-use Rattle.mst_lag.specs.declared.in_view.LanInView.{LanInView}
+use Rattle.mst_view.specs.View.{LogicalLan, view_lans}
+use Rattle.mst_view.specs.Viewed.{Viewed, named_bridge, named_lan}
+use Rattle.mst_view.specs.declared.in_view.BridgeInView.{BridgeInView}
+use Rattle.mst_view.specs.declared.in_view.LanInView.{LanInView}
 use Rattle.mst_forest.specs.Agrees.{AreOf}
 use Rattle.mst_forest.specs.Forest.{Forest}
 use Rattle.mst_forest.proofs.Lists.{contains_unmapped}

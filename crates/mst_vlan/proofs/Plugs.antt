@@ -8,7 +8,7 @@ use Rattle.mst_topology.specs.Topology.{TreePort}
 use Rattle.mst_nested.specs.Trees.{TakesPart}
 use Rattle.mst_tables.specs.Tables.{Net, IsNetwork}
 use Rattle.mst_tables.specs.ByTree.{by_tree}
-use Rattle.mst_lag.specs.View.{LogicalPort}
+use Rattle.mst_view.specs.View.{LogicalPort}
 use Rattle.mst_forest.specs.Sight.{tree_port}
 use Rattle.mst_forest.specs.Cist.{cist_port, cist_sight, cist_of}
 use Rattle.mst_forest.proofs.CistTopology.{cist_is_sight}

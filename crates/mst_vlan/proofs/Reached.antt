@@ -7,8 +7,8 @@ use Rattle.mst_graph.specs.Renaming.{link_by, island_by}
 use Rattle.mst_graph.proofs.Members.{from_map, from_filter}
 use Rattle.mst_graph.proofs.Splits.{kept_each, map_of_map}
 use Rattle.mst_tables.specs.Tables.{Net, Numbers, IsNetwork}
-use Rattle.mst_lag.specs.View.{view_ports}
-use Rattle.mst_lag.specs.Viewed.{Viewed}
+use Rattle.mst_view.specs.View.{view_ports}
+use Rattle.mst_view.specs.Viewed.{Viewed}
 use Rattle.mst_forest.specs.Outcome.{Outcome}
 use Rattle.mst_forest.specs.Agrees.{AreOf}
 use Rattle.mst_forest.specs.Forest.{IsForest, Forest}

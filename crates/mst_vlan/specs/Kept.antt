@@ -2,7 +2,7 @@
 use Rattle.std.specs.Prelude.{◌≡◌, ℕ, ◌+◌, ◌<◌, ◌&&◌, Bool, true, false, List, [], length, map, slice_index, slice_index_or}
 use Rattle.mst_ids.specs.Vids.{has}
 use Rattle.mst_tables.specs.ByTree.{vlans_in}
-use Rattle.mst_lag.specs.Viewed.{Viewed}
+use Rattle.mst_view.specs.Viewed.{Viewed}
 use Rattle.mst_forest.specs.Agrees.{Known}
 use Rattle.mst_forest.specs.Forest.{Forest}
 use Rattle.mst_forest.specs.SeenRoles.{seen_forwards}

@@ -5,7 +5,7 @@ use Rattle.mst_ids.specs.Vids.{has}
 use Rattle.mst_graph.specs.Islands.{Link, Island, AreIslands}
 use Rattle.mst_tables.specs.Tables.{Net, Numbers}
 use Rattle.mst_tables.specs.ByTree.{by_tree, vlans_in}
-use Rattle.mst_lag.specs.View.{LogicalPort, view_lans}
+use Rattle.mst_view.specs.View.{LogicalPort, view_lans}
 use Rattle.mst_forest.specs.Outcome.{Outcome}
 use Rattle.mst_vlan.specs.Active.{active_ports}
 use Rattle.mst_vlan.specs.declared.island.Island.{Island as IslandNos}

@@ -4,7 +4,7 @@ use crate::rows::{Rows, is_link, vlan_sets};
 use mst_forest::Forest;
 use mst_graph::Link;
 use mst_ids::{BridgeNo, LanNo, Name, PortName, Vid, VidSet};
-use mst_lag::View;
+use mst_view::View;
 use std::alloc::{AllocError, Global};
 use std::marker::Model;
 

@@ -6,7 +6,7 @@ ghost use Rattle.mst_vlan.specs.Kept.{HaveSameVlans, link_at};
 use crate::carriage::Carriage;
 use crate::rows::is_link;
 use mst_ids::{Vid, VidSet};
-use mst_lag::View;
+use mst_view::View;
 use std::alloc::{AllocError, Global};
 
 /// Whether the logical ports of two views have the same names and LANs, in the same order.

@@ -19,7 +19,7 @@ ghost use Rattle.mst_nested.specs.Roles.{Forwards, ForwardsInside};
 ghost use Rattle.mst_nested.specs.Trees.{SamePart, SameRegion, HasTree};
 ghost use Rattle.mst_tables.specs.Tables.{Net, IsNetwork};
 ghost use Rattle.mst_tables.specs.ByTree.{by_tree};
-ghost use Rattle.mst_lag.specs.View.{LogicalPort, IsUnrestricted};
+ghost use Rattle.mst_view.specs.View.{LogicalPort, IsUnrestricted};
 ghost use Rattle.mst_forest.specs.Cist.{cist_of, cist_port};
 ghost use Rattle.mst_forest.specs.Sight.{tree_port};
 ghost use Rattle.mst_forest.specs.Outcome.{Outcome, IsOutcome, trees_of};

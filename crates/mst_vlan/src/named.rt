@@ -2,7 +2,7 @@ ghost use Rattle.std.specs.Prelude.{◌≡◌, IfOk, filter_map};
 ghost use Rattle.mst_vlan.specs.Seen.{seen_bridge, seen_lan};
 
 use mst_ids::{BridgeNo, LanNo, Name};
-use mst_lag::View;
+use mst_view::View;
 use std::alloc::{AllocError, Global};
 
 /// The names of the bridges of these numbers, those of which the view has one. `AllocError`: memory was wanted and

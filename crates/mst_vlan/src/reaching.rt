@@ -13,7 +13,7 @@ use crate::topology::forwarding_ports;
 use mst_forest::{Forest, Settled};
 use mst_graph::{Link, islands};
 use mst_ids::{BridgeNo, LanNo, Vid};
-use mst_lag::{PortInView, View};
+use mst_view::{PortInView, View};
 use std::alloc::{AllocError, Global};
 
 /// The numbers of the bridges that are on. `AllocError`: memory was wanted and refused.

@@ -7,7 +7,7 @@ use mst_classes::classes_by_tables;
 use mst_forest::Forest;
 use mst_graph::Numbering;
 use mst_ids::{Vid, VidSet};
-use mst_lag::View;
+use mst_view::View;
 use std::alloc::{AllocError, Global};
 
 /// The set of VLANs of each logical port.

@@ -1,8 +1,8 @@
 ghost use Rattle.std.specs.Prelude.{◌≡◌, Some, IfOk, map};
 ghost use Rattle.std.specs.FinMap as fin;
 ghost use Rattle.std.specs.Option.{ForSome};
-ghost use Rattle.mst_lag.specs.View.{IsUnrestricted};
-ghost use Rattle.mst_lag.specs.Viewed.{named_port};
+ghost use Rattle.mst_view.specs.View.{IsUnrestricted};
+ghost use Rattle.mst_view.specs.Viewed.{named_port};
 ghost use Rattle.mst_forest.specs.Settled.{outcome_of};
 ghost use Rattle.mst_forest.specs.SeenRoles.{seen_tree, seen_forwards};
 ghost use Rattle.mst_vlan.specs.Active.{active_ports as active_in, JoinWithoutLoop};
@@ -11,7 +11,7 @@ ghost use Rattle.mst_vlan.specs.Seen.{seen_active};
 use crate::laws::joined_without_loop;
 use mst_forest::{Forest, Settled, forwards_in, vid_tree};
 use mst_ids::{BridgeNo, PortNo, Tree, Vid};
-use mst_lag::{PortInView, View};
+use mst_view::{PortInView, View};
 use std::alloc::{AllocError, Global};
 
 /// The active topology of a VID in a settled network: the logical ports that forward in their own bridge's tree of it, in

@@ -1,7 +1,7 @@
 use Rattle.std.proofs.Common.{◌≡◌, List, [], ◌++◌, Option, Some, None, sym, ap, subst, ◌∙◌, append-nil}
 use Rattle.std.specs.Prelude.{OnOk}
 use Rattle.std.specs.Option.{option_copied, option_map_or}
-use Rattle.mst_lag.specs.View.{LogicalPort}
+use Rattle.mst_view.specs.View.{LogicalPort}
 use Rattle.mst_forest.specs.Settled.{outcome_of}
 use Rattle.mst_advise.specs.Costs.{port_named, with_cost}
 use Rattle.mst_advise.specs.declared.setting.Setting.{Setting}

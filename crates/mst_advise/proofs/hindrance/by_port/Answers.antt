@@ -1,6 +1,6 @@
 use Rattle.std.proofs.Common.{Some, None, sym, ap, ◌∙◌}
 use Rattle.std.specs.Option.{option_and_then, option_copied}
-use Rattle.mst_lag.specs.View.{LogicalPort}
+use Rattle.mst_view.specs.View.{LogicalPort}
 use Rattle.mst_advise.specs.Hindrances.{of_port, off}
 use Rattle.mst_advise.proofs.PortsNamed.{port_is_named}
 use Rattle.mst_advise.proofs.hindrance.by_port.Goals as goal

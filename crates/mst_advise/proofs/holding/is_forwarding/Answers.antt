@@ -1,6 +1,6 @@
 use Rattle.std.proofs.Common.{Some, None, refl, sym, ap, ◌∙◌}
 use Rattle.std.specs.Option.{option_copied}
-use Rattle.mst_lag.specs.Viewed.{named_port}
+use Rattle.mst_view.specs.Viewed.{named_port}
 use Rattle.mst_advise.proofs.ForwardingPort.{none_wanted, wanted_where, where_wanted}
 use Rattle.mst_advise.proofs.PortsNamed.{port_is_named, port_is_there}
 use Rattle.mst_advise.proofs.holding.is_forwarding.Goals as goal

@@ -1,6 +1,6 @@
 use Rattle.std.proofs.Common.{◌≡◌, ℕ, ◌==◌, ◌||◌, true, Option, sym, subst, ◌∙◌}
 use Rattle.std.specs.Prelude.{IfOk}
-use Rattle.mst_lag.specs.Viewed.{named_port}
+use Rattle.mst_view.specs.Viewed.{named_port}
 use Rattle.mst_forest.specs.declared.kind.Role.{Role}
 use Rattle.mst_forest.specs.Msti.{has_msti}
 use Rattle.mst_forest.specs.Settled.{outcome_of}

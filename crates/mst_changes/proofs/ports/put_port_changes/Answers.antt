@@ -4,7 +4,7 @@ use Rattle.mst_ids.specs.Names.{port_cmp}
 use Rattle.mst_forest.specs.Settled.{outcome_of}
 use Rattle.mst_forest.proofs.SettledNet.{forest_of}
 use Rattle.mst_changes.specs.Subjects.{port_in, names_of_either}
-use Rattle.mst_lag.specs.View.{port_names}
+use Rattle.mst_view.specs.View.{port_names}
 use Rattle.mst_changes.specs.Seen.{seen_port_entry}
 use Rattle.mst_changes.specs.Values.{value_at}
 use Rattle.mst_changes.proofs.Changed.{either_ports_rise, ports_left, ports_right}

@@ -1,10 +1,10 @@
 use Rattle.std.proofs.Common.{Bool, List, ℕ, subst}
 use Rattle.std.proofs.lemmas.Result.{IfOk-weaker}
 use Rattle.mst_tables.specs.ByTree.{table_in, vlans_in}
-use Rattle.mst_lag.specs.declared.in_view.BridgeInView.{BridgeInView}
-use Rattle.mst_lag.specs.declared.in_view.PortInView.{PortInView}
+use Rattle.mst_view.specs.declared.in_view.BridgeInView.{BridgeInView}
+use Rattle.mst_view.specs.declared.in_view.PortInView.{PortInView}
 use Rattle.mst_classes.specs.Alike.{TellApart}
-use Rattle.mst_lag.proofs.Lists.{all_weaker}
+use Rattle.mst_view.proofs.Lists.{all_weaker}
 use Rattle.mst_classes.proofs.Firsts.{firsts_below}
 use Rattle.mst_classes.proofs.classes.classes_of_both.Goals as goal
 

@@ -4,7 +4,7 @@ use Rattle.std.specs.Bool.{beq}
 use Rattle.std.specs.List.{AllByRecursion, Contains}
 use Rattle.std.proofs.lemmas.List.{take_all}
 use Rattle.mst_tables.specs.ByTree.{ByTree, vlans_in}
-use Rattle.mst_lag.specs.declared.in_view.PortInView.{PortInView}
+use Rattle.mst_view.specs.declared.in_view.PortInView.{PortInView}
 use Rattle.mst_classes.proofs.Gathered.{none_so_far, one_put, one_there}
 use Rattle.mst_classes.proofs.Told.{same_sets}
 use Rattle.mst_classes.proofs.distinct.meet_sets.Goals as goal

@@ -3,7 +3,7 @@ use Rattle.std.specs.Cmp.Lexicographic.{pointwise, bytes_decides}
 use Rattle.std.specs.List.{AllByRecursion, Contains}
 use Rattle.std.proofs.lemmas.List.{take_all}
 use Rattle.mst_tables.specs.ByTree.{ByTree, table_in}
-use Rattle.mst_lag.specs.declared.in_view.BridgeInView.{BridgeInView}
+use Rattle.mst_view.specs.declared.in_view.BridgeInView.{BridgeInView}
 use Rattle.mst_classes.proofs.Gathered.{none_so_far, one_put, one_there}
 use Rattle.mst_classes.proofs.distinct.meet_tables.Goals as goal
 use Rattle.mst_classes.proofs.distinct.meet_tables.Goals.{then-not-is_last_table+in_ok-insert, else-not-is_last_table}

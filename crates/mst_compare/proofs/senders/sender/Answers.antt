@@ -1,5 +1,5 @@
 use Rattle.std.proofs.Common.{sym, subst, ◌∙◌}
-use Rattle.mst_lag.specs.Viewed.{IsView}
+use Rattle.mst_view.specs.Viewed.{IsView}
 use Rattle.mst_compare.proofs.Sending.{sender_named}
 use Rattle.mst_compare.proofs.senders.sender.Goals as goal
 

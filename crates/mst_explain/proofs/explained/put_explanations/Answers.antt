@@ -1,6 +1,6 @@
 use Rattle.std.proofs.Common.{◌++◌, ◌∙◌, ℕ, List, ap, subst, append_assoc}
 use Rattle.std.specs.Prelude.{OnOk}
-use Rattle.mst_lag.specs.Viewed.{named_port}
+use Rattle.mst_view.specs.Viewed.{named_port}
 use Rattle.mst_forest.specs.Seen.{trees_at}
 use Rattle.mst_forest.specs.Settled.{outcome_of}
 use Rattle.mst_rows.specs.Rows.{Row}

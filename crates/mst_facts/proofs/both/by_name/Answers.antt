@@ -1,6 +1,6 @@
 use Rattle.std.proofs.Common.{ap, sym, ◌∙◌}
 use Rattle.std.specs.Map.{lookup}
-use Rattle.mst_lag.specs.Aggregation.{same_name}
+use Rattle.mst_view.specs.Aggregation.{same_name}
 use Rattle.mst_facts.proofs.FirstNamed.{put, kept}
 use Rattle.mst_facts.proofs.both.by_name.Goals as goal
 use Rattle.mst_facts.proofs.both.by_name.Goals.{then-not-contains_key+in_ok-insert, else-not-contains_key}

@@ -1,6 +1,6 @@
 use Rattle.std.proofs.Common.{◌≡◌, ◌<◌, ℕ, false, length, take, get_or}
 use Rattle.std.specs.List.{list_any}
-use Rattle.mst_lag.specs.Trees.{is_among}
+use Rattle.mst_view.specs.Trees.{is_among}
 use Rattle.mst_forest.specs.Seen.{trees_at}
 use Rattle.mst_forest.proofs.in_use.trees_in_use.Given as goal
 

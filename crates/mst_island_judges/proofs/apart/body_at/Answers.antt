@@ -1,7 +1,7 @@
 use Rattle.std.proofs.Common.{◌+◌, List, get_or, sym, subst}
 use Rattle.std.specs.List.{filter}
 use Rattle.std.proofs.lemmas.Result.{IfOk-weaker}
-use Rattle.mst_lag.specs.declared.in_view.BridgeInView.{BridgeInView}
+use Rattle.mst_view.specs.declared.in_view.BridgeInView.{BridgeInView}
 use Rattle.mst_forest.specs.Settled.{outcome_of}
 use Rattle.mst_judged.specs.reasons.sweep.Cuts.{names_of}
 use Rattle.mst_judged.specs.Islands.{AreReachParts, HaveNumbers}

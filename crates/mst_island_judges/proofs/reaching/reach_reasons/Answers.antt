@@ -1,6 +1,6 @@
 use Rattle.std.proofs.Common.{Vec, Global, ◌≡◌, ◌+◌, ℕ, Bool, List, length, map, sym, ap, subst, ◌∙◌, arith}
 use Rattle.std.proofs.lemmas.Result.{IfOk-weaker}
-use Rattle.mst_lag.specs.declared.in_view.BridgeInView.{BridgeInView}
+use Rattle.mst_view.specs.declared.in_view.BridgeInView.{BridgeInView}
 use Rattle.mst_forest.specs.Settled.{outcome_of}
 use Rattle.mst_judged.specs.reasons.sweep.Cuts.{names_of}
 use Rattle.mst_judged.specs.Islands.{AreOfClasses, AreReachParts, HaveNumbers}

@@ -1,6 +1,6 @@
 use Rattle.std.proofs.Common.{sym, ap, ◌∙◌}
 use Rattle.std.specs.Map.{lookup}
-use Rattle.mst_lag.specs.Aggregation.{same_name}
+use Rattle.mst_view.specs.Aggregation.{same_name}
 use Rattle.mst_lag.specs.Seen.{class_of}
 use Rattle.mst_lag.proofs.Keyless.{no_class}
 use Rattle.mst_lag.proofs.classes.keyed_plugs.Goals as goal

@@ -1,10 +1,10 @@
 use Rattle.std.proofs.Common.{◌≤◌, List, length, filter, filter_map, sym, ap, subst, ◌∙◌}
-use Rattle.mst_lag.specs.Aggregation.{same_name}
+use Rattle.mst_view.specs.Aggregation.{same_name}
 use Rattle.mst_lag.specs.Seen.{total_of}
-use Rattle.mst_lag.specs.Viewed.{Viewed}
+use Rattle.mst_view.specs.Viewed.{Viewed}
 use Rattle.mst_lag.specs.Renewed.{IsViewButLan, logical_among, seen_member}
-use Rattle.mst_lag.specs.contracts.in_view.View.{the_view}
-use Rattle.mst_lag.specs.declared.in_view.MemberLan.{MemberLan}
+use Rattle.mst_view.specs.contracts.in_view.View.{the_view}
+use Rattle.mst_view.specs.declared.in_view.MemberLan.{MemberLan}
 use Rattle.mst_lag.specs.declared.members.LanSeen.{LanSeen}
 use Rattle.mst_lag.proofs.Renewal.{few_members, is_view}
 use Rattle.mst_lag.proofs.renewing.renew_lan.Goals as goal

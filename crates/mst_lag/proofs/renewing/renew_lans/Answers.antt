@@ -1,6 +1,6 @@
 use Rattle.std.proofs.Common.{◌≡◌, ◌<◌, Bool, cond, length, get_or, sym, ap, ◌∙◌, arith}
 use Rattle.mst_lag.specs.Renewed.{lan_again}
-use Rattle.mst_lag.specs.declared.in_view.LanInView.{LanInView}
+use Rattle.mst_view.specs.declared.in_view.LanInView.{LanInView}
 use Rattle.mst_lag.proofs.InPlace.{stays, written}
 use Rattle.mst_lag.proofs.renewing.renew_lans.Goals as goal
 use Rattle.mst_lag.proofs.renewing.renew_lans.Goals.{then-eq, else-eq}

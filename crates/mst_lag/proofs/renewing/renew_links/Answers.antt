@@ -1,7 +1,7 @@
 use Rattle.std.proofs.Common.{sym, subst}
-use Rattle.mst_lag.specs.Viewed.{Viewed}
+use Rattle.mst_view.specs.Viewed.{Viewed}
 use Rattle.mst_lag.specs.Renewed.{IsViewButPorts}
-use Rattle.mst_lag.specs.contracts.in_view.View.{the_view}
+use Rattle.mst_view.specs.contracts.in_view.View.{the_view}
 use Rattle.mst_lag.proofs.PortsAlone.{is_linked}
 use Rattle.mst_lag.proofs.renewing.renew_links.Goals as goal
 

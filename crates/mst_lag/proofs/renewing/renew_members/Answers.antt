@@ -1,6 +1,6 @@
 use Rattle.std.proofs.Common.{◌<◌, length, List, sym, ap, subst, ◌∙◌}
 use Rattle.mst_lag.specs.Renewed.{member_again}
-use Rattle.mst_lag.specs.declared.in_view.MemberLan.{MemberLan}
+use Rattle.mst_view.specs.declared.in_view.MemberLan.{MemberLan}
 use Rattle.mst_lag.proofs.InPlace.{written}
 use Rattle.mst_lag.proofs.renewing.renew_members.Goals as goal
 

@@ -1,7 +1,7 @@
 use Rattle.std.proofs.Common.{sym, subst}
-use Rattle.mst_lag.specs.Viewed.{Viewed}
+use Rattle.mst_view.specs.Viewed.{Viewed}
 use Rattle.mst_lag.specs.Renewed.{IsViewButPort}
-use Rattle.mst_lag.specs.contracts.in_view.View.{the_view}
+use Rattle.mst_view.specs.contracts.in_view.View.{the_view}
 use Rattle.mst_lag.proofs.RenewedPort.{is_view}
 use Rattle.mst_lag.proofs.renewing.renew_port.Goals as goal
 

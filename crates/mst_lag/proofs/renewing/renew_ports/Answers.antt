@@ -1,6 +1,6 @@
 use Rattle.std.proofs.Common.{◌≡◌, ◌<◌, Bool, cond, length, get_or, sym, ap, ◌∙◌, arith}
 use Rattle.mst_lag.specs.Renewed.{port_again, port_giving}
-use Rattle.mst_lag.specs.declared.in_view.PortInView.{PortInView}
+use Rattle.mst_view.specs.declared.in_view.PortInView.{PortInView}
 use Rattle.mst_lag.proofs.InPlace.{stays, written}
 use Rattle.mst_lag.proofs.renewing.renew_ports.Goals as goal
 use Rattle.mst_lag.proofs.renewing.renew_ports.Goals.{then-eq, else-eq}

@@ -1,7 +1,7 @@
 use Rattle.std.proofs.Common.{sym, subst}
-use Rattle.mst_lag.specs.Viewed.{Viewed}
+use Rattle.mst_view.specs.Viewed.{Viewed}
 use Rattle.mst_lag.specs.Renewed.{IsViewButSettings}
-use Rattle.mst_lag.specs.contracts.in_view.View.{the_view}
+use Rattle.mst_view.specs.contracts.in_view.View.{the_view}
 use Rattle.mst_lag.proofs.SetAlone.{is_settings}
 use Rattle.mst_lag.proofs.renewing.renew_settings.Goals as goal
 

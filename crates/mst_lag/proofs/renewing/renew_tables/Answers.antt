@@ -1,8 +1,8 @@
 use Rattle.std.proofs.Common.{◌≡◌, ℕ, List, map, sym, subst, ◌∙◌}
-use Rattle.mst_lag.specs.Viewed.{Viewed}
+use Rattle.mst_view.specs.Viewed.{Viewed}
 use Rattle.mst_lag.specs.Renewed.{IsViewButSet}
-use Rattle.mst_lag.specs.contracts.in_view.View.{the_view}
-use Rattle.mst_lag.specs.declared.trees.TreesInView.{TreesInView}
+use Rattle.mst_view.specs.contracts.in_view.View.{the_view}
+use Rattle.mst_view.specs.declared.trees.TreesInView.{TreesInView}
 use Rattle.mst_lag.proofs.SetAlone.{is_set}
 use Rattle.mst_lag.proofs.renewing.renew_tables.Goals as goal
 

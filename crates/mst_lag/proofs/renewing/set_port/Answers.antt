@@ -1,6 +1,6 @@
 use Rattle.std.proofs.Common.{◌≡◌, ◌<◌, Bool, cond, length, get_or, sym, ap, ◌∙◌, arith}
 use Rattle.mst_lag.specs.Renewed.{port_set, port_with}
-use Rattle.mst_lag.specs.declared.in_view.PortInView.{PortInView}
+use Rattle.mst_view.specs.declared.in_view.PortInView.{PortInView}
 use Rattle.mst_lag.proofs.InPlace.{stays, written}
 use Rattle.mst_lag.proofs.renewing.set_port.Goals as goal
 use Rattle.mst_lag.proofs.renewing.set_port.Goals.{then-eq, else-eq}

@@ -1,8 +1,8 @@
 use Rattle.std.proofs.Common.{◌≤◌, List, length, sym, subst, ◌∙◌}
-use Rattle.mst_lag.specs.Aggregation.{same_name}
+use Rattle.mst_view.specs.Aggregation.{same_name}
 use Rattle.mst_lag.specs.Renewed.{seen_member}
 use Rattle.mst_lag.specs.declared.members.LanSeen.{LanSeen}
-use Rattle.mst_lag.specs.declared.in_view.MemberLan.{MemberLan}
+use Rattle.mst_view.specs.declared.in_view.MemberLan.{MemberLan}
 use Rattle.mst_lag.proofs.Renewal.{few_kept}
 use Rattle.mst_lag.proofs.renewing.total_now.Goals as goal
 

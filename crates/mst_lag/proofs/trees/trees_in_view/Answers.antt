@@ -1,7 +1,7 @@
 use Rattle.std.proofs.Common.{◌≡◌, ℕ, List, subst, sym}
 use Rattle.std.specs.List.Sorted.{IsNonDecreasingBy}
 use Rattle.mst_tables.specs.Seen.{bridge_row}
-use Rattle.mst_lag.proofs.Rising.{mstis_rise}
+use Rattle.mst_view.proofs.Rising.{mstis_rise}
 use Rattle.mst_lag.proofs.trees.trees_in_view.Goals as goal
 
 pub new-requires : goal.new-requires

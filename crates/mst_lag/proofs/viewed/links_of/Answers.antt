@@ -3,12 +3,12 @@ use Rattle.std.specs.List.{filter, filter_map, AllByRecursion}
 use Rattle.std.specs.Map.{lookup}
 use Rattle.std.specs.FinMap as fin
 use Rattle.indexmap.specs.IndexMap.{get}
-use Rattle.mst_lag.specs.Aggregation.{same_name, plugs}
-use Rattle.mst_lag.specs.Viewed.{named_port, named_lan, HasNumbers}
+use Rattle.mst_view.specs.Aggregation.{same_name, plugs}
+use Rattle.mst_view.specs.Viewed.{named_port, named_lan, HasNumbers}
 use Rattle.mst_lag.specs.Seen.{seen_plug, AreClasses, no_total, total_of, seen_port, logical_seen, is_logical, is_lowest, lag_pair, member_lan_of, member_port_of}
 use Rattle.mst_lag.specs.declared.plugs.PlugSeen.{PlugSeen}
 use Rattle.mst_lag.specs.declared.members.LanSeen.{LanSeen}
-use Rattle.mst_lag.specs.declared.in_view.LanInView.{LanInView}
+use Rattle.mst_view.specs.declared.in_view.LanInView.{LanInView}
 use Rattle.mst_lag.proofs.Known.{of_plug, plugs_are}
 use Rattle.mst_lag.proofs.Viewing.{of_lan, rows, lans_are, member_lans_are, member_ports_are, lag_at, no_lag_at, lans_named, lans_numbered, ports_named, ports_numbered}
 use Rattle.mst_lag.proofs.viewed.links_of.Goals as goal

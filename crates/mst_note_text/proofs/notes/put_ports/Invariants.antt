@@ -1,6 +1,6 @@
 use Rattle.std.proofs.Common.{List, ◌++◌, take}
 use Rattle.std.specs.List.{flat_map}
-use Rattle.mst_lag.specs.Viewed.{named_port}
+use Rattle.mst_view.specs.Viewed.{named_port}
 use Rattle.mst_rows.specs.Rows.{Row}
 use Rattle.mst_note_text.specs.NotesText.{restricted_note}
 use Rattle.mst_note_text.specs.contracts.notes.put_ports.{R-type}

@@ -1,4 +1,4 @@
-use Rattle.mst_lag.specs.declared.in_view.BridgeInView.{BridgeInView}
+use Rattle.mst_view.specs.declared.in_view.BridgeInView.{BridgeInView}
 use Rattle.mst_note_text.proofs.Placing.{one_placed}
 use Rattle.mst_note_text.proofs.places.macs_of.Goals as goal
 

@@ -1,6 +1,6 @@
 use Rattle.std.proofs.Common.{◌≡◌, ◌<◌, List, length, get_or, subst, ap, ◌∙◌}
-use Rattle.mst_lag.specs.declared.in_view.BridgeInView.{BridgeInView}
-use Rattle.mst_lag.specs.Viewed.{Viewed}
+use Rattle.mst_view.specs.declared.in_view.BridgeInView.{BridgeInView}
+use Rattle.mst_view.specs.Viewed.{Viewed}
 use Rattle.mst_picture.specs.InView.{off_of}
 use Rattle.mst_picture.proofs.Lines.{text_more}
 use Rattle.mst_picture.proofs.bridges.push_off.Goals as goal

@@ -2,8 +2,8 @@ use Rattle.std.proofs.Common.{◌≡◌, ◌==◌, ◌++◌, [], Option, Some, s
 use Rattle.std.specs.List.{find}
 use Rattle.std.specs.Option.{option_map_or}
 use Rattle.std.proofs.lemmas.Result.{on_ok_weaker}
-use Rattle.mst_lag.specs.declared.in_view.BridgeInView.{BridgeInView}
-use Rattle.mst_lag.specs.Viewed.{Viewed}
+use Rattle.mst_view.specs.declared.in_view.BridgeInView.{BridgeInView}
+use Rattle.mst_view.specs.Viewed.{Viewed}
 use Rattle.mst_forest.specs.SeenRoles.{seen_tree}
 use Rattle.mst_forest.proofs.Named.{found_in}
 use Rattle.mst_picture.specs.InView.{node_of}

@@ -2,7 +2,7 @@ use Rattle.std.proofs.Common.{◌≡◌, false, ap, ◌∙◌}
 use Rattle.std.specs.Prelude.{◌&&◌}
 use Rattle.std.specs.Option.{option_map_or}
 use Rattle.mst_ids.specs.Vids.{has}
-use Rattle.mst_lag.specs.Viewed.{named_port}
+use Rattle.mst_view.specs.Viewed.{named_port}
 use Rattle.mst_tables.specs.ByTree.{vlans_in}
 use Rattle.mst_forest.specs.Roles.{forwards, role_in, tree_of_vid}
 use Rattle.mst_forest.specs.SeenRoles.{seen_tree}

@@ -1,6 +1,6 @@
 use Rattle.std.proofs.Common.{◌≡◌, map, sym, ap, ◌∙◌}
 use Rattle.std.proofs.lemmas.Result.{IfOk-weaker}
-use Rattle.mst_lag.proofs.Lists.{mapped_twice}
+use Rattle.mst_view.proofs.Lists.{mapped_twice}
 use Rattle.mst_forest.specs.Settled.{outcome_of}
 use Rattle.mst_text.specs.vlan.Seen.{seen_active}
 use Rattle.mst_text.specs.VlanSeen.{seen_port}

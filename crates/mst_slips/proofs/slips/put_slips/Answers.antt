@@ -1,7 +1,7 @@
 use Rattle.std.proofs.Common.{◌++◌, List, append_assoc, ap, subst, ◌∙◌}
 use Rattle.std.specs.Prelude.{OnOk}
 use Rattle.mst_rows.specs.Rows.{Row}
-use Rattle.mst_lag.specs.declared.in_view.PortInView.{PortInView}
+use Rattle.mst_view.specs.declared.in_view.PortInView.{PortInView}
 use Rattle.mst_slips.specs.Kept.{AreKept}
 use Rattle.mst_slips.specs.Lans.{lan_rows}
 use Rattle.mst_slips.specs.Regions.{region_rows}

@@ -1,6 +1,6 @@
 use Rattle.std.proofs.Common.{◌≡◌, ◌==◌, true, sym, ap, ◌∙◌}
-use Rattle.mst_lag.specs.Trees.{is_among}
-use Rattle.mst_lag.specs.declared.in_view.BridgeInView.{BridgeInView}
+use Rattle.mst_view.specs.Trees.{is_among}
+use Rattle.mst_view.specs.declared.in_view.BridgeInView.{BridgeInView}
 use Rattle.mst_forest.specs.Seen.{trees_at}
 use Rattle.mst_graph.specs.Lists.{has_any}
 use Rattle.mst_summary.proofs.Lists.{any_or}

@@ -1,5 +1,5 @@
 use Rattle.std.proofs.Common.{◌≡◌, ℕ, List, filter, take}
-use Rattle.mst_lag.specs.Aggregation.{same_name}
+use Rattle.mst_view.specs.Aggregation.{same_name}
 use Rattle.mst_slips.specs.Kept.{kept_at}
 use Rattle.mst_summary.proofs.kept.ports_by_lan.Given as goal
 

@@ -1,7 +1,7 @@
 use Rattle.std.proofs.Common.{ℕ, ◌<◌, ◌∷◌, [], ◌++◌, cond, get_or, length, sym, ap, subst, ◌∙◌}
 use Rattle.std.specs.List.{filter, range_with_len}
-use Rattle.mst_lag.specs.Aggregation.{same_name}
-use Rattle.mst_lag.specs.declared.in_view.PortInView.{PortInView}
+use Rattle.mst_view.specs.Aggregation.{same_name}
+use Rattle.mst_view.specs.declared.in_view.PortInView.{PortInView}
 use Rattle.mst_summary.specs.Grouped.{group_at}
 use Rattle.mst_summary.specs.Places.{is_on}
 use Rattle.mst_summary.proofs.Lists.{trees_more}

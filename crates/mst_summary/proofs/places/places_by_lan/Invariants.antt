@@ -1,6 +1,6 @@
 use Rattle.std.proofs.Common.{◌≡◌, ℕ, List, filter}
 use Rattle.std.specs.List.{range_with_len}
-use Rattle.mst_lag.specs.Aggregation.{same_name}
+use Rattle.mst_view.specs.Aggregation.{same_name}
 use Rattle.mst_summary.specs.Grouped.{group_at}
 use Rattle.mst_summary.specs.Places.{is_on}
 use Rattle.mst_summary.proofs.places.places_by_lan.Given as goal

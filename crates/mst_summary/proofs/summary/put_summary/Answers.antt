@@ -3,7 +3,7 @@ use Rattle.std.specs.List.{flat_map}
 use Rattle.std.proofs.lemmas.Result.{on_ok_weaker}
 use Rattle.mst_rows.specs.Rows.{Row}
 use Rattle.mst_forest.specs.Settled.{outcome_of}
-use Rattle.mst_lag.specs.Viewed.{IsView}
+use Rattle.mst_view.specs.Viewed.{IsView}
 use Rattle.mst_slips.specs.Slips.{slip_rows}
 use Rattle.mst_summary.specs.Carries.{all_carries, full_carries}
 use Rattle.mst_summary.specs.Counts.{counts_of, counts_row}

@@ -1,7 +1,7 @@
 use Rattle.std.proofs.Common.{◌++◌, List, map, filter, ap, ◌∙◌}
 use Rattle.mst_net.specs.tables.Seen.{bridge_row}
-use Rattle.mst_lag.specs.declared.in_view.BridgeInView.{BridgeInView}
-use Rattle.mst_lag.specs.declared.in_view.MemberLan.{MemberLan}
+use Rattle.mst_view.specs.declared.in_view.BridgeInView.{BridgeInView}
+use Rattle.mst_view.specs.declared.in_view.MemberLan.{MemberLan}
 use Rattle.mst_sweep.specs.declared.failure.Failure.{Failure}
 use Rattle.mst_sweep.specs.declared.failure.Failure.TheVariants.{Lan, Bridge}
 use Rattle.mst_sweep.proofs.AllFailures.{failures_seen}

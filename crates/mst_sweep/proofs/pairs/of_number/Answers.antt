@@ -1,6 +1,6 @@
 use Rattle.std.proofs.Common.{◌==◌, sym, ◌∙◌}
 use Rattle.std.specs.Cmp.Lexicographic.{bytes_decides}
-use Rattle.mst_lag.specs.declared.in_view.BridgeInView.{BridgeInView}
+use Rattle.mst_view.specs.declared.in_view.BridgeInView.{BridgeInView}
 use Rattle.mst_facts.proofs.Lists.{find-found}
 use Rattle.mst_sweep.proofs.Paired.{paired}
 use Rattle.mst_sweep.proofs.pairs.of_number.Goals as goal

@@ -1,7 +1,7 @@
 use Rattle.std.proofs.Common.{◌≡◌, ◌+◌, ◌<◌, ◌≤◌, length, cond, sym, ap, ◌∙◌, arith}
 use Rattle.std.specs.List.{count_by}
 use Rattle.std.proofs.lemmas.List.{take_all}
-use Rattle.mst_lag.specs.View.{port_names}
+use Rattle.mst_view.specs.View.{port_names}
 use Rattle.mst_sweep.specs.Moved.{port_moved}
 use Rattle.mst_sweep.proofs.Failed.{are_left}
 use Rattle.mst_sweep.proofs.Moved.{as_named, count_step}

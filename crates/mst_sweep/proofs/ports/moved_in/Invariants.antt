@@ -4,7 +4,7 @@ use Rattle.mst_net.specs.tables.After.{after}
 use Rattle.mst_net.specs.tables.Tables.{Net, Numbers}
 use Rattle.mst_forest.specs.Agrees.{AreOf}
 use Rattle.mst_forest.specs.Forest.{IsForest}
-use Rattle.mst_lag.specs.View.{port_names}
+use Rattle.mst_view.specs.View.{port_names}
 use Rattle.mst_sweep.specs.declared.failure.Failure.{Failure}
 use Rattle.mst_sweep.specs.Failures.{edit_of}
 use Rattle.mst_sweep.specs.Moved.{port_moved}

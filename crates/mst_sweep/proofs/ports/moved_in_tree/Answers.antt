@@ -1,5 +1,5 @@
 use Rattle.std.proofs.Common.{◌≡◌, ◌<◌, ◌≤◌, length, sym, ◌∙◌, arith}
-use Rattle.mst_lag.specs.View.{port_names}
+use Rattle.mst_view.specs.View.{port_names}
 use Rattle.mst_forest.proofs.NotInUse.{unused, unused_by}
 use Rattle.mst_sweep.proofs.Moved.{few_ports, none_counted}
 use Rattle.mst_sweep.proofs.Untouched.{had_listed}

@@ -1,6 +1,6 @@
 use Rattle.std.proofs.Common.{◌≡◌, ℕ, Bool, true, false, cond, [], ◌∷◌, ◌++◌, sym, ap, ◌∙◌, arith, append-nil}
 use Rattle.std.specs.List.{filter, list_any, range_with_len}
-use Rattle.mst_lag.specs.View.{bridge_names}
+use Rattle.mst_view.specs.View.{bridge_names}
 use Rattle.mst_sweep.specs.Moved.{root_moved}
 use Rattle.mst_sweep.proofs.Moved.{trees_more, trees_all}
 use Rattle.mst_sweep.proofs.roots.moved_roots.Goals as goal

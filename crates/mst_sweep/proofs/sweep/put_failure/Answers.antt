@@ -1,6 +1,6 @@
 use Rattle.std.proofs.Common.{◌≡◌, ℕ, List, ◌∷◌, ◌++◌, [], refl, sym, ap, subst, ◌∙◌, append_assoc}
 use Rattle.mst_ids.specs.Vids.{runs_from, set_where}
-use Rattle.mst_lag.specs.Trees.{is_among}
+use Rattle.mst_view.specs.Trees.{is_among}
 use Rattle.mst_graph.specs.Lists.{has_any}
 use Rattle.mst_rows.specs.Rows.{Row}
 use Rattle.mst_sweep.specs.declared.cuts.CutBy.TheVariants.{One}

@@ -1,7 +1,7 @@
 use Rattle.std.proofs.Common.{◌∙◌}
 use Rattle.std.specs.HashSet.{contains}
 use Rattle.std.proofs.lemmas.Result.{IfOk-weaker}
-use Rattle.mst_lag.specs.Aggregation.{same_name}
+use Rattle.mst_view.specs.Aggregation.{same_name}
 use Rattle.mst_sweeping.proofs.Users.{shared_by}
 use Rattle.mst_sweeping.proofs.links.shared.Goals as goal
 

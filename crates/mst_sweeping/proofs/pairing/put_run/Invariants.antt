@@ -1,6 +1,6 @@
 use Rattle.std.proofs.Common.{◌≤◌, ◌∷◌, [], List, map, take}
 use Rattle.std.specs.List.{AllByRecursion}
-use Rattle.mst_lag.specs.Viewed.{IsView}
+use Rattle.mst_view.specs.Viewed.{IsView}
 use Rattle.mst_rows.specs.Rows.{Row}
 use Rattle.mst_sweep.specs.Pairs.{failed, with_each}
 use Rattle.mst_sweeping.specs.Pairing.{IsPairing, IsSingle, ArePairsTold}

@@ -2,7 +2,7 @@ use Rattle.std.proofs.Common.{◌≡◌, ◌∙◌, Some, None, ap, sym}
 use Rattle.std.specs.List.{find}
 use Rattle.std.specs.Option.{option_copied, option_map}
 use Rattle.mst_net.specs.tables.Tables.{port_eq}
-use Rattle.mst_lag.specs.declared.in_view.PortInView.{PortInView}
+use Rattle.mst_view.specs.declared.in_view.PortInView.{PortInView}
 use Rattle.mst_sweeping.specs.declared.ports.BothPorts.{BothPorts}
 use Rattle.mst_sweeping.proofs.ports.in_both.Goals as goal
 

@@ -1,6 +1,6 @@
 use Rattle.std.proofs.Common.{◌≡◌, ℕ, ◌+◌, sym, ap, ◌∙◌, arith}
 use Rattle.std.specs.List.{count_by}
-use Rattle.mst_lag.specs.View.{port_names}
+use Rattle.mst_view.specs.View.{port_names}
 use Rattle.mst_sweep.specs.Moved.{port_moved}
 use Rattle.mst_sweep.proofs.Moved.{sums_more, sums_all}
 use Rattle.mst_sweeping.proofs.ports.moved_ports.Goals as goal

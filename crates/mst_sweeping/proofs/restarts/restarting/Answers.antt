@@ -2,7 +2,7 @@ use Rattle.std.proofs.Common.{◌&&◌, ap, map, ◌∙◌}
 use Rattle.std.specs.HashSet.{contains}
 use Rattle.std.specs.List.{filter, list_any}
 use Rattle.std.proofs.lemmas.Result.{IfOk-weaker}
-use Rattle.mst_lag.specs.Aggregation.{same_name}
+use Rattle.mst_view.specs.Aggregation.{same_name}
 use Rattle.mst_sweep.specs.facts.declared.both.Both.{Both}
 use Rattle.mst_sweeping.specs.declared.ports.BothPorts.{BothPorts}
 use Rattle.mst_sweeping.specs.Seen.{seen_anew, seen_restarts}

@@ -1,5 +1,5 @@
 use Rattle.std.proofs.Common.{◌≤◌, List, take}
-use Rattle.mst_lag.specs.Viewed.{IsView}
+use Rattle.mst_view.specs.Viewed.{IsView}
 use Rattle.mst_rows.specs.Rows.{Row}
 use Rattle.mst_forest.specs.Forest.{IsForest}
 use Rattle.mst_sweeping.specs.Sweeping.{AreTold, Puts}

@@ -1,6 +1,6 @@
 use Rattle.std.proofs.Common.{◌&&◌, ◌++◌, List, ℕ, not, map, ap, ◌∙◌}
 use Rattle.std.specs.List.{list_all}
-use Rattle.mst_lag.specs.declared.in_view.BridgeInView.{BridgeInView}
+use Rattle.mst_view.specs.declared.in_view.BridgeInView.{BridgeInView}
 use Rattle.mst_graph.specs.Lists.{has_any}
 use Rattle.mst_reasons.specs.Missing.{bridges_of, has_one, scope_bridges}
 use Rattle.mst_reasons.proofs.NamedIn.{names_are}

@@ -1,7 +1,7 @@
 use Rattle.std.proofs.Common.{not, map, sym, ap, ◌∙◌}
 use Rattle.std.specs.List.{list_all}
-use Rattle.mst_lag.specs.declared.in_view.PortInView.{PortInView}
-use Rattle.mst_lag.specs.View.{port_names}
+use Rattle.mst_view.specs.declared.in_view.PortInView.{PortInView}
+use Rattle.mst_view.specs.View.{port_names}
 use Rattle.mst_reasons.specs.Missing.{has_port, ports_of}
 use Rattle.mst_telling.proofs.LackedSeen.{names_of_ports}
 use Rattle.mst_telling.proofs.lacking.lacks_port.Goals as goal

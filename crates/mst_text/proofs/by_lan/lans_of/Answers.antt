@@ -1,4 +1,4 @@
-use Rattle.mst_lag.specs.declared.in_view.MemberLan.{MemberLan}
+use Rattle.mst_view.specs.declared.in_view.MemberLan.{MemberLan}
 use Rattle.mst_text.specs.KeptByLan.{kept_at}
 use Rattle.mst_text.specs.LagView.{lan_of}
 use Rattle.mst_text.proofs.LagsByLan.{one_more}

@@ -1,7 +1,7 @@
 use Rattle.std.proofs.Common.{◌∙◌, ℕ, List, ap, map}
-use Rattle.mst_lag.specs.Aggregation.{same_name}
-use Rattle.mst_lag.specs.declared.in_view.MemberLan.{MemberLan}
-use Rattle.mst_lag.specs.declared.in_view.MemberPort.{MemberPort}
+use Rattle.mst_view.specs.Aggregation.{same_name}
+use Rattle.mst_view.specs.declared.in_view.MemberLan.{MemberLan}
+use Rattle.mst_view.specs.declared.in_view.MemberPort.{MemberPort}
 use Rattle.mst_text.specs.LagView.{lans_in, ports_in, up_of, lan_of, port_of}
 use Rattle.mst_text.proofs.LagsByLan.{filters_swapped}
 use Rattle.mst_text.proofs.by_lan.members_by_lan.Goals as goal

@@ -1,4 +1,4 @@
-use Rattle.mst_lag.specs.declared.in_view.MemberPort.{MemberPort}
+use Rattle.mst_view.specs.declared.in_view.MemberPort.{MemberPort}
 use Rattle.mst_text.specs.KeptByLan.{kept_at}
 use Rattle.mst_text.specs.LagView.{port_of}
 use Rattle.mst_text.proofs.LagsByLan.{one_more}

@@ -1,6 +1,6 @@
 use Rattle.std.proofs.Common.{[], ◌∷◌, ◌++◌, List, ℕ, Option, false, cond, sym, ap, ◌∙◌, append-nil}
 use Rattle.std.specs.Option.{option_map_or}
-use Rattle.mst_lag.specs.Aggregation.{same_name}
+use Rattle.mst_view.specs.Aggregation.{same_name}
 use Rattle.mst_tree_judges.specs.Seen.{names_at}
 use Rattle.mst_tree_judges.proofs.ChildAdded.{children_more}
 use Rattle.mst_tree_judges.proofs.leaves.by_parent.Goals as goal

@@ -2,7 +2,7 @@ use Rattle.std.proofs.Common.{ℕ, List, map, filter, ap, ◌∙◌}
 use Rattle.std.specs.List.{flat_map}
 use Rattle.std.specs.FinMap as fin
 use Rattle.std.proofs.lemmas.Result.{IfOk-weaker}
-use Rattle.mst_lag.specs.declared.in_view.BridgeInView.{BridgeInView}
+use Rattle.mst_view.specs.declared.in_view.BridgeInView.{BridgeInView}
 use Rattle.mst_judged.specs.reasons.note_text.declared.children.Child.{Child}
 use Rattle.mst_forest.specs.Outcome.{trees_of}
 use Rattle.mst_forest.specs.Settled.{outcome_of}

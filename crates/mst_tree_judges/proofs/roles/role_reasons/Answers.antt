@@ -2,7 +2,7 @@ use Rattle.std.proofs.Common.{◌&&◌, not, ◌++◌, Option, None, get_or, ap,
 use Rattle.std.proofs.lemmas.List.{get_or_default}
 use Rattle.std.specs.List.{flat_map}
 use Rattle.mst_graph.proofs.Members.{from_filter}
-use Rattle.mst_lag.specs.declared.in_view.PortInView.{PortInView}
+use Rattle.mst_view.specs.declared.in_view.PortInView.{PortInView}
 use Rattle.mst_policy.specs.Items as policy
 use Rattle.mst_forest.specs.declared.kind.Role.{Role}
 use Rattle.mst_forest.specs.Settled.{outcome_of}

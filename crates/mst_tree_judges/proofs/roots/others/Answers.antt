@@ -1,6 +1,6 @@
 use Rattle.std.proofs.Common.{◌≡◌, ◌<◌, ◌≤◌, get_or, length, subst, ap, ◌∙◌}
-use Rattle.mst_lag.specs.Viewed.{named_bridge}
-use Rattle.mst_lag.specs.declared.in_view.BridgeInView.{BridgeInView}
+use Rattle.mst_view.specs.Viewed.{named_bridge}
+use Rattle.mst_view.specs.declared.in_view.BridgeInView.{BridgeInView}
 use Rattle.mst_tree_judges.specs.Seen.{seen_other_root}
 use Rattle.mst_tree_judges.proofs.FlatMore.{flat_all, flat_more}
 use Rattle.mst_tree_judges.proofs.roots.others.Goals as goal

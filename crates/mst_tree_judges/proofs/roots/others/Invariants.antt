@@ -1,6 +1,6 @@
 use Rattle.std.proofs.Common.{◌≡◌, take}
 use Rattle.std.specs.List.{flat_map}
-use Rattle.mst_lag.specs.Viewed.{named_bridge}
+use Rattle.mst_view.specs.Viewed.{named_bridge}
 use Rattle.mst_tree_judges.specs.Seen.{seen_other_root}
 use Rattle.mst_tree_judges.proofs.roots.others.Given as goal
 

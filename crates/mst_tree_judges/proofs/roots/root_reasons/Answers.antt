@@ -2,7 +2,7 @@ use Rattle.std.proofs.Common.{not, true, false, List, refl, sym, ap, ◌∙◌}
 use Rattle.std.proofs.lemmas.Result.{IfOk-weaker}
 use Rattle.std.specs.List.{filter}
 use Rattle.std.specs.Option.{option_map}
-use Rattle.mst_lag.specs.Aggregation.{same_name}
+use Rattle.mst_view.specs.Aggregation.{same_name}
 use Rattle.mst_graph.specs.Lists.{has_any}
 use Rattle.mst_judged.specs.reasons.summary.Roots.{least}
 use Rattle.mst_forest.specs.Settled.{outcome_of}

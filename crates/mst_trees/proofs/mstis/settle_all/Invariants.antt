@@ -2,7 +2,7 @@ use Rattle.std.proofs.Common.{◌≡◌, ℕ, true, is_some, nat_eq, take}
 use Rattle.std.specs.List.{AllByRecursion, list_any}
 use Rattle.std.specs.Map.{lookup}
 use Rattle.mst_settle.specs.Differences.{HasSpaceForBoth}
-use Rattle.mst_lag.specs.Trees.{is_among}
+use Rattle.mst_view.specs.Trees.{is_among}
 use Rattle.mst_trees.specs.Ground.{rewiring_of}
 use Rattle.mst_forest.specs.Seen.{trees_at}
 use Rattle.mst_trees.specs.Mstis.{AreSettled}

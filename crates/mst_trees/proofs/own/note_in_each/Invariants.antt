@@ -1,5 +1,5 @@
 use Rattle.std.proofs.Common.{take}
-use Rattle.mst_lag.specs.Trees.{is_among}
+use Rattle.mst_view.specs.Trees.{is_among}
 use Rattle.mst_trees.specs.Own.{IsNoted}
 use Rattle.mst_trees.proofs.own.note_in_each.Given as goal
 

@@ -1,7 +1,7 @@
 use Rattle.std.proofs.Common.{◌≡◌, ℕ, ◌||◌, sym, ap, subst, ◌∙◌}
 use Rattle.std.proofs.lemmas.Result.{on_ok_weaker}
 use Rattle.mst_net.specs.tables.ByTree.{AreInTrees}
-use Rattle.mst_lag.specs.Trees.{is_among}
+use Rattle.mst_view.specs.Trees.{is_among}
 use Rattle.mst_trees.specs.Own.{is_set}
 use Rattle.mst_trees.proofs.OwnSettings.{set_among, noted_in_both}
 use Rattle.mst_trees.proofs.own.note_port.Goals as goal

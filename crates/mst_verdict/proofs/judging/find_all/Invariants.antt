@@ -1,5 +1,5 @@
 use Rattle.std.proofs.Common.{◌∷◌, None, Some, map, take}
-use Rattle.mst_lag.specs.Viewed.{IsView}
+use Rattle.mst_view.specs.Viewed.{IsView}
 use Rattle.mst_verdict.specs.Verifying.{FoundIn, OfSittings}
 use Rattle.mst_verdict.proofs.judging.find_all.Given as goal
 

@@ -2,8 +2,8 @@ use Rattle.std.proofs.Common.{◌&&◌, ℕ, List, sym, ◌∙◌}
 use Rattle.std.proofs.lemmas.Bool.{and_parts}
 use Rattle.mst_ids.specs.declared.name.PortName.{PortName}
 use Rattle.mst_tables.specs.Tables.{port_eq}
-use Rattle.mst_lag.specs.Aggregation.{same_name}
-use Rattle.mst_lag.proofs.Names.{same_names, same_ports}
+use Rattle.mst_view.specs.Aggregation.{same_name}
+use Rattle.mst_view.proofs.Names.{same_names, same_ports}
 use Rattle.mst_vlan.proofs.Lists.{equal_lists, not_false}
 use Rattle.mst_vlan.proofs.comparing.differs.Goals as goal
 

@@ -1,6 +1,6 @@
 use Rattle.std.proofs.Common.{◌≡◌, ◌<◌, List, length, sym, subst, ◌∙◌}
-use Rattle.mst_lag.proofs.Names.{same_names, same_ports}
-use Rattle.mst_lag.specs.declared.in_view.PortInView.{PortInView}
+use Rattle.mst_view.proofs.Names.{same_names, same_ports}
+use Rattle.mst_view.specs.declared.in_view.PortInView.{PortInView}
 use Rattle.mst_vlan.specs.Carried.{names_of}
 use Rattle.mst_vlan.proofs.Lists.{more_names, not_false}
 use Rattle.mst_vlan.proofs.comparing.have_same_ports.Goals as goal

@@ -1,6 +1,6 @@
 use Rattle.std.proofs.Common.{◌∙◌, sym, ap}
 use Rattle.std.specs.Option.{option_copied, option_map}
-use Rattle.mst_lag.specs.declared.in_view.BridgeInView.{BridgeInView}
+use Rattle.mst_view.specs.declared.in_view.BridgeInView.{BridgeInView}
 use Rattle.mst_vlan.specs.Seen.{seen_bridge}
 use Rattle.mst_vlan.proofs.ByNumber.{one_named, one_unnamed}
 use Rattle.mst_vlan.proofs.named.bridge_names.Goals as goal

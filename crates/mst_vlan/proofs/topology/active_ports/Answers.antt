@@ -1,6 +1,6 @@
 use Rattle.std.proofs.Common.{map, sym, ap, subst, ◌∙◌}
 use Rattle.std.proofs.lemmas.Result.{IfOk-weaker}
-use Rattle.mst_lag.specs.Viewed.{named_port}
+use Rattle.mst_view.specs.Viewed.{named_port}
 use Rattle.mst_forest.specs.Settled.{outcome_of}
 use Rattle.mst_forest.proofs.SettledNet.{forest_of}
 use Rattle.mst_vlan.specs.Active.{JoinWithoutLoop}
