@@ -15,8 +15,8 @@ use crate::goal::Goal;
 use crate::named::port_named;
 use mst_forest::{Settled, bridge_id};
 use mst_ids::{BridgeId, Name, PortName, Tree};
-use mst_view::{BridgeInView, PortInView};
 use mst_verify::{Follower, bridge_named, followers};
+use mst_view::{BridgeInView, PortInView};
 use std::alloc::{AllocError, Global};
 
 /// What is in the way of a goal, whatever is set.

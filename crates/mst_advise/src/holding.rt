@@ -17,10 +17,10 @@ use crate::goal::Goal;
 use crate::named::port_named;
 use mst_forest::{Settled, role_of};
 use mst_ids::{Name, PortName, Tree, VidSet};
-use mst_view::PortInView;
 use mst_policy::Expectation;
 use mst_verify::laws::told_where_broken;
 use mst_verify::{Before, Homes, Judged, Reason, reasons};
+use mst_view::PortInView;
 use std::alloc::{AllocError, Global};
 
 /// Whether a goal holds in a settled network: what a line of a policy says that expects it. `AllocError`: memory was wanted and refused.

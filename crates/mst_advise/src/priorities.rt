@@ -10,8 +10,8 @@ ghost use Rattle.mst_advise.specs.Seen.{ids_of as ids, seen_first, seen_next, se
 use crate::setting::Setting;
 use mst_forest::{Settled, bridge_id};
 use mst_ids::{BridgeId, Mac, Name, Priority, Tree};
-use mst_view::BridgeInView;
 use mst_verify::{Follower, all_but, bridge_named, followers};
+use mst_view::BridgeInView;
 use std::alloc::{AllocError, Global};
 
 /// The other bridges in question, where it is asked whether this one is the root.

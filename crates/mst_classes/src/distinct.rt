@@ -5,8 +5,8 @@ ghost use Rattle.mst_tables.specs.ByTree.{table_in, vlans_in};
 
 use indexmap::IndexSet;
 use mst_ids::VidSet;
-use mst_view::View;
 use mst_tables::Table;
+use mst_view::View;
 use std::alloc::{AllocError, Global};
 
 /// The tables of the bridges, each once. `AllocError`: memory was wanted and refused.

@@ -11,8 +11,8 @@ use crate::planned::planned;
 use crate::senders::{Origin, sender_in};
 use mst_bpdu::{Bpdu, BpduFault, Difference, differences};
 use mst_forest::{Forest, Settled};
-use mst_view::View;
 use mst_tables::Contents;
+use mst_view::View;
 use std::alloc::{AllocError, Global};
 
 /// Where a BPDU differs from what the plan has for the port that sent it, in the order in which fields are compared.

@@ -12,9 +12,9 @@ use crate::senders::Origin;
 use mst_bpdu::{ConfigurationId, Planned, PlannedCist, PlannedMsti, PlannedMstis, RoleCode};
 use mst_forest::{Forest, Role, port_role};
 use mst_ids::{BridgeId, PortId, PortName, Tree, padded};
-use mst_view::{PortInView, View};
 use mst_tables::{Bridge, TreeSettings};
 use mst_vector::{CistVector, MstiVector};
+use mst_view::{PortInView, View};
 use std::alloc::{AllocError, Global};
 
 /// What the plan has for the BPDUs of a sender whose bridge has a root priority vector in the CIST. `AllocError`:

@@ -11,8 +11,8 @@ ghost use Rattle.mst_compare.specs.Seen.{seen_sender};
 use mst_bpdu::Bpdu;
 use mst_forest::Settled;
 use mst_ids::{Mac, Name, PortName};
-use mst_view::{BridgeInView, PortInView, View};
 use mst_lang::Kind;
+use mst_view::{BridgeInView, PortInView, View};
 
 /// Who sent a BPDU: a bridge of the view, and a logical port of that bridge.
 #[derive(Clone, Copy)]

@@ -14,10 +14,10 @@ use mst_facts::Both;
 use mst_forest::{Forest, Settled};
 use mst_ids::{ConfName, Name};
 use mst_kinds::{ChangeLine, Kind as RowKind};
-use mst_view::{BridgeInView, View};
 use mst_lang::Kind;
 use mst_rows::{RegionSide, Rows, Value, put};
 use mst_tables::Bridge;
+use mst_view::{BridgeInView, View};
 use std::alloc::{AllocError, Global};
 
 /// A bridge whose region is another one.

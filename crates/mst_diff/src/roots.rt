@@ -14,8 +14,8 @@ use mst_facts::{Both, Identified, root_of};
 use mst_forest::{Settled, bridge_id};
 use mst_ids::{BridgeId, Name, Tree};
 use mst_kinds::{ChangeLine, Kind};
-use mst_view::{BridgeInView, View};
 use mst_rows::{Rows, Value, put};
+use mst_view::{BridgeInView, View};
 use std::alloc::{AllocError, Global};
 
 /// The names of a bridge's root before and after.

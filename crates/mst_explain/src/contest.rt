@@ -12,8 +12,8 @@ use crate::lines::{
 };
 use mst_forest::Settled;
 use mst_ids::Tree;
-use mst_view::PortInView;
 use mst_rows::Rows;
+use mst_view::PortInView;
 use std::alloc::{AllocError, Global};
 
 /// Puts the row of the first of some claims, against its rival, if there is one.

@@ -11,9 +11,9 @@ use crate::in_tree::designated_port;
 use crate::lines::{put_boundary, put_disabled, put_heading};
 use mst_forest::{Settled, role_of};
 use mst_ids::{BridgeNo, Name, Tree};
-use mst_view::{PortInView, View};
 use mst_rows::Rows;
 use mst_vector::{CistMetric, MstiMetric};
+use mst_view::{PortInView, View};
 use std::alloc::{AllocError, Global};
 
 fn bridge_is_on(view: &View, bridge: BridgeNo) -> bool

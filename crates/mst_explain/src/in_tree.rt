@@ -12,9 +12,9 @@ use crate::field::{Difference, cist_difference, msti_difference};
 use crate::settings::{cist_bridge, cist_port, msti_bridge, msti_port};
 use mst_forest::Settled;
 use mst_ids::{BridgeNo, LanNo, Name, PortName, Tree};
-use mst_view::PortInView;
 use mst_outcome::laws::costs_bounded;
 use mst_vector::{CistMetric, Metric, MstiMetric};
+use mst_view::PortInView;
 
 /// The designated port of a LAN in a tree.
 pub(crate) fn designated_port<'a>(

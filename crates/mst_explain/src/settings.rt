@@ -3,8 +3,8 @@ ghost use Rattle.mst_explain.specs.TreesSeen.{cist_bridge_in, cist_port_in, msti
 
 use mst_forest::Settled;
 use mst_ids::Tree;
-use mst_view::{BridgeInView, PortInView};
 use mst_vector::{CistBridge, CistPort, MstiBridge, MstiPort};
+use mst_view::{BridgeInView, PortInView};
 
 /// What the CIST has of a bridge that is on: its identifier, its region and its kind.
 pub(crate) fn cist_bridge(plan: &Settled, bridge: &BridgeInView) -> Option<CistBridge>

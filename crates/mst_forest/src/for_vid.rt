@@ -17,8 +17,8 @@ ghost use Rattle.mst_forest.specs.SeenRoles.{seen_role, seen_tree, seen_forwards
 use crate::forest::Forest;
 use crate::roles::port_role;
 use mst_ids::{BridgeNo, PortNo, Tree, Vid};
-use mst_view::{BridgeInView, PortInView, View};
 use mst_lang::Kind;
+use mst_view::{BridgeInView, PortInView, View};
 
 /// The tree that a bridge of the view has a VID in.
 fn tree_of(view: &View, bridge: &BridgeInView, vid: Vid) -> Tree

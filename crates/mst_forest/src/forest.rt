@@ -11,10 +11,10 @@ use crate::internal::is_internal;
 use indexmap::IndexMap;
 use mst_config::Regions;
 use mst_ids::{BridgeNo, LanNo, PortNo, Tree};
-use mst_view::{PortInView, View};
 use mst_outcome::SpanningTree;
 use mst_topology::Wiring;
 use mst_vector::{CistMetric, CistPort, CistVector, MstiMetric, MstiPort, MstiVector};
+use mst_view::{PortInView, View};
 use std::alloc::Global;
 use std::marker::Model;
 

@@ -3,9 +3,9 @@ ghost use Rattle.mst_outcome.specs.Assignment.{designated_of};
 ghost use Rattle.mst_forest.specs.Seen.{seen_internal};
 
 use mst_config::Regions;
-use mst_view::{PortInView, View};
 use mst_outcome::SpanningTree;
 use mst_vector::CistMetric;
+use mst_view::{PortInView, View};
 
 /// Whether a port is enabled and its LAN belongs to the region of its bridge: its designated port in the CIST is
 /// on a bridge of that region.

@@ -7,9 +7,9 @@ ghost use Rattle.mst_forest.specs.Settled.{outcome_of};
 use crate::in_use::has_tree;
 use crate::settled::Settled;
 use mst_ids::Tree;
-use mst_view::BridgeInView;
 use mst_tables::TreeSettings;
 use mst_vector::{CistVector, MstiVector};
+use mst_view::BridgeInView;
 
 impl<'a> Settled<'a> {
     /// What is set by tree or VID.

@@ -10,10 +10,10 @@ ghost use Rattle.mst_forest.specs.Seen.{seen_cist_bridge, seen_msti_bridge};
 
 use mst_config::Regions;
 use mst_ids::{BridgeId, BridgeNo, PortId, Tree, auto_cost};
-use mst_view::{BridgeInView, PortInView, View};
 use mst_lang::Kind;
 use mst_tables::TreeSettings;
 use mst_vector::{CistBridge, CistPort, MstiBridge, MstiPort};
+use mst_view::{BridgeInView, PortInView, View};
 
 /// The identifier of a bridge in a tree: its priority there, the tree and its MAC.
 pub fn bridge_id(settings: &TreeSettings, tree: Tree, bridge: &BridgeInView) -> BridgeId

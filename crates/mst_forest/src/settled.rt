@@ -1,7 +1,7 @@
 use crate::forest::Forest;
-use mst_view::View;
 use mst_lang::Edit;
 use mst_net::Network;
+use mst_view::View;
 use std::marker::Model;
 
 /// A network, or one as it would be with an edit more, with its view and its trees, of which it is known that they

@@ -11,8 +11,8 @@ use crate::grouping::{Telling, vid_reasons};
 use crate::parting::parts_at;
 use mst_ids::{Name, VidSet};
 use mst_judged::{Judged, Reason, classes_asked, is_named};
-use mst_view::BridgeInView;
 use mst_policy::NameList;
+use mst_view::BridgeInView;
 use std::alloc::{AllocError, Global};
 
 /// Whether a bridge is on and one of either list.

@@ -10,8 +10,8 @@ use crate::grouping::{Telling, vid_reasons};
 use crate::parting::parts_at;
 use mst_ids::{Name, VidSet};
 use mst_judged::{Judged, Reason, classes_asked, named};
-use mst_view::BridgeInView;
 use mst_policy::NameList;
+use mst_view::BridgeInView;
 use std::alloc::{AllocError, Global};
 
 /// The parts of these bridges for the VIDs of a class, if it has a flag.

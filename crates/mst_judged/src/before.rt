@@ -13,8 +13,8 @@ use indexmap::{IndexMap, IndexSet};
 use mst_forest::Settled;
 use mst_graph::Numbering;
 use mst_ids::{BridgeNo, PortName, VidSet};
-use mst_view::View;
 use mst_reasons::{Carriage, classes_of_vids};
+use mst_view::View;
 use std::alloc::{AllocError, Global};
 
 /// What is kept of a network for all its failures: the classes of its VIDs that no table and no set of VLANs tells apart, which no failure

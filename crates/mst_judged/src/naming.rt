@@ -6,8 +6,8 @@ ghost use Rattle.mst_judged.specs.Seen.{seen_named};
 
 use crate::judged::Judged;
 use mst_ids::Name;
-use mst_view::BridgeInView;
 use mst_policy::NameList;
+use mst_view::BridgeInView;
 use std::alloc::{AllocError, Global};
 
 /// Whether it is this bridge that failed.

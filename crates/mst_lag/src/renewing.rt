@@ -8,13 +8,12 @@ ghost use Rattle.mst_view.specs.Viewed.{IsView, named_bridge};
 ghost use Rattle.mst_lag.specs.Seen.{total_of, named_row};
 ghost use Rattle.mst_lag.specs.Renewed.{IsViewButLan, IsViewButBridge, IsViewButSet, IsViewButSettings, leaves_links as leaves_what_links, leaves_tables as leaves_all_tables, leaves_key as leaves_own_key, IsViewButPort, IsViewButPorts, settings_there, port_set, port_with as set_of_port, port_powered, powered, is_up_there, logical_among, seen_member, member_again, lan_again as lan_renewed, port_again as port_renewed, port_giving};
 
-use mst_view::{BridgeInView, LanInView, MemberLan, PortInView, View};
-use mst_view::Listed;
 use crate::members::{LanSeen, Total, total_at, totals};
 use crate::viewed::{Links, links_now, listed_bridges, listed_trees};
 use mst_ids::{Name, PortName};
 use mst_lang::{BridgeChange, LanState, PortChange, TreeChange};
 use mst_tables::{Contents, PortSettings};
+use mst_view::{BridgeInView, LanInView, Listed, MemberLan, PortInView, View};
 use std::alloc::{AllocError, Global};
 
 /// The member of this name.

@@ -3,11 +3,10 @@ ghost use Rattle.mst_tables.specs.Seen.{bridge_row};
 ghost use Rattle.mst_view.specs.Trees.{mstis_of};
 ghost use Rattle.mst_view.specs.Viewed.{bridge_trees};
 
-use mst_view::{RisingTrees, TreesInView};
-use mst_view::BridgeInView;
 use mst_ids::Tree;
 use mst_lang::Kind;
 use mst_tables::Contents;
+use mst_view::{BridgeInView, RisingTrees, TreesInView};
 use std::alloc::{AllocError, Global};
 
 /// The trees of each of these bridges.

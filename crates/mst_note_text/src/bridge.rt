@@ -8,8 +8,8 @@ use crate::member::{Member, RootPath};
 use crate::parent::Depths;
 use crate::places::Macs;
 use mst_ids::{BridgeId, Tree};
-use mst_view::BridgeInView;
 use mst_rows::Rows;
+use mst_view::BridgeInView;
 use std::alloc::AllocError;
 
 /// The bridge that an identifier names.

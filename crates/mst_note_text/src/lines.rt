@@ -5,8 +5,8 @@ ghost use Rattle.mst_note_text.specs.NotesText.{hops_note, age_note, external_no
 
 use mst_ids::{MaxAge, MaxHops, Name, PortName, Tree};
 use mst_kinds::{Kind, NoteLine};
-use mst_view::PortInView;
 use mst_rows::{Rows, Value, put};
+use mst_view::PortInView;
 use std::alloc::AllocError;
 
 /// The greatest path cost that 32 bits hold, as in a BPDU.

@@ -3,8 +3,8 @@ ghost use Rattle.mst_note_text.specs.SeenTree.{cist_member as cist_member_of, ms
 
 use mst_forest::Forest;
 use mst_ids::{BridgeId, BridgeNo, Name, Tree};
-use mst_view::{BridgeInView, View};
 use mst_vector::{CistVector, MstiVector};
+use mst_view::{BridgeInView, View};
 use std::alloc::{AllocError, Global};
 
 /// A bridge that is in a tree, with what is noted of its root priority vector there.

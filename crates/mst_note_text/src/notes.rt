@@ -16,8 +16,8 @@ use crate::tree::put_tree;
 use mst_forest::laws::nested;
 use mst_forest::{Settled, trees_in_use};
 use mst_ids::Tree;
-use mst_view::{PortInView, View};
 use mst_rows::Rows;
+use mst_view::{PortInView, View};
 use std::alloc::{AllocError, Global};
 
 /// Puts the notes on a settled network: for each tree in rising order, and each bridge that is on and has it, in byte

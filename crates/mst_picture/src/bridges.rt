@@ -9,9 +9,9 @@ ghost use Rattle.mst_picture.specs.InView.{style_of as style_in, bridge_of, off_
 use crate::pieces::push_pieces;
 use mst_forest::{Settled, bridge_id};
 use mst_ids::Tree;
-use mst_view::BridgeInView;
 use mst_lang::Power;
 use mst_summary::root_of;
+use mst_view::BridgeInView;
 use std::alloc::AllocError;
 
 /// Whether a bridge is on.

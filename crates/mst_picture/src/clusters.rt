@@ -11,8 +11,8 @@ use crate::pieces::push_pieces;
 use itoa::Buffer;
 use mst_forest::{Settled, vid_tree};
 use mst_ids::{BridgeNo, Name, Tree, Vid, push_bytes};
-use mst_view::BridgeInView;
 use mst_summary::{Island, active_ports, has_bridge, reach_from};
+use mst_view::BridgeInView;
 use std::alloc::{AllocError, Global};
 
 /// The end of a node's text, which has two borders for a root.

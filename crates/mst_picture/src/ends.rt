@@ -8,8 +8,8 @@ ghost use Rattle.mst_picture.specs.InView.{end_at, tree_end_at, vlan_end_at};
 
 use mst_forest::{Role, Settled, role_of, vid_tree};
 use mst_ids::{PortName, Tree, Vid, push_bytes};
-use mst_view::PortInView;
 use mst_summary::{is_member, role};
+use mst_view::PortInView;
 use std::alloc::AllocError;
 
 /// What a picture shows of a network: one of its trees, or a VLAN.

@@ -11,8 +11,8 @@ use crate::pieces::push_pieces;
 use indexmap::IndexMap;
 use mst_forest::Settled;
 use mst_ids::{Name, push_bytes};
-use mst_view::{LanInView, PortInView};
 use mst_summary::{kept_for, ports_by_lan};
+use mst_view::{LanInView, PortInView};
 use std::alloc::{AllocError, Global};
 
 /// Appends the line from one end of a LAN to the other.

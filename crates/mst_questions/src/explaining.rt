@@ -8,10 +8,10 @@ use mst_advise::explain_laws::some_explained;
 use mst_advise::{port_named, put_explanation, put_explanations};
 use mst_forest::Settled;
 use mst_ids::{PortName, Tree};
-use mst_view::PortInView;
 use mst_rows::Rows;
 use mst_tables::Contents;
 use mst_tool::Planner;
+use mst_view::PortInView;
 use std::alloc::{AllocError, Global};
 use thiserror::Error;
 

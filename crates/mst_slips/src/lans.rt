@@ -10,8 +10,8 @@ ghost use Rattle.mst_slips.specs.Lans.{just_two as the_two, is_beside as is_besi
 use crate::kept::{Kept, kept_for};
 use mst_ids::Name;
 use mst_kinds::{Kind, SummaryLine};
-use mst_view::{LanInView, PortInView, View};
 use mst_rows::{Rows, Value, put};
+use mst_view::{LanInView, PortInView, View};
 use std::alloc::{AllocError, Global};
 
 /// The bridges of these ports, one for each.

@@ -12,10 +12,10 @@ use crate::near::is_near;
 use mst_config::Regions;
 use mst_ids::{BridgeId, ConfName, Name};
 use mst_kinds::{Kind, SummaryLine};
-use mst_view::{BridgeInView, View};
 use mst_lang::Kind as BridgeKind;
 use mst_rows::{Rows, Value, put};
 use mst_tables::Bridge;
+use mst_view::{BridgeInView, View};
 use std::alloc::{AllocError, Global};
 
 /// Whether a bridge is the first of its region: the region's identifier has its MAC then.

@@ -11,8 +11,8 @@ use crate::regions::put_near_regions;
 use crate::tables::put_odd_tables;
 use crate::vlans::put_links;
 use mst_config::Regions;
-use mst_view::View;
 use mst_rows::Rows;
+use mst_view::View;
 use std::alloc::{AllocError, Global};
 
 /// Puts what of a network is most often a slip, by its view and its regions: a row for each two regions of kind mstp that

@@ -12,9 +12,9 @@ use crate::regions::{bridges_with, named_firsts};
 use mst_config::Regions;
 use mst_ids::{ConfName, Name, Vid, VidSet};
 use mst_kinds::{Kind, SummaryLine};
-use mst_view::{BridgeInView, View};
 use mst_rows::{Rows, Value, put};
 use mst_tables::Table;
+use mst_view::{BridgeInView, View};
 use std::alloc::{AllocError, Global};
 
 /// Whether two regions have one name and one revision, by their first bridges.

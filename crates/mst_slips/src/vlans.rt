@@ -12,8 +12,8 @@ ghost use Rattle.mst_slips.specs.Vlans.{ends_row, rows_of_ends, vlans_row, vlans
 use crate::kept::{Kept, kept_for};
 use mst_ids::{PortName, Vid, VidSet};
 use mst_kinds::{Kind, SummaryLine};
-use mst_view::{LanInView, PortInView, View};
 use mst_rows::{Rows, Value, put};
+use mst_view::{LanInView, PortInView, View};
 use std::alloc::AllocError;
 
 /// Whether a VID is in the first of two sets alone.

@@ -10,8 +10,8 @@ use crate::looked_up::role;
 use mst_forest::{Role, Settled};
 use mst_ids::{PortName, Tree};
 use mst_kinds::{Kind, SummaryLine};
-use mst_view::PortInView;
 use mst_rows::{Rows, Value, put};
+use mst_view::PortInView;
 use std::alloc::{AllocError, Global};
 
 /// Whether there is a role, and it doesn't forward.

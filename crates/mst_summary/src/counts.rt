@@ -9,9 +9,9 @@ ghost use Rattle.mst_summary.specs.Seen.{seen_counts};
 use mst_config::Regions;
 use mst_ids::Tree;
 use mst_kinds::{Kind, SummaryLine};
-use mst_view::{BridgeInView, PortInView, View};
 use mst_rows::{Rows, Value, put};
 use mst_slips::is_first;
+use mst_view::{BridgeInView, PortInView, View};
 use std::alloc::AllocError;
 
 /// How much there is of a network: bridges, those that are on, logical ports, those that are enabled, regions and trees.

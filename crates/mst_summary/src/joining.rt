@@ -5,8 +5,8 @@ ghost use Rattle.mst_summary.specs.Seen.{seen_joins, seen_joining_lans, seen_lan
 use crate::over::joins;
 use indexmap::IndexMap;
 use mst_ids::Name;
-use mst_view::{PortInView, View};
 use mst_slips::kept_for;
+use mst_view::{PortInView, View};
 use std::alloc::{AllocError, Global};
 
 /// The logical LANs that are up.

@@ -4,8 +4,8 @@ ghost use Rattle.mst_summary.specs.Seen.{seen_on};
 
 use indexmap::IndexMap;
 use mst_ids::Name;
-use mst_view::{PortInView, View};
 use mst_slips::add_port;
+use mst_view::{PortInView, View};
 use std::alloc::{AllocError, Global};
 
 /// The logical ports of each logical LAN that has one, by the names of the LANs. It goes over the ports once. `AllocError`:

@@ -16,8 +16,8 @@ use mst_facts::root_of;
 use mst_forest::{Settled, bridge_id};
 use mst_ids::{BridgeId, Name, Tree};
 use mst_kinds::{Kind, SummaryLine};
-use mst_view::BridgeInView;
 use mst_rows::{Rows, Value, put};
+use mst_view::BridgeInView;
 use std::alloc::{AllocError, Global};
 
 /// A bridge that names a root in a tree: its name, its own identifier there and that of its root.

@@ -5,8 +5,8 @@ ghost use Rattle.mst_view.specs.Viewed.{IsView};
 ghost use Rattle.mst_sweep.specs.Failures.{edit_of, failures as all_failures};
 
 use mst_ids::Name;
-use mst_view::{BridgeInView, MemberLan, View};
 use mst_lang::{BridgeChange, Edit, LanChange, LanState, Power};
+use mst_view::{BridgeInView, MemberLan, View};
 use std::alloc::{AllocError, Global};
 
 /// A single failure.

@@ -13,7 +13,6 @@ use crate::failing::{renew, trees_ahead, trees_failed, without_failure};
 use crate::sweeping::baseline_of;
 use mst_config::laws::regions_stay;
 use mst_forest::Forest;
-use mst_view::View;
 use mst_lag::view;
 use mst_net::Network;
 use mst_plan::Plan;
@@ -22,6 +21,7 @@ use mst_sweep::{
     Baseline, Failing, Failure, Planned, Single, SweepPart, failures, kept_alone,
     put_last_of_pairs, put_pair,
 };
+use mst_view::View;
 use std::alloc::{AllocError, Global};
 
 /// What pairs are looked at by: the network, its plan, and what each failure does alone.

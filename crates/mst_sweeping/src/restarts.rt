@@ -14,10 +14,10 @@ ghost use Rattle.mst_sweeping.specs.Seen.{seen_anew, seen_as_it_was, seen_both_p
 use crate::ports::BothPorts;
 use indexmap::IndexSet;
 use mst_ids::{Name, PortName};
-use mst_view::View;
 use mst_lang::Kind;
 use mst_net::{Bridge, Table};
 use mst_sweep::{Both, Planned};
+use mst_view::View;
 use std::alloc::{AllocError, Global};
 
 /// Whether two tables are the same. It goes over the VIDs itself, which takes less time than comparing slices.

@@ -10,12 +10,12 @@ ghost use Rattle.mst_plan.specs.Plan.{IsPlan};
 ghost use Rattle.mst_sweeping.specs.Sweeping.{SweepsPart, AreTold, CanFail, Puts};
 
 use crate::failing::{trees_failed, without_failure};
-use mst_view::View;
 use mst_lag::view;
 use mst_net::Network;
 use mst_plan::Plan;
 use mst_rows::Rows;
 use mst_sweep::{Baseline, Failure, Planned, SweepPart, failures, put_failure, put_last};
+use mst_view::View;
 use std::alloc::{AllocError, Global};
 
 /// Puts what each single failure of a part of a network's does, by its plan, each as soon as it is known, and answers how many

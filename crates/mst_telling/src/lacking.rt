@@ -8,9 +8,9 @@ ghost use Rattle.mst_telling.specs.Seen.{seen_bridge_fails, seen_lan_fails};
 
 use mst_forest::Settled;
 use mst_ids::{Name, Tree};
-use mst_view::{BridgeInView, MemberLan, PortInView, View};
 use mst_policy::{Expectation, NameItem, PortItem, Promise, Scope};
 use mst_reasons::{Failure, Missing, asks};
+use mst_view::{BridgeInView, MemberLan, PortInView, View};
 
 /// Whether an item has the name of one of these bridges.
 fn any_bridge(bridges: &[BridgeInView], item: &NameItem) -> bool

@@ -6,8 +6,8 @@ ghost use Rattle.mst_text.specs.VlanSeen.{seen_port};
 
 use mst_ids::{Vid, VidSet};
 use mst_kinds::{Kind, VlanLine};
-use mst_view::{PortInView, View};
 use mst_rows::{ActivePort, Rows, Value, put};
+use mst_view::{PortInView, View};
 use mst_vlan::is_member;
 use std::alloc::{AllocError, Global};
 

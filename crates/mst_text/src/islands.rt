@@ -6,8 +6,8 @@ ghost use Rattle.mst_text.specs.VlanSeen.{seen_island};
 
 use mst_ids::{Name, VidSet};
 use mst_kinds::{Kind, VlanLine};
-use mst_view::View;
 use mst_rows::{Rows, Value, put};
+use mst_view::View;
 use mst_vlan::{Island, bridge_names, lan_names};
 use std::alloc::{AllocError, Global};
 

@@ -9,8 +9,8 @@ ghost use Rattle.mst_text.specs.MembersByLan.{AreLanMembers};
 use crate::by_lan::{LanMembers, kept_for, members_by_lan};
 use mst_ids::{Name, PortName};
 use mst_kinds::{Kind, RegionLine};
-use mst_view::{LagId, LanInView, View, lag_text};
 use mst_rows::{Rows, Value, put};
+use mst_view::{LagId, LanInView, View, lag_text};
 use std::alloc::{AllocError, Global};
 
 /// Puts the rows of the classes of links, by the view of a network: for each class its identifier, its speed, its

@@ -13,10 +13,10 @@ use crate::members::{Members, members_of, names_of};
 use mst_config::Regions;
 use mst_ids::{BridgeId, Name};
 use mst_kinds::{Kind, RegionLine};
-use mst_view::{BridgeInView, View};
 use mst_lang::Kind as BridgeKind;
 use mst_rows::{Rows, Value, put};
 use mst_tables::{Bridge, Table};
+use mst_view::{BridgeInView, View};
 use std::alloc::{AllocError, Global};
 
 /// Puts the rows of a network's regions (802.1Q-2022, 13.8), by its view and its regions: a row for each

@@ -13,8 +13,8 @@ use crate::tree_port::put_port;
 use mst_forest::Settled;
 use mst_ids::{Name, Tree};
 use mst_kinds::{Kind, TreeLine};
-use mst_view::{BridgeInView, PortInView};
 use mst_rows::{Rows, Value, put};
+use mst_view::{BridgeInView, PortInView};
 use std::alloc::{AllocError, Global};
 
 /// Puts the rows of a tree of a settled network: a heading, then for each bridge that has the tree, in byte order of

@@ -12,10 +12,10 @@ use crate::holders::Holders;
 use mst_forest::{Settled, bridge_id};
 use mst_ids::{BridgeId, Name, Tree};
 use mst_kinds::{Kind, TreeLine};
-use mst_view::BridgeInView;
 use mst_lang::Power;
 use mst_rows::{Rows, Value, put};
 use mst_vector::{CistVector, MstiVector};
+use mst_view::BridgeInView;
 use std::alloc::AllocError;
 
 /// Puts the row of a bridge: that it is off, or its root priority vector in the tree.

@@ -11,8 +11,8 @@ use indexmap::IndexMap;
 use mst_forest::laws::nested;
 use mst_ids::{Name, Tree};
 use mst_judged::{BridgeNames, Child, Judged, Reason, children_of, named};
-use mst_view::BridgeInView;
 use mst_policy::NameList;
+use mst_view::BridgeInView;
 use std::alloc::{AllocError, Global};
 
 /// The names of the children of each bridge that has some, by the names of the parents. It takes about one step for each child.

@@ -9,8 +9,8 @@ use mst_forest::Settled;
 use mst_graph::groups;
 use mst_ids::Name;
 use mst_judged::{Judged, Parts, Reason, has_two, named};
-use mst_view::BridgeInView;
 use mst_policy::NameList;
+use mst_view::BridgeInView;
 use std::alloc::{AllocError, Global};
 
 /// The number of the identifier of a bridge's region.

@@ -12,8 +12,8 @@ ghost use Rattle.mst_tree_judges.specs.Seen.{seen_with_role, seen_role_reason};
 use mst_forest::{Role, Settled, port_role};
 use mst_ids::{PortName, Tree};
 use mst_judged::{Before, Judged, PortNames, Reason};
-use mst_view::PortInView;
 use mst_policy::{PortList, Roles};
+use mst_view::PortInView;
 use std::alloc::{AllocError, Global};
 
 /// All roles in their order, and none.

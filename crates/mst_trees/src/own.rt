@@ -8,8 +8,8 @@ ghost use Rattle.mst_trees.specs.Wirings.{HaveNumbers, AreOwn, own_in, msti_wire
 use indexmap::IndexMap;
 use mst_forest::msti_port;
 use mst_ids::Tree;
-use mst_view::{PortInView, View};
 use mst_vector::MstiPort;
+use mst_view::{PortInView, View};
 use std::alloc::{AllocError, Global};
 use std::collections::BTreeMap;
 

@@ -22,11 +22,11 @@ use mst_config::Regions;
 use mst_forest::laws::{has_outcome, nested};
 use mst_forest::{Forest, Mstis};
 use mst_ids::{BridgeNo, LanNo, Name, PortName, PortNo};
-use mst_view::{PortInView, View};
 use mst_outcome::SpanningTree;
 use mst_outcome::laws::renamed;
 use mst_topology::Wiring;
 use mst_vector::{CistMetric, CistPort, MstiMetric, MstiPort};
+use mst_view::{PortInView, View};
 use std::alloc::{AllocError, Global};
 
 /// Settles the trees of a network, by its view and its regions. `AllocError`: memory was wanted and refused.

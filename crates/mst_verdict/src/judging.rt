@@ -22,13 +22,13 @@ ghost use Rattle.mst_verify.specs.tree_judges.judged.Seen.{IsBefore};
 use crate::laws::line_where_unkept;
 use mst_forest::Settled;
 use mst_ids::{Name, Vid, VidSet};
-use mst_view::View;
 use mst_lag::view;
 use mst_net::Network;
 use mst_policy::{Expectation, PolicyLine, Promise};
 use mst_sweeping::{Carriage, Failure, Plan, failures, trees_failed, without_failure};
 use mst_telling::{Finding, Judgement, is_looked_at, missing_in};
 use mst_verify::{Before, Beside, Homes, Judged, Missing, Prior, Reason, reasons};
+use mst_view::View;
 use std::alloc::{AllocError, Global};
 
 /// What the lines of a policy are judged by.

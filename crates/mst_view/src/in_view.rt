@@ -98,7 +98,8 @@ pub struct MemberPort {
 }
 
 /// What the trees see of a network once the links of each class count as one: the bridges, the logical ports
-/// and the logical LANs, each with the number of its record.
+/// and the logical LANs, each with the number of its record. Its lists are for what makes and renews it: who reads a view
+/// takes the methods.
 pub struct View {
     pub bridges: Listed<BridgeInView>,
     pub trees: Listed<TreesInView>,

@@ -1,19 +1,13 @@
-//! What the trees see of a network, as it is read.
+//! What the trees see of a network once the links of each class count as one (802.1AX-2020), as it is read: its bridges, logical ports and
+//! logical LANs ([`View`]), and the identifiers of link aggregation groups with their texts. How a view is made is told in a crate above.
 #![tactic(auto)]
+
 mod in_view;
 mod lag;
 mod listed;
 mod trees;
 
-pub use in_view::BridgeInView;
-pub use in_view::LanInView;
-pub use in_view::MemberLan;
-pub use in_view::MemberPort;
-pub use in_view::PortInView;
-pub use in_view::View;
-pub use lag::LagEnd;
-pub use lag::LagId;
-pub use lag::lag_text;
-pub use listed::Listed;
-pub use trees::RisingTrees;
-pub use trees::TreesInView;
+pub use in_view::{BridgeInView, LanInView, MemberLan, MemberPort, PortInView, View};
+pub use lag::{LagEnd, LagId, lag_text};
+pub use listed::{Listed, Numbered};
+pub use trees::{RisingTrees, TreesInView};

@@ -1,6 +1,7 @@
 ghost use Rattle.std.specs.Prelude.{◌≡◌};
 ghost use Rattle.std.specs.List.Sorted.{IsNonDecreasingBy};
 ghost use Rattle.mst_view.specs.Trees.{is_among};
+
 use mst_ids::{BridgeNo, Tree};
 use std::marker::Model;
 

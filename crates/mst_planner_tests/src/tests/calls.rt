@@ -10,13 +10,13 @@ use mst_forest::{Forest, Role, forwards, role};
 use mst_graph::laws as graph_laws;
 use mst_ids::{BridgeId, BridgeNo, Tree, Vid};
 use mst_kinds::{Kind, TreeLine};
-use mst_view::View;
 use mst_lag::view;
 use mst_net::{Contents, Network, laws as net_laws};
 use mst_report::{Settler, active, forest_of};
 use mst_rows::{Counts, Value, put};
 use mst_topology::{Bridges, ByNumber, Topology, Wiring};
 use mst_vector::{CistBridge, CistMetric};
+use mst_view::View;
 use std::alloc::{AllocError, Global};
 use std::test::Fail;
 
