@@ -17,7 +17,7 @@ import tempfile
 
 HERE = os.path.dirname(os.path.abspath(__file__))
 TOP = os.path.join(HERE, os.pardir)
-BELOW = ("mst_ids", "mst_vector", "mst_topology", "mst_progress", "mst_settle")
+BELOW = ("mst_ids", "mst_vector", "mst_topology", "mst_progress", "mst_outcome", "mst_settle")
 # From nothing a step leads to each bridge but the root at least, and two do at most: one as its neighbour's message is taken in, and one as
 # it is settled. A repair takes no more than this.
 BRIDGES, FEW = 128, 32
