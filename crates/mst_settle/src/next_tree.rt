@@ -61,8 +61,9 @@ pub fn repaired_tree<M: TellsApart>(
     ensures bounds { IfOk result (λ tree. WithinBounds (vector_of standing.now.outcome) (vector_of tree.outcome) tree.outcome.settlings) }
     ensures space { KeepsSpace settler.old settler.new }
 {
-    let same = holds::<M>(standing.own(), own);
-    let own = shared(alloc, standing.own(), own, same)?;
+    let before = standing.own();
+    let same = holds::<M>(before, own);
+    let own = shared(alloc, before, own, same)?;
     let (outcome, settlings) = settled_with(
         alloc, standing, rewiring, &bridges, &own, same, settler,
     )?;

@@ -1,4 +1,4 @@
-use Rattle.std.proofs.Common.{rules, ◌≡◌, Some, refl, sym, ap, ◌∙◌}
+use Rattle.std.proofs.Common.{rules, ◌≡◌, Some, sym, ap, ◌∙◌}
 use Rattle.mst_outcome.specs.Assignment.{Assignment, vector_of, designated_of}
 use Rattle.mst_outcome.specs.Shared.{outcome_of}
 use Rattle.mst_settle.proofs.next_tree.load_into.Goals as goal

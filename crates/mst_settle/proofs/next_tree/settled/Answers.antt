@@ -1,4 +1,4 @@
-use Rattle.std.proofs.Common.{◌≡◌, Some, None, refl}
+use Rattle.std.proofs.Common.{◌≡◌, Some, None}
 use Rattle.mst_topology.specs.Wiring.{topology_of}
 use Rattle.mst_settle.proofs.Scratch.{space_kept}
 use Rattle.mst_outcome.specs.Held.{topology_on}

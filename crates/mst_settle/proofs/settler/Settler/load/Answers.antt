@@ -1,5 +1,6 @@
-use Rattle.std.proofs.Common.{◌≡◌, ℕ, Some, sym}
-use Rattle.mst_outcome.specs.Assignment.{Assignment, vector_of, designated_of}
+use Rattle.std.proofs.Common.{◌≡◌, ℕ, List, Option, Some, sym, ap, subst, ◌∙◌}
+use Rattle.mst_outcome.specs.Assignment.{vector_of, designated_of}
+use Rattle.mst_topology.specs.Places.{option_at}
 use Rattle.mst_topology.specs.Slots.{HasRoom}
 use Rattle.mst_topology.proofs.Places.{keys_room}
 use Rattle.mst_topology.proofs.Loaded.{overwritten}
@@ -18,11 +19,13 @@ invariant_of-self g c =
 pub returns-clause-vectors : goal.returns-clause-vectors
 returns-clause-vectors g c =
     let rooms : (n : ℕ) (x : g.row.M-Vector.Denot) → vector_of c.args.outcome.now n ≡ Some x → HasRoom c.self.inside.touched_bridges n = rw (← c.self.view_is) at c.requires.bridges in
-    rw (← c.outcome.view_is) (overwritten c.self.inside.settling.vectors c.overwrite.new.table c.outcome.inside.vectors c.overwrite.ensures.keys c.overwrite.ensures.values
-    (λ n x e. c.self.invariant.for_bridges n (rooms n x ((rw (← c.outcome.view_is) e)))))
+    subst (λ (bs : List (ℕ × Option g.row.M-Vector.Denot)). (n : ℕ) → option_at c.overwrite.new.table n ≡ option_at bs n) c.vectors.ensures
+    (overwritten c.self.inside.settling.vectors c.overwrite.new.table c.vectors.result.now c.overwrite.ensures.keys c.overwrite.ensures.values
+    (λ n x e. c.self.invariant.for_bridges n (rooms n x (ap (λ (bs : List (ℕ × Option g.row.M-Vector.Denot)). option_at bs n) (sym c.vectors.ensures) ∙ e))))
 
 pub returns-clause-designated : goal.returns-clause-designated
 returns-clause-designated g c =
     let rooms : (lan port : ℕ) → designated_of c.args.outcome.now lan ≡ Some port → HasRoom c.self.inside.touched_lans lan = rw (← c.self.view_is) at c.requires.lans in
-    rw (← c.outcome.view_is) (overwritten c.self.inside.settling.designations.ports c.overwrite-2.new.table c.outcome.inside.ports c.overwrite-2.ensures.keys c.overwrite-2.ensures.values
-    (λ n x e. c.self.invariant.for_lans n (rooms n x ((rw (← c.outcome.view_is) e)))))
+    subst (λ (ls : List (ℕ × Option ℕ)). (n : ℕ) → option_at c.overwrite-2.new.table n ≡ option_at ls n) c.ports.ensures
+    (overwritten c.self.inside.settling.designations.ports c.overwrite-2.new.table c.ports.result.now c.overwrite-2.ensures.keys c.overwrite-2.ensures.values
+    (λ n x e. c.self.invariant.for_lans n (rooms n x (ap (λ (ls : List (ℕ × Option ℕ)). option_at ls n) (sym c.ports.ensures) ∙ e))))
