@@ -14,7 +14,7 @@ use Rattle.mst_lang.specs.declared.line.TreeChange.TheVariants as by_tree_change
 use Rattle.mst_tables.specs.After.{refusal_of}
 use Rattle.mst_tables.specs.ByTree.{by_tree, priority_in}
 use Rattle.mst_tables.specs.Tables.{Net, AreBridges, BridgeRow, IsNetwork}
-use Rattle.mst_config.specs.Regions.{same_region}
+use Rattle.mst_forest.specs.config.Regions.{same_region}
 use Rattle.mst_forest.specs.InUse.{id_in}
 use Rattle.mst_forest.specs.Outcome.{Outcome, IsOutcome}
 use Rattle.mst_forest.proofs.Lists.{all_contained, some_is}

@@ -14,10 +14,10 @@ use Rattle.mst_vector.specs.declared.cist.CistBridge.{CistBridge}
 use Rattle.mst_vector.specs.declared.cist.CistVector.{CistVector}
 use Rattle.mst_vector.specs.declared.msti.MstiBridge.{MstiBridge}
 use Rattle.mst_vector.specs.declared.msti.MstiVector.{MstiVector}
-use Rattle.mst_topology.specs.Topology.{HasBridge}
+use Rattle.mst_forest.specs.topology.Topology.{HasBridge}
 use Rattle.mst_tables.specs.ByTree.{by_tree}
 use Rattle.mst_tables.specs.Tables.{Net, BridgeRow, IsNetwork}
-use Rattle.mst_config.specs.Regions.{region_of}
+use Rattle.mst_forest.specs.config.Regions.{region_of}
 use Rattle.mst_forest.specs.Cist.{cist_bridge, cist_of, cist_sight}
 use Rattle.mst_forest.specs.InUse.{id_in}
 use Rattle.mst_forest.specs.Msti.{has_msti, msti_bridge, msti_of, msti_sight}

@@ -7,7 +7,7 @@ use Rattle.std.specs.FinMap as fin
 use Rattle.std.proofs.lemmas.List.{take_more, flat_map_more}
 use Rattle.std.proofs.lemmas.List.Elements.{filter_map-append}
 use Rattle.mst_ids.specs.declared.name.PortName.{PortName}
-use Rattle.mst_outcome.specs.Assignment.{vector_of}
+use Rattle.mst_forest.specs.outcome.Assignment.{vector_of}
 use Rattle.mst_tables.specs.Tables.{Net, Numbers, BridgeRow}
 use Rattle.mst_view.specs.Trees.{is_among}
 use Rattle.mst_view.specs.View.{LogicalPort, view_ports, bridge_names, port_names}

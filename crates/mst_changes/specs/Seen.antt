@@ -1,7 +1,7 @@
 -- The entries of a view, under the numbers of records.
 use Rattle.std.specs.Prelude.{ℕ, ◌==◌, Option, None, if◌then◌else◌}
 use Rattle.std.specs.Option.{option_map}
-use Rattle.mst_outcome.specs.Assignment.{vector_of}
+use Rattle.mst_forest.specs.outcome.Assignment.{vector_of}
 use Rattle.mst_view.specs.Trees.{is_among}
 use Rattle.mst_view.specs.Viewed.{Viewed}
 use Rattle.mst_view.specs.declared.in_view.BridgeInView.{BridgeInView}

@@ -17,7 +17,7 @@ use Rattle.mst_view.specs.View.{LogicalPort, view_ports}
 use Rattle.mst_view.specs.Viewed.{Viewed, named_port}
 use Rattle.mst_view.specs.declared.in_view.BridgeInView.{BridgeInView}
 use Rattle.mst_view.proofs.Placing.{pair_found}
-use Rattle.mst_config.specs.Regions.{region_of}
+use Rattle.mst_forest.specs.config.Regions.{region_of}
 use Rattle.mst_forest.specs.Sight.{named_bridge as bridge_in_sight}
 use Rattle.mst_forest.specs.Cist.{cist_bridge, cist_sight}
 use Rattle.mst_forest.specs.Outcome.{Outcome, IsOutcome}

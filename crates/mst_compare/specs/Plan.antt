@@ -11,7 +11,7 @@ use Rattle.mst_tables.specs.Tables.{Net, BridgeRow}
 use Rattle.mst_tables.specs.ByTree.{ByTree, by_tree, priority_in, port_priority_in}
 use Rattle.mst_tables.specs.After.{table_of}
 use Rattle.mst_view.specs.Trees.{mstis_of}
-use Rattle.mst_config.specs.Digest.{digest_of}
+use Rattle.mst_forest.specs.config.Digest.{digest_of}
 use Rattle.mst_forest.specs.Outcome.{Outcome}
 use Rattle.mst_forest.specs.Roles.{role_of, forwards as is_forwarding}
 use Rattle.mst_forest.specs.declared.kind.Role.{Role}

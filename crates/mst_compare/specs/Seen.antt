@@ -3,7 +3,7 @@ use Rattle.std.specs.Prelude.{ℕ, ◌==◌, Option, None, filter_map, if◌then
 use Rattle.std.specs.List.{find}
 use Rattle.std.specs.Option.{option_map, option_and_then}
 use Rattle.mst_ids.specs.Identifiers.{mac_of, port_number_of}
-use Rattle.mst_outcome.specs.Assignment.{vector_of}
+use Rattle.mst_forest.specs.outcome.Assignment.{vector_of}
 use Rattle.mst_tables.specs.Tables.{BridgeRow}
 use Rattle.mst_tables.specs.ByTree.{table_in}
 use Rattle.mst_tables.specs.Seen.{bridge_row}

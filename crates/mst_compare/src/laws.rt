@@ -2,7 +2,7 @@
 ghost use Rattle.std.specs.Prelude.{◌≡◌, ℕ, List, Some};
 ghost use Rattle.mst_ids.specs.declared.name.PortName.{PortName as PortOf};
 ghost use Rattle.mst_tables.specs.Tables.{Net, BridgeRow, IsNetwork};
-ghost use Rattle.mst_config.specs.Digest.{identifier};
+ghost use Rattle.mst_forest.specs.config.Digest.{identifier};
 ghost use Rattle.mst_bpdu.specs.declared.bpdu.Bpdu.{Bpdu};
 ghost use Rattle.mst_bpdu.specs.declared.difference.Difference.{Difference};
 ghost use Rattle.mst_compare.specs.Plan.{configuration_of, octets_of};
@@ -26,7 +26,7 @@ pub fn one_list()
     one_outcome();
 }
 
-/// The MST Configuration Identifier that a plan has of a bridge has just the octets of `mst_config::mcid`, of its name, its
+/// The MST Configuration Identifier that a plan has of a bridge has just the octets of `mst_forest::mcid`, of its name, its
 /// revision and its table (802.1Q-2022, 13.8).
 pub fn configuration()
     ensures { (row : BridgeRow) (table : List ℕ) → octets_of (configuration_of row table) ≡ identifier row.conf_name row.revision table }

@@ -8,14 +8,14 @@ use Rattle.std.specs.FinMap as fin
 use Rattle.std.proofs.lemmas.List.Sums.{length-filter}
 use Rattle.mst_tables.specs.Tables.{Net, BridgeRow}
 use Rattle.mst_view.specs.Aggregation.{same_name}
-use Rattle.mst_config.specs.Regions.{first_of_region}
-use Rattle.mst_forest.specs.Outcome.{Outcome}
-use Rattle.mst_forest.proofs.Entries.{all_weaker, entries_found}
-use Rattle.mst_forest.proofs.Lists.{all_kept, all_there, some_is, no_some}
+use Rattle.mst_vlan.specs.forest.config.Regions.{first_of_region}
+use Rattle.mst_vlan.specs.forest.Outcome.{Outcome}
+use Rattle.mst_vlan.proofs.forest_lemmas.Entries.{all_weaker, entries_found}
+use Rattle.mst_vlan.proofs.forest_lemmas.Lists.{all_kept, all_there, some_is, no_some}
 use Rattle.mst_graph.proofs.Members.{here, in_whole, filter_none}
 use Rattle.mst_vlan.specs.classes.AllVids.{all_vids}
 use Rattle.mst_vlan.proofs.classes_lemmas.VidPlaces.{is_vid_there}
-use Rattle.mst_forest.specs.AllTrees.{all_trees}
+use Rattle.mst_vlan.specs.forest.AllTrees.{all_trees}
 use Rattle.mst_view.specs.View.{bridge_names, port_names}
 use Rattle.mst_changes.specs.Subjects.{port_in, names_of_either}
 use Rattle.mst_changes.specs.PortChanges.{counted, port_change_rows}

@@ -20,23 +20,23 @@ use Rattle.mst_tables.proofs.Keyed.{flipped}
 use Rattle.mst_tables.proofs.Keys.{names, ports}
 use Rattle.mst_view.specs.Aggregation.{same_name}
 use Rattle.mst_view.specs.View.{LogicalPort, view_ports, bridge_names, port_names}
-use Rattle.mst_config.specs.Regions.{first_of_region}
-use Rattle.mst_forest.specs.Outcome.{Outcome}
-use Rattle.mst_forest.proofs.Entries.{all_weaker, entries_found}
-use Rattle.mst_forest.proofs.Lists.{all_contained, all_kept, all_there, some_is, no_some}
-use Rattle.mst_forest.proofs.Views.{entry_there}
-use Rattle.mst_forest.specs.Roles.{role_in, role_of}
-use Rattle.mst_forest.specs.declared.kind.Role.{Role}
-use Rattle.mst_forest.specs.declared.kind.Role.TheVariants.{Root, Designated, Alternate, Backup, Master, Disabled}
+use Rattle.mst_vlan.specs.forest.config.Regions.{first_of_region}
+use Rattle.mst_vlan.specs.forest.Outcome.{Outcome}
+use Rattle.mst_vlan.proofs.forest_lemmas.Entries.{all_weaker, entries_found}
+use Rattle.mst_vlan.proofs.forest_lemmas.Lists.{all_contained, all_kept, all_there, some_is, no_some}
+use Rattle.mst_vlan.proofs.forest_lemmas.Views.{entry_there}
+use Rattle.mst_vlan.specs.forest.Roles.{role_in, role_of}
+use Rattle.mst_vlan.specs.forest.declared.kind.Role.{Role}
+use Rattle.mst_vlan.specs.forest.declared.kind.Role.TheVariants.{Root, Designated, Alternate, Backup, Master, Disabled}
 use Rattle.mst_vlan.specs.classes.AllVids.{all_vids}
 use Rattle.mst_vlan.proofs.classes_lemmas.VidPlaces.{place_of_vid}
 use Rattle.mst_vlan.proofs.classes_lemmas.VidPlaces.{is_vid_there}
 use Rattle.mst_changes.specs.declared.value.VectorOrRole.TheVariants.{HasRole}
-use Rattle.mst_forest.specs.AllTrees.{all_trees}
+use Rattle.mst_vlan.specs.forest.AllTrees.{all_trees}
 use Rattle.mst_changes.specs.Subjects.{port_in, names_of_either}
 use Rattle.mst_changes.specs.PortChanges.{counted, port_change_rows}
 use Rattle.mst_changes.specs.Values.{value_at, same_side}
-use Rattle.mst_forest.specs.RoleNumbers.{role_number}
+use Rattle.mst_vlan.specs.forest.RoleNumbers.{role_number}
 use Rattle.mst_changes.specs.ChangesText.{item_row, change_rows}
 use Rattle.mst_rows.specs.Rows.{Row}
 use Rattle.mst_diff.specs.declared.diff.Differing.{Differing}

@@ -9,9 +9,9 @@ use Rattle.mst_ids.specs.Vids.{runs_from, set_where}
 use Rattle.mst_graph.proofs.Members.{in_none, here, in_whole, in_filter, filter_none}
 use Rattle.mst_tables.specs.Tables.{Net}
 use Rattle.mst_view.specs.Trees.{is_among}
-use Rattle.mst_forest.specs.Outcome.{Outcome}
-use Rattle.mst_forest.proofs.Entries.{all_weaker}
-use Rattle.mst_forest.proofs.Lists.{all_there, all_contained}
+use Rattle.mst_vlan.specs.forest.Outcome.{Outcome}
+use Rattle.mst_vlan.proofs.forest_lemmas.Entries.{all_weaker}
+use Rattle.mst_vlan.proofs.forest_lemmas.Lists.{all_there, all_contained}
 use Rattle.mst_vlan.specs.classes.AllVids.{all_vids}
 use Rattle.mst_rows.specs.Rows.{Row}
 use Rattle.mst_diff.specs.declared.diff.Differing.{Differing}

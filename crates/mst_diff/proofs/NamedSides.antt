@@ -9,11 +9,11 @@ use Rattle.mst_graph.specs.Islands.{Island}
 use Rattle.mst_tables.specs.Tables.{Net, Numbers}
 use Rattle.mst_view.proofs.Lists.{map_itself}
 use Rattle.mst_view.specs.Viewed.{Viewed}
-use Rattle.mst_forest.specs.Agrees.{AreOf}
-use Rattle.mst_forest.specs.Forest.{Forest}
-use Rattle.mst_forest.specs.Outcome.{Outcome}
-use Rattle.mst_forest.proofs.Entries.{all_weaker}
-use Rattle.mst_forest.proofs.Lists.{all_there}
+use Rattle.mst_vlan.specs.forest.Agrees.{AreOf}
+use Rattle.mst_vlan.specs.forest.Forest.{Forest}
+use Rattle.mst_vlan.specs.forest.Outcome.{Outcome}
+use Rattle.mst_vlan.proofs.forest_lemmas.Entries.{all_weaker}
+use Rattle.mst_vlan.proofs.forest_lemmas.Lists.{all_there}
 use Rattle.mst_vlan.specs.Reach.{bridges_on, lans_up, vid_links, AreReached}
 use Rattle.mst_vlan.specs.declared.island.Island.{Island as IslandNos}
 use Rattle.mst_vlan.proofs.Renumbered.{bridge_listed}

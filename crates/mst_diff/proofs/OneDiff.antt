@@ -8,10 +8,10 @@ use Rattle.mst_graph.specs.Islands.{Island}
 use Rattle.mst_graph.proofs.Alike.{alike_groups}
 use Rattle.mst_graph.proofs.Members.{here, in_whole}
 use Rattle.mst_tables.specs.Tables.{Net}
-use Rattle.mst_forest.specs.Outcome.{Outcome}
-use Rattle.mst_forest.proofs.Entries.{all_weaker}
-use Rattle.mst_forest.proofs.Lists.{all_there}
-use Rattle.mst_forest.proofs.Looking.{filter_alike}
+use Rattle.mst_vlan.specs.forest.Outcome.{Outcome}
+use Rattle.mst_vlan.proofs.forest_lemmas.Entries.{all_weaker}
+use Rattle.mst_vlan.proofs.forest_lemmas.Lists.{all_there}
+use Rattle.mst_vlan.proofs.forest_lemmas.Looking.{filter_alike}
 use Rattle.mst_vlan.specs.Reach.{AreIslandsOf}
 use Rattle.mst_vlan.specs.classes.AllVids.{all_vids}
 use Rattle.mst_vlan.proofs.classes_lemmas.VidPlaces.{vids_once, is_vid_there, OneGrouping}

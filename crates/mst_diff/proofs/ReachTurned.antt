@@ -10,7 +10,7 @@ use Rattle.mst_graph.proofs.Alike.{alike_groups}
 use Rattle.mst_graph.proofs.Members.{here, there, in_whole}
 use Rattle.mst_tables.specs.Tables.{Net}
 use Rattle.mst_view.specs.Trees.{is_among}
-use Rattle.mst_forest.specs.Outcome.{Outcome}
+use Rattle.mst_vlan.specs.forest.Outcome.{Outcome}
 use Rattle.mst_vlan.specs.classes.AllVids.{all_vids}
 use Rattle.mst_vlan.proofs.classes_lemmas.VidPlaces.{vids_once, is_vid_there, OneGrouping}
 use Rattle.mst_rows.specs.Cells as cells

@@ -3,8 +3,8 @@ use Rattle.std.proofs.Common.{ℕ, ◌++◌, Bool, List, subst}
 use Rattle.std.specs.List.{AllByRecursion, Contains}
 use Rattle.std.proofs.lemmas.List.Elements.{Contains-append_left, Contains-append_right}
 use Rattle.mst_graph.specs.Islands.{AreIslands}
-use Rattle.mst_forest.specs.Settled.{SettledNet, outcome_of, IsSettledNet}
-use Rattle.mst_forest.proofs.Entries.{all_weaker}
+use Rattle.mst_vlan.specs.forest.Settled.{SettledNet, outcome_of, IsSettledNet}
+use Rattle.mst_vlan.proofs.forest_lemmas.Entries.{all_weaker}
 use Rattle.mst_vlan.specs.Reach.{bridges_on, lans_up}
 use Rattle.mst_vlan.specs.classes.Alike.{AreAlike}
 use Rattle.mst_vlan.proofs.LinksAlike.{links_shared}

@@ -11,16 +11,16 @@ use Rattle.mst_view.specs.Viewed.{named_bridge, named_lan, named_port}
 use Rattle.mst_view.specs.declared.in_view.BridgeInView.{BridgeInView}
 use Rattle.mst_view.specs.declared.in_view.LanInView.{LanInView}
 use Rattle.mst_view.specs.declared.in_view.PortInView.{PortInView}
-use Rattle.mst_forest.specs.Outcome.{Outcome}
-use Rattle.mst_forest.specs.Settled.{SettledNet, outcome_of, IsSettledNet}
-use Rattle.mst_forest.proofs.Lists.{filter_mapped, mapped_twice}
-use Rattle.mst_forest.proofs.Seen.{ports_seen}
-use Rattle.mst_forest.proofs.SettledNet.{forest_of}
-use Rattle.mst_forest.proofs.Forwarded.{each_forwards}
-use Rattle.mst_forest.proofs.Entries.{all_weaker}
-use Rattle.mst_forest.proofs.Looking.{filter_alike}
-use Rattle.mst_forest.specs.Roles.{forwards_for}
-use Rattle.mst_forest.specs.SeenRoles.{seen_forwards}
+use Rattle.mst_vlan.specs.forest.Outcome.{Outcome}
+use Rattle.mst_vlan.specs.forest.Settled.{SettledNet, outcome_of, IsSettledNet}
+use Rattle.mst_vlan.proofs.forest_lemmas.Lists.{filter_mapped, mapped_twice}
+use Rattle.mst_vlan.proofs.forest_lemmas.Seen.{ports_seen}
+use Rattle.mst_vlan.proofs.forest_lemmas.SettledNet.{forest_of}
+use Rattle.mst_vlan.proofs.forest_lemmas.Forwarded.{each_forwards}
+use Rattle.mst_vlan.proofs.forest_lemmas.Entries.{all_weaker}
+use Rattle.mst_vlan.proofs.forest_lemmas.Looking.{filter_alike}
+use Rattle.mst_vlan.specs.forest.Roles.{forwards_for}
+use Rattle.mst_vlan.specs.forest.SeenRoles.{seen_forwards}
 use Rattle.mst_vlan.specs.Active.{active_ports}
 use Rattle.mst_vlan.specs.Reach.{AreIslandsOf, bridges_on, is_member, lans_up, link_of, vid_links}
 use Rattle.mst_vlan.specs.Seen.{seen_active, seen_member}

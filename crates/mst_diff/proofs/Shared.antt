@@ -11,14 +11,14 @@ use Rattle.mst_view.proofs.Lists.{all_kept}
 use Rattle.mst_view.specs.Aggregation.{same_name}
 use Rattle.mst_view.specs.Viewed.{Viewed, named_bridge}
 use Rattle.mst_view.specs.declared.in_view.BridgeInView.{BridgeInView}
-use Rattle.mst_config.specs.Regions.{first_of_region}
-use Rattle.mst_forest.specs.InUse.{is_in_use}
-use Rattle.mst_forest.specs.Settled.{SettledNet, outcome_of, IsSettledNet}
-use Rattle.mst_forest.proofs.Entries.{all_weaker}
-use Rattle.mst_forest.proofs.Lists.{all_there, kept_same, no_some, some_is}
+use Rattle.mst_vlan.specs.forest.config.Regions.{first_of_region}
+use Rattle.mst_vlan.specs.forest.InUse.{is_in_use}
+use Rattle.mst_vlan.specs.forest.Settled.{SettledNet, outcome_of, IsSettledNet}
+use Rattle.mst_vlan.proofs.forest_lemmas.Entries.{all_weaker}
+use Rattle.mst_vlan.proofs.forest_lemmas.Lists.{all_there, kept_same, no_some, some_is}
 use Rattle.mst_view.specs.View.{bridge_names}
-use Rattle.mst_forest.proofs.NotInUse.{unused, unused_by}
-use Rattle.mst_forest.proofs.Pieces.{filter_map-map}
+use Rattle.mst_vlan.proofs.forest_lemmas.NotInUse.{unused, unused_by}
+use Rattle.mst_vlan.proofs.forest_lemmas.Pieces.{filter_map-map}
 use Rattle.mst_rows.specs.Rows.{Row}
 use Rattle.mst_facts.specs.declared.both.Both.{Both}
 use Rattle.mst_diff.specs.declared.roots.RootPair.{RootPair}

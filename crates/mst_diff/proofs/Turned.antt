@@ -17,23 +17,23 @@ use Rattle.mst_ids.specs.declared.name.PortName.{PortName}
 use Rattle.mst_tables.specs.Tables.{Net, BridgeRow}
 use Rattle.mst_tables.proofs.Keys.{names, ports}
 use Rattle.mst_view.specs.Aggregation.{same_name}
-use Rattle.mst_config.specs.Regions.{first_of_region}
-use Rattle.mst_forest.specs.Apart.{Apart}
-use Rattle.mst_forest.specs.Outcome.{Outcome}
-use Rattle.mst_forest.proofs.Entries.{all_weaker, entries_found}
-use Rattle.mst_forest.proofs.Lists.{apart_mapped}
-use Rattle.mst_forest.proofs.Views.{bridges_rise}
-use Rattle.mst_forest.specs.Roles.{role_of}
-use Rattle.mst_forest.specs.declared.kind.Role.{Role}
+use Rattle.mst_vlan.specs.forest.config.Regions.{first_of_region}
+use Rattle.mst_vlan.specs.forest.Apart.{Apart}
+use Rattle.mst_vlan.specs.forest.Outcome.{Outcome}
+use Rattle.mst_vlan.proofs.forest_lemmas.Entries.{all_weaker, entries_found}
+use Rattle.mst_vlan.proofs.forest_lemmas.Lists.{apart_mapped}
+use Rattle.mst_vlan.proofs.forest_lemmas.Views.{bridges_rise}
+use Rattle.mst_vlan.specs.forest.Roles.{role_of}
+use Rattle.mst_vlan.specs.forest.declared.kind.Role.{Role}
 use Rattle.mst_vlan.specs.classes.AllVids.{all_vids}
 use Rattle.mst_vlan.proofs.classes_lemmas.VidPlaces.{is_vid_there}
 use Rattle.mst_changes.specs.declared.value.VectorOrRole.TheVariants.{HasRole}
-use Rattle.mst_forest.specs.AllTrees.{all_trees}
+use Rattle.mst_vlan.specs.forest.AllTrees.{all_trees}
 use Rattle.mst_view.specs.View.{bridge_names, port_names}
 use Rattle.mst_changes.specs.Subjects.{port_in, names_of_either}
 use Rattle.mst_changes.specs.PortChanges.{port_change_rows}
 use Rattle.mst_changes.specs.Values.{value_at, same_side}
-use Rattle.mst_forest.specs.RoleNumbers.{role_number}
+use Rattle.mst_vlan.specs.forest.RoleNumbers.{role_number}
 use Rattle.mst_changes.specs.ChangesText.{role_cell, change_rows}
 use Rattle.mst_changes.proofs.Names.{kept_left, kept_right}
 use Rattle.mst_kinds.specs.declared.change_line.ChangeLine.TheVariants as change_line

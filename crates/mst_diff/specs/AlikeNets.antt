@@ -6,9 +6,9 @@ use Rattle.mst_ids.specs.Vids.{is_vid}
 use Rattle.mst_ids.specs.declared.name.PortName.{PortName}
 use Rattle.mst_graph.specs.Islands.{Island}
 use Rattle.mst_tables.specs.Tables.{Net, BridgeRow}
-use Rattle.mst_config.specs.Regions.{first_of_region}
-use Rattle.mst_forest.specs.Outcome.{Outcome}
-use Rattle.mst_forest.specs.Roles.{role_of}
+use Rattle.mst_vlan.specs.forest.config.Regions.{first_of_region}
+use Rattle.mst_vlan.specs.forest.Outcome.{Outcome}
+use Rattle.mst_vlan.specs.forest.Roles.{role_of}
 use Rattle.mst_vlan.specs.Reach.{AreIslandsOf}
 use Rattle.mst_facts.specs.Told.{same_told}
 use Rattle.mst_facts.specs.Roots.{root_name}

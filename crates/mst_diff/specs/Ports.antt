@@ -2,8 +2,8 @@
 use Rattle.std.specs.Prelude.{List}
 use Rattle.std.specs.List.{flat_map}
 use Rattle.mst_tables.specs.Tables.{Net}
-use Rattle.mst_forest.specs.Outcome.{Outcome}
-use Rattle.mst_forest.specs.AllTrees.{all_trees}
+use Rattle.mst_vlan.specs.forest.Outcome.{Outcome}
+use Rattle.mst_vlan.specs.forest.AllTrees.{all_trees}
 use Rattle.mst_changes.specs.PortChanges.{port_change_rows}
 use Rattle.mst_rows.specs.Rows.{Row}
 

@@ -7,7 +7,7 @@ use Rattle.mst_kinds.specs.declared.change_line.ChangeLine.TheVariants as change
 use Rattle.mst_kinds.specs.declared.kind.Kind.TheVariants as kind
 use Rattle.mst_tables.specs.Tables.{Net, BridgeRow}
 use Rattle.mst_view.specs.Aggregation.{same_name}
-use Rattle.mst_config.specs.Regions.{first_of_region}
+use Rattle.mst_vlan.specs.forest.config.Regions.{first_of_region}
 use Rattle.mst_rows.specs.Cells.{object, word}
 use Rattle.mst_rows.specs.Rows.{Row, region, row_of}
 use Rattle.mst_facts.specs.Told.{same_told}

@@ -6,8 +6,8 @@ use Rattle.mst_kinds.specs.declared.change_line.ChangeLine.TheVariants as change
 use Rattle.mst_kinds.specs.declared.kind.Kind.TheVariants as kind
 use Rattle.mst_tables.specs.Tables.{Net}
 use Rattle.mst_view.specs.Aggregation.{same_name}
-use Rattle.mst_forest.specs.Outcome.{Outcome}
-use Rattle.mst_forest.specs.AllTrees.{all_trees}
+use Rattle.mst_vlan.specs.forest.Outcome.{Outcome}
+use Rattle.mst_vlan.specs.forest.AllTrees.{all_trees}
 use Rattle.mst_view.specs.View.{bridge_names}
 use Rattle.mst_rows.specs.Cells.{number, word}
 use Rattle.mst_rows.specs.Rows.{Row, row_of}

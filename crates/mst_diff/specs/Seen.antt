@@ -4,8 +4,8 @@ use Rattle.std.specs.List.{list_any}
 use Rattle.mst_tables.specs.Seen.{bridge_row}
 use Rattle.mst_tables.specs.Tables.{Net}
 use Rattle.mst_view.specs.Viewed.{Viewed}
-use Rattle.mst_config.specs.Regions.{first_of_region}
-use Rattle.mst_forest.specs.Settled.{SettledNet, outcome_of}
+use Rattle.mst_vlan.specs.forest.config.Regions.{first_of_region}
+use Rattle.mst_vlan.specs.forest.Settled.{SettledNet, outcome_of}
 use Rattle.mst_vlan.specs.declared.island.Island.{Island}
 use Rattle.mst_vlan.specs.Seen.{seen_bridge}
 use Rattle.mst_changes.specs.PortChanges.{port_change_rows}

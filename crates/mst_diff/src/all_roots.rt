@@ -1,14 +1,14 @@
 ghost use Rattle.std.specs.Prelude.{◌≡◌, ◌++◌, List, IfOk, OnOk, map};
 ghost use Rattle.std.specs.List.{flat_map};
-ghost use Rattle.mst_forest.specs.AllTrees.{all_trees};
+ghost use Rattle.mst_vlan.specs.forest.AllTrees.{all_trees};
 ghost use Rattle.mst_rows.specs.Rows.{Row};
 ghost use Rattle.mst_diff.specs.Seen.{roots_of, row_of_root};
 
 use crate::change::Change;
 use crate::roots::{RootChange, add_tree, put_root};
-use mst_forest::is_had;
 use mst_ids::Tree;
 use mst_rows::Rows;
+use mst_vlan::is_had;
 use std::alloc::{AllocError, Global};
 
 /// Puts the roots of a tree that are other ones behind these: none where no bridge of one of the networks has it.

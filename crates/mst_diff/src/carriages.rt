@@ -1,8 +1,7 @@
 ghost use Rattle.std.specs.Prelude.{◌≡◌};
 ghost use Rattle.mst_vlan.specs.Carried.{with_trees};
 
-use mst_forest::Settled;
-use mst_vlan::Carriage;
+use mst_vlan::{Carriage, Settled};
 
 /// Two settled networks, one before a change and one after it, each with the table of the ports that carry each VID.
 #[derive(Clone, Copy)]

@@ -1,9 +1,9 @@
 ghost use Rattle.std.specs.Prelude.{◌≡◌};
-ghost use Rattle.mst_forest.specs.InUse.{AreInUse};
+ghost use Rattle.mst_vlan.specs.forest.InUse.{AreInUse};
 ghost use Rattle.mst_facts.specs.Both.{seen_both};
 
 use mst_facts::Both;
-use mst_forest::Settled;
+use mst_vlan::Settled;
 
 /// Two settled networks, one before a change and one after it, the bridges that both have, and the trees that each has
 /// beside the CIST.

@@ -9,9 +9,9 @@ use crate::ports::put_ports;
 use crate::reach::put_reach;
 use crate::regions::{changed_regions, put_regions};
 use mst_facts::bridges_of_both;
-use mst_forest::{Settled, trees_in_use};
 use mst_kinds::{ChangeLine, Kind};
 use mst_rows::{Rows, Value, put};
+use mst_vlan::{Settled, trees_in_use};
 use std::alloc::{AllocError, Global};
 
 /// How much differs: rows of regions, of roots and of ports, and VIDs.

@@ -1,7 +1,7 @@
 //! Laws of the rows of what a change does. Their functions do nothing: a caller has their clauses.
 ghost use Rattle.std.specs.Prelude.{◌≡◌, ◌↔◌, ◌∷◌, [], ℕ, List};
 ghost use Rattle.mst_tables.specs.Tables.{Net, IsNetwork};
-ghost use Rattle.mst_forest.specs.Outcome.{Outcome, IsOutcome};
+ghost use Rattle.mst_vlan.specs.forest.Outcome.{Outcome, IsOutcome};
 ghost use Rattle.mst_rows.specs.Rows.{Row};
 ghost use Rattle.mst_diff.specs.AlikeNets.{AreAlike};
 ghost use Rattle.mst_diff.specs.DiffText.{AreDiffRowsOf, diff_row};
@@ -12,9 +12,9 @@ ghost use Rattle.mst_diff.specs.Roots.{root_changes};
 ghost use Rattle.mst_diff.specs.Turned.{AreTurned, turned_sides};
 ghost use Rattle.mst_diff.specs.declared.diff.Differing.{Differing as Counts};
 
-use mst_forest::laws::one_outcome;
 use mst_graph::laws::group_lists;
 use mst_ids::Vid;
+use mst_vlan::forest_laws::one_outcome;
 use mst_vlan::laws::islands_of_vid;
 
 /// Two networks have one list of rows and one count of what differs, whichever settled outcomes they are made by, and there is

@@ -1,15 +1,15 @@
 ghost use Rattle.std.specs.Prelude.{◌≡◌, ◌++◌, List, IfOk};
 ghost use Rattle.std.specs.List.{flat_map};
 ghost use Rattle.mst_changes.specs.PortChanges.{counted};
-ghost use Rattle.mst_forest.specs.AllTrees.{all_trees};
+ghost use Rattle.mst_vlan.specs.forest.AllTrees.{all_trees};
 ghost use Rattle.mst_rows.specs.Rows.{Row};
 ghost use Rattle.mst_diff.specs.Seen.{ports_of};
 
 use crate::change::Change;
 use mst_changes::put_port_changes;
-use mst_forest::is_had;
 use mst_ids::Tree;
 use mst_rows::Rows;
+use mst_vlan::is_had;
 use std::alloc::{AllocError, Global};
 
 /// Puts the rows of ports in a tree, and answers how many they are: none where no bridge of either network has it.

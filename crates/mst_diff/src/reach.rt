@@ -2,7 +2,7 @@ ghost use Rattle.std.specs.Prelude.{◌≡◌, ◌++◌, ◌∷◌, [], ◌+◌,
 ghost use Rattle.std.specs.List.{All, AllZip, flat_map, count_by};
 ghost use Rattle.mst_ids.specs.Vids.{runs_from};
 ghost use Rattle.mst_rows.specs.Rows.{Row};
-ghost use Rattle.mst_forest.specs.Settled.{outcome_of};
+ghost use Rattle.mst_vlan.specs.forest.Settled.{outcome_of};
 ghost use Rattle.mst_vlan.specs.classes.AllVids.{NumberEach};
 ghost use Rattle.mst_graph.specs.Lists.{has_any};
 ghost use Rattle.mst_diff.specs.Reach.{differ, reach_row, reach_unless, group_rows, AreReachRows};
@@ -11,12 +11,11 @@ ghost use Rattle.mst_diff.specs.Seen.{AreSidesOf, seen_sides, sides_at as sides_
 use crate::carriages::Carriages;
 use crate::sides::{Sides, copies, sides_unless};
 use crate::unlike::unlike;
-use mst_forest::Settled;
 use mst_graph::groups_by_body;
 use mst_ids::{Name, Vid, VidSet};
 use mst_kinds::{ChangeLine, Kind};
 use mst_rows::{Rows, Value, put};
-use mst_vlan::{Carriage, classes_of_both, set_of, vids};
+use mst_vlan::{Carriage, Settled, classes_of_both, set_of, vids};
 use std::alloc::{AllocError, Global};
 
 /// The sides of the VIDs at these places, which are counted from 0.

@@ -1,7 +1,7 @@
 ghost use Rattle.std.specs.Prelude.{◌≡◌, ◌++◌, ◌∷◌, [], List, IfOk, OnOk, map};
 ghost use Rattle.std.specs.List.{AllByRecursion, Contains, flat_map};
 ghost use Rattle.mst_tables.specs.Seen.{bridge_row};
-ghost use Rattle.mst_config.specs.Regions.{first_of_region};
+ghost use Rattle.mst_vlan.specs.forest.config.Regions.{first_of_region};
 ghost use Rattle.mst_rows.specs.Rows.{Row};
 ghost use Rattle.mst_facts.specs.Told.{same_told};
 ghost use Rattle.mst_diff.specs.Regions.{configuration as configuration_of, region_changes};
@@ -11,13 +11,13 @@ ghost use Rattle.mst_diff.specs.Seen.{region_of, row_of_region};
 
 use crate::change::Change;
 use mst_facts::Both;
-use mst_forest::{Forest, Settled};
 use mst_ids::{ConfName, Name};
 use mst_kinds::{ChangeLine, Kind as RowKind};
 use mst_lang::Kind;
 use mst_rows::{RegionSide, Rows, Value, put};
 use mst_tables::Bridge;
 use mst_view::{BridgeInView, View};
+use mst_vlan::{Forest, Settled};
 use std::alloc::{AllocError, Global};
 
 /// A bridge whose region is another one.

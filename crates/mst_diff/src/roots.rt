@@ -1,6 +1,6 @@
 ghost use Rattle.std.specs.Prelude.{◌≡◌, ◌++◌, ◌∷◌, [], List, IfOk, OnOk, filter_map, map};
 ghost use Rattle.std.specs.List.{AllByRecursion, Contains, flat_map, list_any};
-ghost use Rattle.mst_forest.specs.Settled.{outcome_of};
+ghost use Rattle.mst_vlan.specs.forest.Settled.{outcome_of};
 ghost use Rattle.mst_rows.specs.Rows.{Row};
 ghost use Rattle.mst_facts.specs.Roots.{root_name as root_name_in};
 ghost use Rattle.mst_diff.specs.Roots.{same_pair, root_unless};
@@ -11,11 +11,11 @@ ghost use Rattle.mst_diff.specs.Seen.{pair_of, with_pair, roots_of, row_of_root}
 
 use crate::change::Change;
 use mst_facts::{Both, Identified, root_of};
-use mst_forest::{Settled, bridge_id};
 use mst_ids::{BridgeId, Name, Tree};
 use mst_kinds::{ChangeLine, Kind};
 use mst_rows::{Rows, Value, put};
 use mst_view::{BridgeInView, View};
+use mst_vlan::{Settled, bridge_id};
 use std::alloc::{AllocError, Global};
 
 /// The names of a bridge's root before and after.

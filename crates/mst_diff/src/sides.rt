@@ -1,6 +1,6 @@
 ghost use Rattle.std.specs.Prelude.{◌≡◌, ◌++◌, ℕ, List, IfOk, OnOk, map, false};
 ghost use Rattle.mst_graph.specs.Islands.{Island as NamedIsland};
-ghost use Rattle.mst_forest.specs.Settled.{outcome_of};
+ghost use Rattle.mst_vlan.specs.forest.Settled.{outcome_of};
 ghost use Rattle.mst_vlan.specs.Reach.{AreIslandsOf};
 ghost use Rattle.mst_diff.specs.Met.{AreMet};
 ghost use Rattle.mst_diff.specs.Reach.{island_bridges, no_sides, sides_of as sides_between, without};
@@ -9,10 +9,9 @@ ghost use Rattle.mst_vlan.specs.Carried.{with_trees};
 
 use crate::carriages::Carriages;
 use indexmap::IndexSet;
-use mst_forest::Settled;
 use mst_ids::{Name, Vid};
 use mst_view::View;
-use mst_vlan::{Carriage, Island, bridge_names, has_bridge};
+use mst_vlan::{Carriage, Island, Settled, bridge_names, has_bridge};
 use std::alloc::{AllocError, Global};
 
 /// The islands of a VID before that aren't there afterwards, and those afterwards that weren't there before, each by its

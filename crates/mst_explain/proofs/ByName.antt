@@ -5,10 +5,10 @@ use Rattle.std.specs.List.{Contains}
 use Rattle.std.specs.Ordering.{is_gt}
 use Rattle.mst_ids.specs.declared.name.PortName.{PortName}
 use Rattle.mst_vector.specs.Rules.{Rules, IsMetric}
-use Rattle.mst_topology.specs.Topology.{TreePort, Topology, IsTopology, HasBridge, HasPort}
-use Rattle.mst_topology.specs.Settled.{IsDesignatedVector, IsDesignated}
-use Rattle.mst_topology.proofs.Below.{one_speaker}
-use Rattle.mst_topology.proofs.Orders.{both}
+use Rattle.mst_forest.specs.topology.Topology.{TreePort, Topology, IsTopology, HasBridge, HasPort}
+use Rattle.mst_forest.specs.topology.Settled.{IsDesignatedVector, IsDesignated}
+use Rattle.mst_forest.proofs.topology_lemmas.Below.{one_speaker}
+use Rattle.mst_forest.proofs.topology_lemmas.Orders.{both}
 use Rattle.mst_tables.specs.Tables.{Net, IsNetwork}
 use Rattle.mst_view.specs.View.{LogicalPort, view_ports}
 use Rattle.mst_forest.specs.Sight.{Sight, tree_port, tree_of}

@@ -6,8 +6,8 @@ use Rattle.std.specs.FinMap as fin
 use Rattle.std.specs.FinMap.{len-entries}
 use Rattle.mst_ids.specs.declared.name.PortName.{PortName}
 use Rattle.mst_vector.specs.Rules.{Rules, IsMetric}
-use Rattle.mst_topology.specs.Topology.{Topology, IsTopology}
-use Rattle.mst_topology.specs.Settled.{Settled}
+use Rattle.mst_forest.specs.topology.Topology.{Topology, IsTopology}
+use Rattle.mst_forest.specs.topology.Settled.{Settled}
 use Rattle.mst_tables.specs.Tables.{Net, Numbers}
 use Rattle.mst_view.specs.View.{LogicalPort, view_ports}
 use Rattle.mst_view.specs.Viewed.{Viewed, named_port}

@@ -8,9 +8,9 @@ use Rattle.std.proofs.lemmas.Bool.{eqb-true}
 use Rattle.std.proofs.lemmas.List.Elements.{Contains-append_left, Contains-append_right, Contains-append_cases}
 use Rattle.mst_ids.specs.declared.name.PortName.{PortName}
 use Rattle.mst_vector.specs.Rules.{Rules, IsMetric}
-use Rattle.mst_topology.specs.Topology.{TreePort, Topology, IsTopology, HasBridge, HasPort}
-use Rattle.mst_topology.specs.Settled.{Designates, IsRootPathVector, IsDesignated}
-use Rattle.mst_topology.proofs.Below.{one_designated}
+use Rattle.mst_forest.specs.topology.Topology.{TreePort, Topology, IsTopology, HasBridge, HasPort}
+use Rattle.mst_forest.specs.topology.Settled.{Designates, IsRootPathVector, IsDesignated}
+use Rattle.mst_forest.proofs.topology_lemmas.Below.{one_designated}
 use Rattle.mst_tables.specs.Tables.{Net, Numbers}
 use Rattle.mst_view.specs.Viewed.{Viewed, named_port}
 use Rattle.mst_view.specs.declared.in_view.PortInView.{PortInView}

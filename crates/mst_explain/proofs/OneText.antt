@@ -12,10 +12,10 @@ use Rattle.mst_vector.specs.MstiLaws.{msti_lawful}
 use Rattle.mst_vector.specs.declared.cist.CistVector.{CistVector}
 use Rattle.mst_vector.specs.declared.cist.CistBridge.{CistBridge}
 use Rattle.mst_vector.specs.declared.cist.CistPort.{CistPort}
-use Rattle.mst_topology.specs.Topology.{TreePort, Topology, IsTopology, HasBridge, HasPort}
-use Rattle.mst_topology.specs.Settled.{IsDesignatedVector, Designates, IsRootPathVector}
-use Rattle.mst_topology.proofs.Below.{one_message, one_speaker, one_designated}
-use Rattle.mst_topology.proofs.Orders.{both}
+use Rattle.mst_forest.specs.topology.Topology.{TreePort, Topology, IsTopology, HasBridge, HasPort}
+use Rattle.mst_forest.specs.topology.Settled.{IsDesignatedVector, Designates, IsRootPathVector}
+use Rattle.mst_forest.proofs.topology_lemmas.Below.{one_message, one_speaker, one_designated}
+use Rattle.mst_forest.proofs.topology_lemmas.Orders.{both}
 use Rattle.mst_tables.specs.Tables.{Net, IsNetwork}
 use Rattle.mst_view.specs.View.{LogicalPort}
 use Rattle.mst_forest.specs.Cist.{cist_sight, cist_of}

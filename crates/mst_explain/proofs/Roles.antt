@@ -12,10 +12,10 @@ use Rattle.mst_vector.specs.Cist.{cist_rules}
 use Rattle.mst_vector.specs.CistLaws.{cist_lawful}
 use Rattle.mst_vector.specs.Msti.{msti_rules}
 use Rattle.mst_vector.specs.MstiLaws.{msti_lawful}
-use Rattle.mst_topology.specs.Topology.{TreePort, Topology, IsTopology, HasBridge, HasPort}
-use Rattle.mst_topology.specs.Settled.{IsDesignatedVector, Designates, IsDesignated, IsVectorOf}
-use Rattle.mst_topology.proofs.Below.{one_speaker, one_designated}
-use Rattle.mst_topology.proofs.Orders.{both}
+use Rattle.mst_forest.specs.topology.Topology.{TreePort, Topology, IsTopology, HasBridge, HasPort}
+use Rattle.mst_forest.specs.topology.Settled.{IsDesignatedVector, Designates, IsDesignated, IsVectorOf}
+use Rattle.mst_forest.proofs.topology_lemmas.Below.{one_speaker, one_designated}
+use Rattle.mst_forest.proofs.topology_lemmas.Orders.{both}
 use Rattle.mst_tables.specs.Tables.{Net, IsNetwork, port_eq}
 use Rattle.mst_tables.specs.ByTree.{by_tree}
 use Rattle.mst_view.specs.Aggregation.{same_name}

@@ -5,9 +5,9 @@ use Rattle.std.specs.List.{AllByRecursion, Contains}
 use Rattle.std.specs.Cmp.Lexicographic.{pointwise, bytes_decides}
 use Rattle.mst_ids.specs.declared.name.PortName.{PortName}
 use Rattle.mst_vector.specs.Rules.{Rules, IsMetric}
-use Rattle.mst_topology.specs.Topology.{TreePort, Topology, IsTopology, HasPort}
-use Rattle.mst_topology.specs.Settled.{IsDesignatedVector, Designates, IsRootPathVector, IsDesignated}
-use Rattle.mst_topology.proofs.Below.{one_message, one_designated}
+use Rattle.mst_forest.specs.topology.Topology.{TreePort, Topology, IsTopology, HasPort}
+use Rattle.mst_forest.specs.topology.Settled.{IsDesignatedVector, Designates, IsRootPathVector, IsDesignated}
+use Rattle.mst_forest.proofs.topology_lemmas.Below.{one_message, one_designated}
 use Rattle.mst_forest.specs.Outcome.{TreeOutcome, IsTreeOutcome}
 use Rattle.mst_forest.proofs.Entries.{all_weaker}
 use Rattle.mst_forest.proofs.Lists.{all_there, there_first, there_later}

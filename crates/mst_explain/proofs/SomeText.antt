@@ -9,7 +9,7 @@ use Rattle.mst_vector.specs.Cist.{cist_rules}
 use Rattle.mst_vector.specs.CistLaws.{cist_lawful}
 use Rattle.mst_vector.specs.Msti.{msti_rules}
 use Rattle.mst_vector.specs.MstiLaws.{msti_lawful}
-use Rattle.mst_topology.specs.Topology.{Topology}
+use Rattle.mst_forest.specs.topology.Topology.{Topology}
 use Rattle.mst_tables.specs.Tables.{Net, IsNetwork}
 use Rattle.mst_tables.specs.ByTree.{by_tree}
 use Rattle.mst_view.specs.View.{LogicalPort, view_ports, is_on, is_up}

@@ -8,7 +8,7 @@ use Rattle.std.specs.FinMap as fin
 use Rattle.mst_vector.specs.Cist.{cist_rules}
 use Rattle.mst_vector.specs.Msti.{msti_rules}
 use Rattle.mst_vector.specs.CistLaws.{cist_lawful}
-use Rattle.mst_outcome.specs.Assignment.{designated_of}
+use Rattle.mst_forest.specs.outcome.Assignment.{designated_of}
 use Rattle.mst_tables.specs.Tables.{Net, BridgeRow, LanRow}
 use Rattle.mst_tables.specs.Seen.{bridge_row}
 use Rattle.mst_view.specs.Aggregation.{same_name}

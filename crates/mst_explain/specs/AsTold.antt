@@ -2,7 +2,7 @@
 use Rattle.std.specs.Prelude.{◌≡◌, ◌≢◌, ◌↔◌, ℕ, List, Option, Some}
 use Rattle.mst_ids.specs.declared.name.PortName.{PortName}
 use Rattle.mst_vector.specs.Rules.{Rules}
-use Rattle.mst_topology.specs.Topology.{Topology, HasBridge}
+use Rattle.mst_forest.specs.topology.Topology.{Topology, HasBridge}
 use Rattle.mst_view.specs.View.{LogicalPort}
 use Rattle.mst_forest.specs.Outcome.{TreeOutcome}
 use Rattle.mst_forest.specs.declared.kind.Role.{Role}

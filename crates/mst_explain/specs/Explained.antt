@@ -6,7 +6,7 @@ use Rattle.mst_ids.specs.declared.name.PortName.{PortName}
 use Rattle.mst_vector.specs.Rules.{Rules}
 use Rattle.mst_vector.specs.Cist.{cist_rules}
 use Rattle.mst_vector.specs.Msti.{msti_rules}
-use Rattle.mst_topology.specs.Topology.{Topology, HasBridge}
+use Rattle.mst_forest.specs.topology.Topology.{Topology, HasBridge}
 use Rattle.mst_tables.specs.Tables.{Net}
 use Rattle.mst_view.specs.Trees.{mstis_of}
 use Rattle.mst_view.specs.View.{LogicalPort, is_on, is_up}

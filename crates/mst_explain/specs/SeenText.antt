@@ -4,7 +4,7 @@ use Rattle.std.specs.List.{find, list_any}
 use Rattle.std.specs.Option.{option_map_or, option_and_then}
 use Rattle.mst_vector.specs.Cist.{cist_rules}
 use Rattle.mst_vector.specs.Msti.{msti_rules}
-use Rattle.mst_outcome.specs.Assignment.{designated_of}
+use Rattle.mst_forest.specs.outcome.Assignment.{designated_of}
 use Rattle.mst_tables.specs.Seen.{bridge_row}
 use Rattle.mst_view.specs.Aggregation.{same_name}
 use Rattle.mst_view.specs.Viewed.{Viewed, named_port}

@@ -11,8 +11,8 @@ ghost use Rattle.mst_explain.specs.TreesSeen.{cist_seen, msti_seen};
 use crate::field::{Difference, cist_difference, msti_difference};
 use crate::settings::{cist_bridge, cist_port, msti_bridge, msti_port};
 use mst_forest::Settled;
+use mst_forest::outcome_laws::costs_bounded;
 use mst_ids::{BridgeNo, LanNo, Name, PortName, Tree};
-use mst_outcome::laws::costs_bounded;
 use mst_vector::{CistMetric, Metric, MstiMetric};
 use mst_view::PortInView;
 

@@ -7,7 +7,7 @@ use Rattle.std.specs.FinMap as fin
 use Rattle.std.specs.FinMap.{get-entries}
 use Rattle.std.specs.FinMap.Entries as entries
 use Rattle.mst_ids.specs.Names.{name_cmp}
-use Rattle.mst_outcome.specs.Assignment.{vector_of}
+use Rattle.mst_forest.specs.outcome.Assignment.{vector_of}
 use Rattle.mst_tables.specs.Tables.{Net, Numbers, BridgeRow}
 use Rattle.mst_tables.specs.ByTree.{by_tree}
 use Rattle.mst_tables.specs.Seen.{bridge_row}
@@ -18,8 +18,8 @@ use Rattle.mst_view.specs.Aggregation.{same_name}
 use Rattle.mst_view.specs.Trees.{is_among, mstis_of}
 use Rattle.mst_view.specs.Viewed.{Viewed, named_bridge}
 use Rattle.mst_view.specs.declared.in_view.BridgeInView.{BridgeInView}
-use Rattle.mst_config.specs.Shared.{same_in}
-use Rattle.mst_config.specs.Regions.{same_region, first_of_region}
+use Rattle.mst_forest.specs.config.Shared.{same_in}
+use Rattle.mst_forest.specs.config.Regions.{same_region, first_of_region}
 use Rattle.mst_forest.specs.Agrees.{AreOf}
 use Rattle.mst_forest.specs.Forest.{Forest, IsForest, msti_vector}
 use Rattle.mst_forest.specs.InUse.{id_in}

@@ -3,11 +3,11 @@ use Rattle.std.specs.Prelude.{ℕ, ◌==◌, List, Option, None, map, if◌then�
 use Rattle.std.specs.List.{find}
 use Rattle.std.specs.Option.{option_map, unwrap_or}
 use Rattle.mst_tables.specs.Seen.{bridge_row}
-use Rattle.mst_outcome.specs.Assignment.{vector_of}
+use Rattle.mst_forest.specs.outcome.Assignment.{vector_of}
 use Rattle.mst_view.specs.Trees.{is_among}
 use Rattle.mst_view.specs.Viewed.{Viewed}
 use Rattle.mst_view.specs.declared.in_view.BridgeInView.{BridgeInView}
-use Rattle.mst_config.specs.Shared.{same_in}
+use Rattle.mst_forest.specs.config.Shared.{same_in}
 use Rattle.mst_forest.specs.Forest.{Forest, msti_vector}
 use Rattle.mst_forest.specs.InUse.{id_in}
 use Rattle.mst_forest.specs.Seen.{trees_at}

@@ -8,10 +8,10 @@ use Rattle.mst_vector.specs.Cist.{cist_rules}
 use Rattle.mst_vector.specs.declared.cist.CistBridge.{CistBridge}
 use Rattle.mst_vector.specs.declared.cist.CistPort.{CistPort}
 use Rattle.mst_topology.specs.Topology.{IsTopology}
-use Rattle.mst_tables.specs.Tables.{Net, IsNetwork}
-use Rattle.mst_tables.specs.declared.settings.PortSettings.{PortSettings}
-use Rattle.mst_tables.specs.ByTree.{by_tree}
-use Rattle.mst_tables.specs.Contents.{priority_of, port_priority_of, port_cost_of}
+use Rattle.mst_net.specs.tables.Tables.{Net, IsNetwork}
+use Rattle.mst_net.specs.tables.declared.settings.PortSettings.{PortSettings}
+use Rattle.mst_net.specs.tables.ByTree.{by_tree}
+use Rattle.mst_net.specs.tables.Contents.{priority_of, port_priority_of, port_cost_of}
 use Rattle.mst_config.specs.Regions.{region_of}
 use Rattle.mst_forest.specs.Cist.{cist_bridge, cist_port, cist_sight, cist_of}
 use Rattle.mst_forest.proofs.Lists.{some_is, no_some}

@@ -6,11 +6,11 @@ use Rattle.std.specs.Option.{option_map, option_map_or}
 use Rattle.std.specs.FinMap as fin
 use Rattle.std.proofs.lemmas.Bool.{eqb-true}
 use Rattle.mst_ids.specs.declared.name.PortName.{PortName}
-use Rattle.mst_tables.specs.Tables.{Net, Numbers, BridgeRow, port_eq}
-use Rattle.mst_tables.specs.ByTree.{table_in}
-use Rattle.mst_tables.specs.Seen.{bridge_row}
-use Rattle.mst_tables.specs.Table.{tree_in}
-use Rattle.mst_tables.specs.After.{table_of}
+use Rattle.mst_net.specs.tables.Tables.{Net, Numbers, BridgeRow, port_eq}
+use Rattle.mst_net.specs.tables.ByTree.{table_in}
+use Rattle.mst_net.specs.tables.Seen.{bridge_row}
+use Rattle.mst_net.specs.tables.Table.{tree_in}
+use Rattle.mst_net.specs.tables.After.{table_of}
 use Rattle.mst_view.specs.View.{view_ports}
 use Rattle.mst_view.specs.Viewed.{Viewed, named_port}
 use Rattle.mst_view.specs.declared.in_view.BridgeInView.{BridgeInView}

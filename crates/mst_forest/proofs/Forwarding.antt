@@ -14,8 +14,8 @@ use Rattle.mst_topology.specs.Topology.{TreePort, Topology, IsTopology, HasPort}
 use Rattle.mst_topology.specs.Settled.{IsDesignated}
 use Rattle.mst_nested.specs.Trees.{Trees, TakesPart, IsEnabled, IsInternal, HasTree}
 use Rattle.mst_nested.specs.Roles.{IsRootPort, IsDesignatedPort, IsMstiRoot, IsMstiDesignated, ForwardsInRegion, Forwards}
-use Rattle.mst_tables.specs.Tables.{Net, IsNetwork, port_eq}
-use Rattle.mst_tables.specs.ByTree.{by_tree}
+use Rattle.mst_net.specs.tables.Tables.{Net, IsNetwork, port_eq}
+use Rattle.mst_net.specs.tables.ByTree.{by_tree}
 use Rattle.mst_view.specs.Aggregation.{same_name}
 use Rattle.mst_view.specs.View.{LogicalPort, view_ports}
 use Rattle.mst_forest.specs.Sight.{tree_port}

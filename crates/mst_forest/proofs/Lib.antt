@@ -1,3 +1,6 @@
+pub use Rattle.mst_topology.proofs as topology_lemmas
+pub use Rattle.mst_nested.proofs as nested_lemmas
+pub use Rattle.mst_config.proofs as config_lemmas
 pub mod AllTrees
 pub mod CistTopology
 pub mod Entries

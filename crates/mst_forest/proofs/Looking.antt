@@ -13,9 +13,9 @@ use Rattle.mst_vector.specs.declared.cist.CistVector.{CistVector}
 use Rattle.mst_vector.specs.declared.cist.CistBridge.{CistBridge}
 use Rattle.mst_vector.specs.declared.msti.MstiBridge.{MstiBridge}
 use Rattle.mst_topology.specs.Settled.{IsDesignated}
-use Rattle.mst_tables.specs.Tables.{Net, Numbers, BridgeRow}
-use Rattle.mst_tables.specs.ByTree.{by_tree}
-use Rattle.mst_tables.specs.Seen.{bridge_row}
+use Rattle.mst_net.specs.tables.Tables.{Net, Numbers, BridgeRow}
+use Rattle.mst_net.specs.tables.ByTree.{by_tree}
+use Rattle.mst_net.specs.tables.Seen.{bridge_row}
 use Rattle.mst_view.specs.Trees.{mstis_of, is_among}
 use Rattle.mst_view.specs.Viewed.{Viewed, named_port}
 use Rattle.mst_view.specs.declared.in_view.BridgeInView.{BridgeInView}

@@ -7,9 +7,9 @@ use Rattle.mst_vector.specs.Msti.{msti_rules}
 use Rattle.mst_vector.specs.declared.msti.MstiBridge.{MstiBridge}
 use Rattle.mst_vector.specs.declared.msti.MstiPort.{MstiPort}
 use Rattle.mst_topology.specs.Topology.{IsTopology}
-use Rattle.mst_tables.specs.Tables.{Net, IsNetwork}
-use Rattle.mst_tables.specs.ByTree.{by_tree}
-use Rattle.mst_tables.specs.Contents.{priority_of, port_priority_of, port_cost_of}
+use Rattle.mst_net.specs.tables.Tables.{Net, IsNetwork}
+use Rattle.mst_net.specs.tables.ByTree.{by_tree}
+use Rattle.mst_net.specs.tables.Contents.{priority_of, port_priority_of, port_cost_of}
 use Rattle.mst_view.specs.View.{LogicalPort}
 use Rattle.mst_forest.specs.Msti.{msti_bridge, msti_port, has_msti, is_internal, msti_sight, msti_of}
 use Rattle.mst_forest.proofs.Views.{row_on, same_mac, same_port_number, cost_or_automatic}

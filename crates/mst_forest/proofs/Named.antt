@@ -12,8 +12,8 @@ use Rattle.mst_vector.specs.Rules.{Rules}
 use Rattle.mst_vector.specs.Cist.{cist_rules}
 use Rattle.mst_vector.specs.Msti.{msti_rules}
 use Rattle.mst_outcome.specs.Assignment.{vector_of, designated_of}
-use Rattle.mst_tables.specs.Tables.{Net, Numbers, port_eq}
-use Rattle.mst_tables.specs.ByTree.{by_tree}
+use Rattle.mst_net.specs.tables.Tables.{Net, Numbers, port_eq}
+use Rattle.mst_net.specs.tables.ByTree.{by_tree}
 use Rattle.mst_view.specs.Aggregation.{same_name}
 use Rattle.mst_view.specs.Trees.{is_among}
 use Rattle.mst_view.specs.View.{LogicalPort, view_ports}

@@ -15,11 +15,11 @@ use Rattle.mst_vector.specs.declared.msti.MstiBridge.{MstiBridge}
 use Rattle.mst_vector.specs.declared.msti.MstiPort.{MstiPort}
 use Rattle.mst_topology.specs.Topology.{TreePort, HasBridge, HasPort}
 use Rattle.mst_topology.specs.Settled.{IsDesignated}
-use Rattle.mst_tables.specs.Tables.{Net, BridgeRow, IsNetwork}
-use Rattle.mst_tables.specs.After.{table_of}
-use Rattle.mst_tables.specs.ByTree.{by_tree}
+use Rattle.mst_net.specs.tables.Tables.{Net, BridgeRow, IsNetwork}
+use Rattle.mst_net.specs.tables.After.{table_of}
+use Rattle.mst_net.specs.tables.ByTree.{by_tree}
 use Rattle.mst_view.specs.View.{LogicalPort, view_ports, IsUnrestricted}
-use Rattle.mst_tables.specs.Table.{mstis_in}
+use Rattle.mst_net.specs.tables.Table.{mstis_in}
 use Rattle.mst_view.specs.Trees.{mstis_of, is_among}
 use Rattle.mst_config.specs.Regions.{same_region, same_configuration, region_of}
 use Rattle.mst_config.proofs.SameRegion.{told}

@@ -7,9 +7,9 @@ use Rattle.mst_ids.specs.declared.name.PortName.{PortName}
 use Rattle.mst_vector.specs.Rules.{Rules}
 use Rattle.mst_topology.specs.Topology.{TreePort, Topology, HasBridge, HasPort}
 use Rattle.mst_outcome.specs.Renamed.{Renaming, renamed, IsRenamed}
-use Rattle.mst_tables.specs.Tables.{Net, Numbers, BridgeRow, IsNetwork}
-use Rattle.mst_tables.specs.Contents.{IsNumbered}
-use Rattle.mst_tables.specs.Seen.{bridge_row}
+use Rattle.mst_net.specs.tables.Tables.{Net, Numbers, BridgeRow, IsNetwork}
+use Rattle.mst_net.specs.tables.Contents.{IsNumbered}
+use Rattle.mst_net.specs.tables.Seen.{bridge_row}
 use Rattle.mst_view.specs.Viewed.{Viewed, IsView, HasNumbers, named_port}
 use Rattle.mst_view.specs.declared.in_view.BridgeInView.{BridgeInView}
 use Rattle.mst_view.specs.declared.in_view.PortInView.{PortInView}

@@ -7,7 +7,7 @@ use Rattle.mst_vector.specs.Cist.{cist_rules}
 use Rattle.mst_vector.specs.Msti.{msti_rules}
 use Rattle.mst_topology.specs.Topology.{Topology, IsTopology, IsTest, KeyTests}
 use Rattle.mst_topology.specs.Settled.{Settled, IsDesignated}
-use Rattle.mst_tables.specs.Tables.{Net, IsNetwork}
+use Rattle.mst_net.specs.tables.Tables.{Net, IsNetwork}
 use Rattle.mst_vector.specs.declared.cist.CistVector.{CistVector}
 use Rattle.mst_forest.specs.Cist.{cist_of}
 use Rattle.mst_forest.specs.Msti.{msti_of}

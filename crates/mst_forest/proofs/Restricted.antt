@@ -14,8 +14,8 @@ use Rattle.std.specs.Cmp.Lexicographic.{pointwise, bytes_decides}
 use Rattle.mst_topology.specs.Topology.{TreePort, Topology, IsTest, KeyTests}
 use Rattle.mst_nested.specs.Trees.{Trees, TakesPart}
 use Rattle.mst_nested.specs.Roles.{IsRootPort, IsCistRoot, IsMstiRoot}
-use Rattle.mst_tables.specs.Tables.{Net, IsNetwork, port_eq}
-use Rattle.mst_tables.specs.ByTree.{by_tree}
+use Rattle.mst_net.specs.tables.Tables.{Net, IsNetwork, port_eq}
+use Rattle.mst_net.specs.tables.ByTree.{by_tree}
 use Rattle.mst_view.specs.Aggregation.{same_name}
 use Rattle.mst_view.specs.View.{LogicalPort, view_ports}
 use Rattle.mst_forest.specs.Sight.{tree_port}

@@ -5,8 +5,8 @@ use Rattle.std.proofs.lemmas.List.{length-map}
 use Rattle.std.specs.FinMap as fin
 use Rattle.std.specs.FinMap.{len-entries}
 use Rattle.mst_ids.specs.Names.{name_cmp, port_cmp}
-use Rattle.mst_tables.specs.Tables.{Net, Numbers, BridgeRow, IsNetwork}
-use Rattle.mst_tables.specs.Seen.{bridge_row}
+use Rattle.mst_net.specs.tables.Tables.{Net, Numbers, BridgeRow, IsNetwork}
+use Rattle.mst_net.specs.tables.Seen.{bridge_row}
 use Rattle.mst_view.specs.View.{LogicalPort, view_ports}
 use Rattle.mst_view.specs.Viewed.{Viewed, IsView, HasNumbers, named_bridge, named_port}
 use Rattle.mst_view.specs.declared.in_view.BridgeInView.{BridgeInView}

@@ -7,7 +7,7 @@ use Rattle.mst_ids.specs.Names.{port_cmp}
 use Rattle.mst_ids.specs.declared.name.PortName.{PortName}
 use Rattle.mst_vector.specs.Rules.{Rules}
 use Rattle.mst_topology.specs.Topology.{TreePort, IsTopology, HasBridge, HasPort}
-use Rattle.mst_tables.specs.Tables.{Net, BridgeRow, IsNetwork}
+use Rattle.mst_net.specs.tables.Tables.{Net, BridgeRow, IsNetwork}
 use Rattle.mst_view.specs.View.{LogicalPort, view_ports}
 use Rattle.mst_forest.specs.Apart.{Apart}
 use Rattle.mst_forest.specs.Sight.{Sight, named_bridge, named_port, tree_port, tree_of}

@@ -15,7 +15,7 @@ use Rattle.mst_ids.specs.Identifiers.{bridge_id, port_id}
 use Rattle.mst_ids.specs.Costs.{automatic_cost}
 use Rattle.mst_ids.specs.declared.name.PortName.{PortName}
 use Rattle.mst_vector.specs.Rules.{is_cost}
-use Rattle.mst_tables.specs.Tables.{Net, BridgeRow, PortRow, IsPathCost, port_eq}
+use Rattle.mst_net.specs.tables.Tables.{Net, BridgeRow, PortRow, IsPathCost, port_eq}
 use Rattle.mst_view.specs.Aggregation.{Plug, plug_of, plugs}
 use Rattle.mst_view.specs.View.{LogicalPort, logical_port, as_port, is_on, is_up, logical_lan, view_ports}
 use Rattle.mst_forest.specs.Apart.{Apart}

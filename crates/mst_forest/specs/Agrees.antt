@@ -2,8 +2,8 @@
 use Rattle.std.specs.Prelude.{◌≡◌, ℕ, ◌&&◌, List, Option, Some, None, MatchOption, filter}
 use Rattle.std.specs.FinMap as fin
 use Rattle.mst_ids.specs.declared.name.PortName.{PortName}
-use Rattle.mst_tables.specs.Tables.{Net, Numbers, IsNetwork}
-use Rattle.mst_tables.specs.Contents.{IsNumbered}
+use Rattle.mst_net.specs.tables.Tables.{Net, Numbers, IsNetwork}
+use Rattle.mst_net.specs.tables.Contents.{IsNumbered}
 use Rattle.mst_view.specs.Viewed.{Viewed, IsView, named_port}
 use Rattle.mst_view.specs.declared.in_view.PortInView.{PortInView}
 use Rattle.mst_config.specs.Shared.{AreRegions}

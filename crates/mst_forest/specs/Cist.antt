@@ -6,8 +6,8 @@ use Rattle.mst_ids.specs.declared.name.PortName.{PortName}
 use Rattle.mst_vector.specs.declared.cist.CistBridge.{CistBridge}
 use Rattle.mst_vector.specs.declared.cist.CistPort.{CistPort}
 use Rattle.mst_topology.specs.Topology.{Topology}
-use Rattle.mst_tables.specs.Tables.{Net, BridgeRow}
-use Rattle.mst_tables.specs.ByTree.{ByTree, by_tree, priority_in, port_priority_in, port_cost_in}
+use Rattle.mst_net.specs.tables.Tables.{Net, BridgeRow}
+use Rattle.mst_net.specs.tables.ByTree.{ByTree, by_tree, priority_in, port_priority_in, port_cost_in}
 use Rattle.mst_view.specs.View.{LogicalPort}
 use Rattle.mst_config.specs.Regions.{region_of}
 use Rattle.mst_forest.specs.Sight.{Sight, tree_of}

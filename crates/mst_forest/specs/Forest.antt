@@ -4,7 +4,7 @@ use Rattle.std.specs.Option.{option_and_then, option_map_or}
 use Rattle.std.specs.Map.{lookup}
 use Rattle.mst_vector.specs.declared.msti.MstiVector.{MstiVector}
 use Rattle.mst_outcome.specs.Assignment.{Assignment, vector_of, designated_of}
-use Rattle.mst_tables.specs.Tables.{Net, Numbers}
+use Rattle.mst_net.specs.tables.Tables.{Net, Numbers}
 use Rattle.mst_view.specs.Viewed.{Viewed}
 use Rattle.mst_config.specs.Shared.{AreRegions}
 use Rattle.mst_forest.specs.Outcome.{Outcome, IsOutcome}

@@ -2,8 +2,8 @@
 use Rattle.std.specs.Prelude.{◌≡◌, ℕ, ◌<◌, ◌==◌, ◌||◌, Bool, false, List, length, slice_index_or, filter}
 use Rattle.std.specs.List.{list_any, range_with_len}
 use Rattle.mst_ids.specs.Identifiers.{bridge_id}
-use Rattle.mst_tables.specs.ByTree.{ByTree, priority_in}
-use Rattle.mst_tables.specs.Tables.{BridgeRow}
+use Rattle.mst_net.specs.tables.ByTree.{ByTree, priority_in}
+use Rattle.mst_net.specs.tables.Tables.{BridgeRow}
 use Rattle.mst_view.specs.Trees.{is_among}
 use Rattle.mst_view.specs.Viewed.{Viewed}
 use Rattle.mst_forest.specs.Seen.{trees_at}

@@ -1,3 +1,7 @@
+pub use Rattle.mst_outcome.specs as outcome
+pub use Rattle.mst_topology.specs as topology
+pub use Rattle.mst_nested.specs as nested
+pub use Rattle.mst_config.specs as config
 pub mod Agrees
 pub mod AllTrees
 pub mod Apart

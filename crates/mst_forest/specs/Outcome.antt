@@ -8,7 +8,7 @@ use Rattle.mst_vector.specs.declared.cist.CistVector.{CistVector}
 use Rattle.mst_vector.specs.declared.msti.MstiVector.{MstiVector}
 use Rattle.mst_topology.specs.Topology.{Topology}
 use Rattle.mst_topology.specs.Settled.{Settled, IsDesignated}
-use Rattle.mst_tables.specs.Tables.{Net}
+use Rattle.mst_net.specs.tables.Tables.{Net}
 use Rattle.mst_forest.specs.Cist.{cist_of}
 use Rattle.mst_forest.specs.Msti.{msti_of}
 use Rattle.mst_nested.specs.Trees.{Trees}

@@ -4,10 +4,10 @@ use Rattle.std.specs.List.{find}
 use Rattle.std.specs.Option.{option_map, option_map_or, option_and_then}
 use Rattle.std.specs.FinMap as fin
 use Rattle.mst_ids.specs.declared.name.PortName.{PortName}
-use Rattle.mst_tables.specs.Table.{tree_in}
-use Rattle.mst_tables.specs.After.{table_of}
-use Rattle.mst_tables.specs.Tables.{Net, port_eq}
-use Rattle.mst_tables.specs.ByTree.{by_tree}
+use Rattle.mst_net.specs.tables.Table.{tree_in}
+use Rattle.mst_net.specs.tables.After.{table_of}
+use Rattle.mst_net.specs.tables.Tables.{Net, port_eq}
+use Rattle.mst_net.specs.tables.ByTree.{by_tree}
 use Rattle.mst_view.specs.Aggregation.{same_name}
 use Rattle.mst_view.specs.View.{LogicalPort, view_ports}
 use Rattle.mst_forest.specs.Cist.{cist_port}

@@ -8,8 +8,8 @@ use Rattle.mst_vector.specs.declared.cist.CistPort.{CistPort}
 use Rattle.mst_vector.specs.declared.msti.MstiBridge.{MstiBridge}
 use Rattle.mst_vector.specs.declared.msti.MstiPort.{MstiPort}
 use Rattle.mst_topology.specs.Topology.{TreePort, Topology}
-use Rattle.mst_tables.specs.ByTree.{ByTree}
-use Rattle.mst_tables.specs.Seen.{bridge_row}
+use Rattle.mst_net.specs.tables.ByTree.{ByTree}
+use Rattle.mst_net.specs.tables.Seen.{bridge_row}
 use Rattle.mst_view.specs.Trees.{is_among}
 use Rattle.mst_view.specs.Viewed.{Viewed, named_port}
 use Rattle.mst_view.specs.declared.in_view.BridgeInView.{BridgeInView}

@@ -3,9 +3,9 @@ use Rattle.std.specs.Prelude.{ℕ, ◌==◌, Bool, false, Option, Some, None, if
 use Rattle.std.specs.List.{find}
 use Rattle.std.specs.Option.{option_map, option_map_or}
 use Rattle.mst_outcome.specs.Assignment.{vector_of, designated_of}
-use Rattle.mst_tables.specs.ByTree.{table_in}
-use Rattle.mst_tables.specs.Seen.{bridge_row}
-use Rattle.mst_tables.specs.Table.{tree_in}
+use Rattle.mst_net.specs.tables.ByTree.{table_in}
+use Rattle.mst_net.specs.tables.Seen.{bridge_row}
+use Rattle.mst_net.specs.tables.Table.{tree_in}
 use Rattle.mst_view.specs.Trees.{is_among}
 use Rattle.mst_view.specs.Viewed.{Viewed, named_port}
 use Rattle.mst_view.specs.declared.in_view.PortInView.{PortInView}

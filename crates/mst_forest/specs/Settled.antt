@@ -6,8 +6,8 @@ use Rattle.std.specs.FinMap as fin
 use Rattle.mst_ids.specs.declared.name.PortName.{PortName}
 use Rattle.mst_lang.specs.declared.line.Edit.{Edit}
 use Rattle.mst_outcome.specs.Assignment.{vector_of, designated_of}
-use Rattle.mst_tables.specs.Tables.{Net, Numbers}
-use Rattle.mst_tables.specs.Contents.{Contents, Tables, tables_of, ahead_of}
+use Rattle.mst_net.specs.tables.Tables.{Net, Numbers}
+use Rattle.mst_net.specs.tables.Contents.{Contents, Tables, tables_of, ahead_of}
 use Rattle.mst_view.specs.Viewed.{Viewed}
 use Rattle.mst_forest.specs.Agrees.{Agrees, AreOf}
 use Rattle.mst_forest.specs.Forest.{Forest, msti_vector, msti_designated}

@@ -4,7 +4,7 @@ use Rattle.std.specs.Option.{option_map}
 use Rattle.std.specs.FinMap as fin
 use Rattle.mst_ids.specs.declared.name.PortName.{PortName}
 use Rattle.mst_topology.specs.Topology.{TreePort, Topology}
-use Rattle.mst_tables.specs.Tables.{Net, BridgeRow}
+use Rattle.mst_net.specs.tables.Tables.{Net, BridgeRow}
 use Rattle.mst_view.specs.View.{LogicalPort, view_ports}
 
 -- the settings of a bridge and of a logical port, where it is in the tree

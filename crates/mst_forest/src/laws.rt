@@ -1,11 +1,11 @@
 //! Laws of outcomes. Their functions do nothing: a caller has their clauses.
 ghost use Rattle.std.specs.Prelude.{◌≡◌, ◌≢◌, ◌↔◌, ℕ, true, Some};
-ghost use Rattle.mst_tables.specs.Tables.{Net, IsNetwork};
+ghost use Rattle.mst_net.specs.tables.Tables.{Net, IsNetwork};
 ghost use Rattle.mst_view.specs.View.{IsUnrestricted, LogicalPort, view_ports};
 ghost use Rattle.mst_forest.specs.Outcome.{Outcome, IsOutcome, trees_of};
 ghost use Rattle.mst_nested.specs.Trees.{IsSettled, IsFree};
 ghost use Rattle.std.specs.List.{Contains};
-ghost use Rattle.mst_tables.specs.ByTree.{by_tree};
+ghost use Rattle.mst_net.specs.tables.ByTree.{by_tree};
 ghost use Rattle.mst_nested.specs.Roles.{Forwards};
 ghost use Rattle.mst_forest.specs.Sight.{tree_port};
 ghost use Rattle.mst_forest.specs.Cist.{cist_port};

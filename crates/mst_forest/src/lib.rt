@@ -20,6 +20,12 @@ pub use forest::{Forest, Mstis};
 pub use in_use::{has_tree, is_had, mstis_in_use, trees_in_use};
 pub use internal::is_internal;
 pub use kind::Role;
+pub use mst_config::{
+    Regions, digest, hmac_md5, laws as config_laws, mcid, regions_of, touches_regions,
+};
+pub use mst_nested::laws as nested_laws;
+pub use mst_outcome::{SpanningTree, laws as outcome_laws};
+pub use mst_topology::{Bridges, ByNumber, Topology, TreePort, Wiring};
 pub use roles::{port_role, role};
 pub use settings::{bridge_id, cist_bridge, cist_port, msti_bridge, msti_port, port_id};
 pub use settled::Settled;

@@ -1,13 +1,13 @@
 ghost use Rattle.std.specs.Prelude.{◌≡◌, ◌==◌, ◌||◌};
 ghost use Rattle.std.specs.List.{Contains};
-ghost use Rattle.mst_tables.specs.ByTree.{by_tree};
+ghost use Rattle.mst_net.specs.tables.ByTree.{by_tree};
 ghost use Rattle.mst_forest.specs.Msti.{has_msti};
 ghost use Rattle.mst_forest.specs.Settled.{outcome_of};
 
 use crate::in_use::has_tree;
 use crate::settled::Settled;
 use mst_ids::Tree;
-use mst_tables::TreeSettings;
+use mst_net::TreeSettings;
 use mst_vector::{CistVector, MstiVector};
 use mst_view::BridgeInView;
 

@@ -3,7 +3,7 @@ ghost use Rattle.std.specs.List.{find};
 ghost use Rattle.std.specs.Option.{option_and_then};
 ghost use Rattle.std.specs.FinMap as fin;
 ghost use Rattle.mst_ids.specs.declared.name.PortName.{PortName};
-ghost use Rattle.mst_tables.specs.Tables.{Net, Numbers};
+ghost use Rattle.mst_net.specs.tables.Tables.{Net, Numbers};
 ghost use Rattle.mst_forest.specs.Agrees.{AreOf};
 ghost use Rattle.mst_forest.specs.Forest.{IsForest};
 ghost use Rattle.mst_forest.specs.Roles.{outside as outside_role, role_of};

@@ -1,7 +1,7 @@
 ghost use Rattle.std.specs.Prelude.{◌≡◌};
 ghost use Rattle.mst_ids.specs.Identifiers.{port_id as id_of};
-ghost use Rattle.mst_tables.specs.ByTree.{port_priority_in};
-ghost use Rattle.mst_tables.specs.Seen.{bridge_row};
+ghost use Rattle.mst_net.specs.tables.ByTree.{port_priority_in};
+ghost use Rattle.mst_net.specs.tables.Seen.{bridge_row};
 ghost use Rattle.mst_view.specs.Viewed.{named_port};
 ghost use Rattle.mst_forest.specs.Cist.{cist_port as port_in_cist};
 ghost use Rattle.mst_forest.specs.InUse.{id_in};
@@ -11,7 +11,7 @@ ghost use Rattle.mst_forest.specs.Seen.{seen_cist_bridge, seen_msti_bridge};
 use mst_config::Regions;
 use mst_ids::{BridgeId, BridgeNo, PortId, Tree, auto_cost};
 use mst_lang::Kind;
-use mst_tables::TreeSettings;
+use mst_net::TreeSettings;
 use mst_vector::{CistBridge, CistPort, MstiBridge, MstiPort};
 use mst_view::{BridgeInView, PortInView, View};
 

@@ -19,8 +19,8 @@ pub struct Settled<'a> {
 impl<'a> Model for Settled<'a> {
     ghost use Rattle.std.specs.Coded.{codes};
     ghost use Rattle.std.specs.Option.{option_map};
-    ghost use Rattle.mst_tables.specs.ByTree.{by_tree_code};
-    ghost use Rattle.mst_tables.specs.Contents.{net_code, numbers_code};
+    ghost use Rattle.mst_net.specs.tables.ByTree.{by_tree_code};
+    ghost use Rattle.mst_net.specs.tables.Contents.{net_code, numbers_code};
     ghost use Rattle.mst_forest.specs.Settled.{SettledNet, settled_net, tables_with, IsSettledNet};
 
     ghost Value = { SettledNet };
@@ -34,7 +34,7 @@ impl<'a> Model for Settled<'a> {
 
 impl<'a> Settled<'a> {
     ghost use Rattle.std.specs.Prelude.{◌≡◌};
-    ghost use Rattle.mst_tables.specs.Contents.{tables_of, ahead_of};
+    ghost use Rattle.mst_net.specs.tables.Contents.{tables_of, ahead_of};
     ghost use Rattle.mst_forest.specs.Agrees.{AreOf};
     ghost use Rattle.mst_forest.specs.Forest.{IsForest};
     ghost use Rattle.mst_forest.specs.Settled.{settled_net, IsSettledNet};

@@ -7,7 +7,7 @@ use Rattle.mst_view.specs.Viewed.{Viewed}
 use Rattle.mst_forest.specs.Agrees.{AreOf}
 use Rattle.mst_forest.specs.Forest.{IsForest, Forest}
 use Rattle.mst_forest.specs.Outcome.{trees_of}
-use Rattle.mst_nested.specs.Trees.{IsSettled}
+use Rattle.mst_forest.specs.nested.Trees.{IsSettled}
 use Rattle.mst_note_text.specs.Depths.{InternalDepth, ExternalDepth}
 use Rattle.mst_note_text.specs.Places.{HasDepths, depths_at}
 use Rattle.mst_note_text.specs.Places as by_place

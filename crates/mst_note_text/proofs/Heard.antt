@@ -4,9 +4,9 @@ use Rattle.std.specs.List.{Contains, find}
 use Rattle.std.specs.FinMap as fin
 use Rattle.mst_ids.specs.declared.name.PortName.{PortName}
 use Rattle.mst_vector.specs.Rules.{Rules, IsMetric}
-use Rattle.mst_topology.specs.Topology.{TreePort}
-use Rattle.mst_topology.specs.Settled.{IsDesignated, Designates}
-use Rattle.mst_topology.proofs.Below.{one_designated}
+use Rattle.mst_forest.specs.topology.Topology.{TreePort}
+use Rattle.mst_forest.specs.topology.Settled.{IsDesignated, Designates}
+use Rattle.mst_forest.proofs.topology_lemmas.Below.{one_designated}
 use Rattle.mst_tables.specs.Tables.{Net, Numbers}
 use Rattle.mst_view.specs.View.{LogicalPort}
 use Rattle.mst_view.specs.Viewed.{Viewed, named_port}

@@ -13,8 +13,8 @@ use Rattle.mst_vector.specs.Msti.{msti_rules}
 use Rattle.mst_vector.specs.MstiLaws.{msti_lawful}
 use Rattle.mst_vector.specs.declared.cist.CistVector.{CistVector}
 use Rattle.mst_vector.specs.declared.msti.MstiVector.{MstiVector}
-use Rattle.mst_topology.specs.Topology.{HasBridge}
-use Rattle.mst_outcome.specs.Assignment.{vector_of, designated_of}
+use Rattle.mst_forest.specs.topology.Topology.{HasBridge}
+use Rattle.mst_forest.specs.outcome.Assignment.{vector_of, designated_of}
 use Rattle.mst_tables.specs.Tables.{Net, Numbers, BridgeRow}
 use Rattle.mst_tables.specs.ByTree.{ByTree, by_tree, port_priority_in}
 use Rattle.mst_view.specs.Trees.{is_among}
@@ -33,7 +33,7 @@ use Rattle.mst_forest.proofs.Sights.{IsSight, bridge_from}
 use Rattle.mst_forest.proofs.Looking.{internal_same, has_tree_at}
 use Rattle.mst_forest.proofs.CistTopology.{given, cist_is_sight}
 use Rattle.mst_forest.proofs.MstiTopology.{msti_is_sight, msti_port_is}
-use Rattle.mst_nested.specs.Trees.{IsSettled}
+use Rattle.mst_forest.specs.nested.Trees.{IsSettled}
 use Rattle.mst_note_text.specs.Depths.{HasParent}
 use Rattle.mst_note_text.specs.declared.member.Member.{Member}
 use Rattle.mst_note_text.specs.SeenTree.{cist_member, msti_member, seen_member, is_root_port}

@@ -13,13 +13,13 @@ use Rattle.mst_tables.specs.ByTree.{by_tree}
 use Rattle.mst_view.specs.Viewed.{Viewed}
 use Rattle.mst_view.specs.declared.in_view.BridgeInView.{BridgeInView}
 use Rattle.mst_view.specs.declared.in_view.PortInView.{PortInView}
-use Rattle.mst_config.specs.Shared.{same_in}
-use Rattle.mst_config.specs.Regions.{region_of}
-use Rattle.mst_config.proofs.SameRegion.{told}
+use Rattle.mst_forest.specs.config.Shared.{same_in}
+use Rattle.mst_forest.specs.config.Regions.{region_of}
+use Rattle.mst_forest.proofs.config_lemmas.SameRegion.{told}
 use Rattle.mst_vector.specs.Cist.{cist_rules}
 use Rattle.mst_vector.specs.declared.cist.CistBridge.{CistBridge}
-use Rattle.mst_topology.specs.Topology.{HasBridge}
-use Rattle.mst_nested.specs.Trees.{HasTree, SameRegion}
+use Rattle.mst_forest.specs.topology.Topology.{HasBridge}
+use Rattle.mst_forest.specs.nested.Trees.{HasTree, SameRegion}
 use Rattle.mst_forest.specs.Apart.{Apart}
 use Rattle.mst_forest.specs.Cist.{cist_sight, cist_of, cist_bridge}
 use Rattle.mst_forest.specs.Agrees.{AreOf}

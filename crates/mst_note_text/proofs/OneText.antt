@@ -9,7 +9,7 @@ use Rattle.mst_vector.specs.declared.cist.CistVector.{CistVector}
 use Rattle.mst_vector.specs.declared.msti.MstiVector.{MstiVector}
 use Rattle.mst_tables.specs.Tables.{Net, BridgeRow}
 use Rattle.mst_forest.specs.Outcome.{Outcome, trees_of}
-use Rattle.mst_nested.specs.Trees.{Trees, IsSettled, HasTree}
+use Rattle.mst_forest.specs.nested.Trees.{Trees, IsSettled, HasTree}
 use Rattle.mst_rows.specs.Rows.{Row}
 use Rattle.mst_note_text.specs.Chains.{InternalChain, ExternalChain}
 use Rattle.mst_note_text.specs.Depths.{ParentWithin, ParentBetween}

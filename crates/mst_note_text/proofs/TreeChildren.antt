@@ -8,7 +8,7 @@ use Rattle.mst_graph.specs.Groups.{IsThinned, nothing, kept, left_out}
 use Rattle.mst_tables.specs.Tables.{Net, Numbers, BridgeRow}
 use Rattle.mst_view.specs.Viewed.{Viewed, named_bridge}
 use Rattle.mst_view.specs.declared.in_view.BridgeInView.{BridgeInView}
-use Rattle.mst_nested.specs.Trees.{IsSettled}
+use Rattle.mst_forest.specs.nested.Trees.{IsSettled}
 use Rattle.mst_forest.specs.Agrees.{AreOf}
 use Rattle.mst_forest.specs.Forest.{Forest, IsForest}
 use Rattle.mst_forest.specs.Outcome.{trees_of}

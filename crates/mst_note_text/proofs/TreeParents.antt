@@ -8,7 +8,7 @@ use Rattle.std.proofs.lemmas.Bool.{cases_lt}
 use Rattle.mst_ids.specs.Names.{name_cmp}
 use Rattle.mst_view.specs.Viewed.{Viewed}
 use Rattle.mst_view.specs.declared.in_view.PortInView.{PortInView}
-use Rattle.mst_config.specs.Shared.{same_in}
+use Rattle.mst_forest.specs.config.Shared.{same_in}
 use Rattle.mst_forest.specs.Apart.{Apart}
 use Rattle.mst_forest.specs.Forest.{designated_in, Forest}
 use Rattle.mst_forest.proofs.Lists.{some_is, no_some, all_at}

@@ -16,7 +16,7 @@ use Rattle.mst_forest.specs.Seen.{trees_at}
 use Rattle.mst_forest.specs.Outcome.{Outcome, trees_of}
 use Rattle.mst_forest.proofs.Seen.{bridge_seen}
 use Rattle.mst_forest.proofs.Looking.{has_tree_at}
-use Rattle.mst_nested.specs.Trees.{IsSettled}
+use Rattle.mst_forest.specs.nested.Trees.{IsSettled}
 use Rattle.mst_rows.specs.Rows.{Row}
 use Rattle.mst_note_text.specs.AreDepths.{TreeDepths}
 use Rattle.mst_note_text.specs.NotesText.{cist_notes, msti_notes, bridge_notes, tree_notes, trees_notes}

@@ -13,8 +13,8 @@ use Rattle.std.proofs.lemmas.List.{get_or-map, length-map}
 use Rattle.std.proofs.lemmas.List.Elements.{Contains-get_or}
 use Rattle.std.proofs.lemmas.List.Kept.{AllPairs-from_increasing}
 use Rattle.mst_ids.specs.Names.{name_cmp}
-use Rattle.mst_forest.proofs.Lists.{some_is, no_some, all_contained, contains_mapped, passed}
-use Rattle.mst_forest.proofs.Views.{name_is}
+use Rattle.mst_trees.proofs.forest_lemmas.Lists.{some_is, no_some, all_contained, contains_mapped, passed}
+use Rattle.mst_trees.proofs.forest_lemmas.Views.{name_is}
 use Rattle.mst_trees.specs.Bound.{KeepsBound}
 use Rattle.mst_plan.specs.ByName.{KeepsBoundByName}
 

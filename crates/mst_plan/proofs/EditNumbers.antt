@@ -13,11 +13,11 @@ use Rattle.mst_net.specs.tables.declared.refusal.Refusal.TheVariants.{E07, E08, 
 use Rattle.mst_net.proofs.tables_lemmas.Keyed.{get_inserted, same_keys, after_remove}
 use Rattle.mst_net.proofs.tables_lemmas.Keys.{names, name_eq}
 use Rattle.mst_vector.specs.Rules.{Rules}
-use Rattle.mst_forest.specs.Sight.{Sight, tree_of}
-use Rattle.mst_forest.specs.Outcome.{TreeOutcome, IsTreeOutcome}
-use Rattle.mst_forest.specs.Agrees.{Agrees}
-use Rattle.mst_forest.proofs.Lists.{some_is}
-use Rattle.mst_forest.proofs.Sights.{IsSight, bridge_from}
+use Rattle.mst_trees.specs.forest.Sight.{Sight, tree_of}
+use Rattle.mst_trees.specs.forest.Outcome.{TreeOutcome, IsTreeOutcome}
+use Rattle.mst_trees.specs.forest.Agrees.{Agrees}
+use Rattle.mst_trees.proofs.forest_lemmas.Lists.{some_is}
+use Rattle.mst_trees.proofs.forest_lemmas.Sights.{IsSight, bridge_from}
 use Rattle.mst_plan.proofs.ByName.{BridgeNumbers, GoTogether, AreOne}
 
 -- no bridge was there that an edit adds

@@ -2,7 +2,7 @@
 use Rattle.std.proofs.Common.{◌≡◌, ℕ, Bool, true, List, refl, sym, subst}
 use Rattle.mst_config.specs.Shared.{AreRegions}
 use Rattle.mst_net.specs.tables.Tables.{Net, Numbers}
-use Rattle.mst_forest.specs.Forest.{Forest}
+use Rattle.mst_trees.specs.forest.Forest.{Forest}
 use Rattle.mst_plan.specs.Kept.{HasRegions, IsKept, regions_stand_in, settled_by, standing_in}
 use Rattle.mst_plan.specs.Standing.{standing_of}
 use Rattle.mst_plan.specs.declared.kept.KeptPlan.{KeptPlan}

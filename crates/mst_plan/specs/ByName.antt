@@ -4,8 +4,8 @@ use Rattle.std.specs.FinMap as fin
 use Rattle.std.specs.List.{Contains, AllPairs}
 use Rattle.mst_net.specs.tables.Contents.{Contents, IsNumbered}
 use Rattle.mst_net.specs.tables.Tables.{Numbers, IsNetwork}
-use Rattle.mst_forest.specs.Forest.{Forest, IsForest}
-use Rattle.mst_forest.specs.Outcome.{Outcome}
+use Rattle.mst_trees.specs.forest.Forest.{Forest, IsForest}
+use Rattle.mst_trees.specs.forest.Outcome.{Outcome}
 use Rattle.mst_plan.specs.Standing.{Standing, msti_settlings}
 
 -- where the vectors of one tree were `before` and are `after`: as often at least as there are bridges whose vector differs

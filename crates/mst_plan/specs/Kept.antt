@@ -5,7 +5,7 @@ use Rattle.mst_view.specs.Viewed.{IsView}
 use Rattle.mst_lang.specs.declared.line.Edit.{Edit}
 use Rattle.mst_net.specs.tables.Contents.{Contents, Commits, IsNumbered}
 use Rattle.mst_net.specs.tables.Tables.{Net, Numbers, IsNetwork}
-use Rattle.mst_forest.specs.Forest.{Forest}
+use Rattle.mst_trees.specs.forest.Forest.{Forest}
 use Rattle.mst_plan.specs.Plan.{IsPlan}
 use Rattle.mst_plan.specs.Standing.{Standing, nothing, standing_of}
 use Rattle.mst_plan.specs.declared.kept.KeptPlan.{KeptPlan}

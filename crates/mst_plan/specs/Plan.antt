@@ -5,8 +5,8 @@ use Rattle.mst_net.specs.tables.Contents.{Contents, Commits, IsNumbered}
 use Rattle.mst_lang.specs.declared.line.Edit.{Edit}
 use Rattle.mst_view.specs.Viewed.{Viewed, IsView}
 use Rattle.mst_config.specs.Shared.{AreRegions}
-use Rattle.mst_forest.specs.Agrees.{AreOf}
-use Rattle.mst_forest.specs.Forest.{Forest, IsForest}
+use Rattle.mst_trees.specs.forest.Agrees.{AreOf}
+use Rattle.mst_trees.specs.forest.Forest.{Forest, IsForest}
 use Rattle.mst_plan.specs.declared.plan.Plan.{Plan}
 
 -- the view, the regions and the settled trees are those of the network

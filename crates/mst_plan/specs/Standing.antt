@@ -6,7 +6,7 @@ use Rattle.mst_vector.specs.declared.cist.CistVector.{CistVector}
 use Rattle.mst_vector.specs.declared.msti.MstiVector.{MstiVector}
 use Rattle.mst_outcome.specs.Assignment.{Assignment, vector_of}
 use Rattle.mst_trees.specs.Bound.{KeepsBound}
-use Rattle.mst_forest.specs.Forest.{Forest}
+use Rattle.mst_trees.specs.forest.Forest.{Forest}
 
 -- the CIST and the MSTIs, under the numbers of records
 pub record Standing : Type 0 where

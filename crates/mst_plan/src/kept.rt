@@ -9,10 +9,10 @@ ghost use Rattle.mst_trees.specs.Bound.{SettlesNoUnused};
 use crate::plan::{Plan, next_trees, plan_from, regions_now};
 use mst_config::laws::regions_stay;
 use mst_config::{Regions, regions_of, touches_regions};
-use mst_forest::Forest;
 use mst_ids::Tree;
 use mst_lang::Edit;
 use mst_net::{Contents, Network, Ready};
+use mst_trees::Forest;
 use std::alloc::{AllocError, Global};
 use std::mem::replace;
 

@@ -3,12 +3,12 @@ ghost use Rattle.std.specs.Prelude.{ℕ};
 ghost use Rattle.mst_lang.specs.declared.line.Edit.{Edit};
 ghost use Rattle.mst_net.specs.tables.Tables.{IsNetwork};
 ghost use Rattle.mst_net.specs.tables.Contents.{Contents, IsNumbered, Commits};
-ghost use Rattle.mst_forest.specs.Forest.{Forest as ForestOf, IsForest};
-ghost use Rattle.mst_forest.specs.Outcome.{Outcome, IsOutcome};
+ghost use Rattle.mst_trees.specs.forest.Forest.{Forest as ForestOf, IsForest};
+ghost use Rattle.mst_trees.specs.forest.Outcome.{Outcome, IsOutcome};
 ghost use Rattle.mst_plan.specs.ByName.{KeepsBoundByName, KeepBoundsByName, KeepFirstBounds, StandsFor, KeepNumbers};
 ghost use Rattle.mst_plan.specs.Standing.{KeepsBounds, nothing, standing_of, settlings_of, msti_settlings};
 
-use mst_forest::laws::one_outcome;
+use mst_trees::laws::one_outcome;
 
 /// The bound on settlings by names of bridges: between the settled outcomes of a network before an edit and after it there
 /// are at most twice as many settlings in a tree as bridges whose vector differs, and at least as many as those of them that

@@ -6,5 +6,9 @@ pub mod laws;
 mod plan;
 
 pub use kept::KeptPlan;
-pub use mst_trees::{Settler, forest_of, repaired_forest};
+pub use mst_lag::{renew_bridge, renew_lan, view};
+pub use mst_trees::{
+    Forest, Settler, forest_of, is_had, laws as forest_laws, port_role, repaired_forest,
+    trees_in_use,
+};
 pub use plan::{Plan, plan_beside};

@@ -6,7 +6,6 @@ ghost use Rattle.mst_plan.specs.Standing.{standing_of, msti_settlings, KeepsBoun
 ghost use Rattle.mst_trees.specs.Bound.{SettlesNoUnused};
 
 use mst_config::{Regions, regions_of};
-use mst_forest::Forest;
 use mst_lag::laws::{bridge_alone, lan_alone, port_alone, ports_alone, set_alone};
 use mst_lag::{
     leaves_key, leaves_links, leaves_tables, renew_bridge, renew_lan, renew_links, renew_port,
@@ -14,7 +13,7 @@ use mst_lag::{
 };
 use mst_lang::Edit;
 use mst_net::{Contents, Network};
-use mst_trees::repaired_forest;
+use mst_trees::{Forest, repaired_forest};
 use mst_view::View;
 use std::alloc::{AllocError, Global};
 

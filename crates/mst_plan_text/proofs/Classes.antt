@@ -9,9 +9,9 @@ use Rattle.mst_graph.specs.Numbers.{AreNumbers}
 use Rattle.mst_tables.specs.ByTree.{table_in, vlans_in}
 use Rattle.mst_tables.specs.Tables.{Net, Numbers}
 use Rattle.mst_view.specs.Viewed.{Viewed}
-use Rattle.mst_forest.specs.Agrees.{AreOf}
-use Rattle.mst_forest.specs.Outcome.{Outcome}
-use Rattle.mst_forest.specs.Forest.{Forest}
+use Rattle.mst_vlan.specs.forest.Agrees.{AreOf}
+use Rattle.mst_vlan.specs.forest.Outcome.{Outcome}
+use Rattle.mst_vlan.specs.forest.Forest.{Forest}
 use Rattle.mst_text.specs.vlan.classes.Alike.{AreAlike, TellApart}
 use Rattle.mst_text.proofs.vlan_lemmas.classes_lemmas.VidPlaces.{place_of_vid}
 use Rattle.mst_plan_text.specs.Bodies.{pair_of, pairs_at, pairs_of}

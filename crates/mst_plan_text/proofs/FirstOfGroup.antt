@@ -1,7 +1,7 @@
 -- The rows of a group, by its first VID.
 use Rattle.std.proofs.Common.{◌≡◌, ℕ, ◌≤◌, List, [], ◌∷◌, length, get_or, arith}
 use Rattle.mst_tables.specs.Tables.{Net}
-use Rattle.mst_forest.specs.Outcome.{Outcome}
+use Rattle.mst_vlan.specs.forest.Outcome.{Outcome}
 use Rattle.mst_text.specs.VlanRows.{heading}
 use Rattle.mst_text.specs.VlanText.{body_rows}
 use Rattle.mst_plan_text.specs.PlanText.{group_rows, runs_of_group, Islands}

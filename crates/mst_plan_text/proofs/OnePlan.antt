@@ -6,7 +6,7 @@ use Rattle.mst_text.specs.vlan.classes.AllVids.{all_vids}
 use Rattle.mst_graph.specs.Groups.{AreGroups}
 use Rattle.mst_graph.proofs.Alike.{alike_groups}
 use Rattle.mst_tables.specs.Tables.{Net}
-use Rattle.mst_forest.specs.Outcome.{Outcome}
+use Rattle.mst_vlan.specs.forest.Outcome.{Outcome}
 use Rattle.mst_text.specs.vlan.Reach.{AreIslandsOf}
 use Rattle.mst_text.specs.VlanText.{ports_of_vid}
 use Rattle.mst_rows.specs.Rows.{Row}

@@ -6,14 +6,14 @@ use Rattle.mst_view.specs.Trees.{is_among}
 use Rattle.mst_view.specs.Viewed.{Viewed, named_bridge}
 use Rattle.mst_view.specs.declared.in_view.BridgeInView.{BridgeInView}
 use Rattle.mst_tables.specs.Tables.{Net, Numbers, BridgeRow}
-use Rattle.mst_forest.specs.Agrees.{AreOf}
-use Rattle.mst_forest.specs.InUse.{is_in_use, seen_mstis}
-use Rattle.mst_forest.specs.Msti.{has_msti, is_had}
-use Rattle.mst_forest.specs.Seen.{trees_at}
-use Rattle.mst_forest.specs.Forest.{Forest}
-use Rattle.mst_forest.proofs.Entries.{all_weaker}
-use Rattle.mst_forest.proofs.Looking.{has_tree_at}
-use Rattle.mst_forest.proofs.Seen.{SeenBridge, bridges_seen}
+use Rattle.mst_vlan.specs.forest.Agrees.{AreOf}
+use Rattle.mst_vlan.specs.forest.InUse.{is_in_use, seen_mstis}
+use Rattle.mst_vlan.specs.forest.Msti.{has_msti, is_had}
+use Rattle.mst_vlan.specs.forest.Seen.{trees_at}
+use Rattle.mst_vlan.specs.forest.Forest.{Forest}
+use Rattle.mst_vlan.proofs.forest_lemmas.Entries.{all_weaker}
+use Rattle.mst_vlan.proofs.forest_lemmas.Looking.{has_tree_at}
+use Rattle.mst_vlan.proofs.forest_lemmas.Seen.{SeenBridge, bridges_seen}
 use Rattle.mst_plan_text.specs.PlanText.{mstis}
 
 any_alike : {A : Type 0} (f g : A → Bool) (xs : List A) → AllByRecursion (λ x. f x ≡ g x) xs → list_any f xs ≡ list_any g xs

@@ -5,7 +5,7 @@ use Rattle.mst_tables.specs.Tables.{Net}
 use Rattle.mst_view.specs.Viewed.{Viewed}
 use Rattle.mst_view.specs.declared.in_view.PortInView.{PortInView}
 use Rattle.mst_rows.specs.declared.value.ActivePort.{ActivePort}
-use Rattle.mst_forest.specs.Outcome.{Outcome}
+use Rattle.mst_vlan.specs.forest.Outcome.{Outcome}
 use Rattle.mst_text.specs.VlanSeen.{seen_port}
 use Rattle.mst_text.specs.VlanText.{ports_of_vid}
 

@@ -8,12 +8,12 @@ use Rattle.mst_tables.specs.Tables.{Net}
 use Rattle.mst_view.specs.Trees.{is_among}
 use Rattle.mst_rows.specs.Rows.{Row}
 use Rattle.mst_text.specs.vlan.classes.AllVids.{all_vids}
-use Rattle.mst_forest.specs.Outcome.{Outcome}
+use Rattle.mst_vlan.specs.forest.Outcome.{Outcome}
 use Rattle.mst_text.specs.vlan.Reach.{AreIslandsOf}
 use Rattle.mst_text.specs.TreeText.{tree_rows}
 use Rattle.mst_text.specs.VlanRows.{heading}
 use Rattle.mst_text.specs.VlanText.{body_rows, ports_of_vid}
-use Rattle.mst_forest.specs.Msti.{is_had}
+use Rattle.mst_vlan.specs.forest.Msti.{is_had}
 
 -- ---- trees
 

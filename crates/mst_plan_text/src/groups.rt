@@ -1,14 +1,14 @@
 ghost use Rattle.std.specs.Prelude.{◌++◌, ℕ, List, OnOk};
 ghost use Rattle.std.specs.List.{flat_map};
 ghost use Rattle.mst_rows.specs.Rows.{Row};
-ghost use Rattle.mst_forest.specs.Settled.{outcome_of};
+ghost use Rattle.mst_vlan.specs.forest.Settled.{outcome_of};
 ghost use Rattle.mst_plan_text.specs.PlanText.{group_rows, AreIslandsOfEach, Islands};
 
-use mst_forest::Settled;
 use mst_ids::Vid;
 use mst_rows::Rows;
 use mst_text::vlan_laws::islands_of_vid;
 use mst_text::{put_body, put_heading, set_of};
+use mst_vlan::Settled;
 use std::alloc::{AllocError, Global};
 
 /// Puts the rows of these groups of VIDs of equal bodies.

@@ -2,7 +2,7 @@
 ghost use Rattle.std.specs.Prelude.{◌≡◌, List};
 ghost use Rattle.mst_tables.specs.Tables.{Net, IsNetwork};
 ghost use Rattle.mst_rows.specs.Rows.{Row};
-ghost use Rattle.mst_forest.specs.Outcome.{Outcome};
+ghost use Rattle.mst_vlan.specs.forest.Outcome.{Outcome};
 ghost use Rattle.mst_plan_text.specs.PlanText.{ArePlanRows};
 
 use mst_graph::laws::group_lists;

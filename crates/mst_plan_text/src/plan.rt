@@ -1,7 +1,7 @@
 ghost use Rattle.std.specs.Prelude.{◌≡◌, List, ◌++◌, OnOk, IfOk, map};
 ghost use Rattle.mst_graph.specs.Groups.{AreGroups};
 ghost use Rattle.mst_rows.specs.Rows.{Row};
-ghost use Rattle.mst_forest.specs.Settled.{outcome_of};
+ghost use Rattle.mst_vlan.specs.forest.Settled.{outcome_of};
 ghost use Rattle.mst_text.specs.VlanText.{ports_of_vid};
 ghost use Rattle.mst_plan_text.specs.PlanText.{ArePlanRows, AreVidsRows};
 ghost use Rattle.mst_text.specs.vlan.classes.AllVids.{all_vids};
@@ -9,12 +9,12 @@ ghost use Rattle.mst_text.specs.vlan.classes.AllVids.{all_vids};
 use crate::active::actives;
 use crate::groups::put_groups;
 use crate::trees::put_trees;
-use mst_forest::Settled;
 use mst_graph::groups_by_body;
 use mst_ids::Vid;
 use mst_rows::Rows;
 use mst_text::vlan_laws::islands_of_vid;
 use mst_text::{classes_of_vids, vids};
+use mst_vlan::Settled;
 use std::alloc::{AllocError, Global};
 
 /// Puts the rows of a plan: those of the CIST and of each MSTI that some bridge has, in rising order, and then the bodies

@@ -2,14 +2,14 @@ ghost use Rattle.std.specs.Prelude.{◌≡◌, ◌++◌, List, OnOk};
 ghost use Rattle.std.specs.List.{flat_map};
 ghost use Rattle.mst_rows.specs.Rows.{Row};
 ghost use Rattle.mst_text.specs.Held.{AreHolders};
-ghost use Rattle.mst_forest.specs.Settled.{outcome_of};
+ghost use Rattle.mst_vlan.specs.forest.Settled.{outcome_of};
 ghost use Rattle.mst_text.specs.TreeText.{tree_rows};
 ghost use Rattle.mst_plan_text.specs.PlanText.{trees_rows};
 
-use mst_forest::{Settled, mstis_in_use};
 use mst_ids::Tree;
 use mst_rows::Rows;
 use mst_text::{Holders, put_tree_with};
+use mst_vlan::{Settled, mstis_in_use};
 use std::alloc::{AllocError, Global};
 
 /// Puts the rows of the CIST and of each MSTI that some bridge has, in rising order.

@@ -6,8 +6,8 @@ use Rattle.std.specs.Option.{option_map, option_map_or}
 use Rattle.std.specs.FinMap as fin
 use Rattle.std.proofs.lemmas.Bool.{eqb-true}
 use Rattle.mst_ids.specs.declared.name.PortName.{PortName}
-use Rattle.mst_tables.specs.After.{has_bridge}
-use Rattle.mst_tables.specs.Tables.{Net, Numbers, BridgeRow, IsNetwork, port_eq}
+use Rattle.mst_net.specs.tables.After.{has_bridge}
+use Rattle.mst_net.specs.tables.Tables.{Net, Numbers, BridgeRow, IsNetwork, port_eq}
 use Rattle.mst_rows.specs.Rows.{Row}
 use Rattle.mst_view.specs.Trees.{mstis_of, is_among}
 use Rattle.mst_view.specs.View.{LogicalPort, view_ports}

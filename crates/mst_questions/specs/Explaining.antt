@@ -3,8 +3,8 @@ use Rattle.std.specs.Prelude.{◌≡◌, ℕ, ◌==◌, ◌||◌, Bool, true, no
 use Rattle.std.specs.List.{find}
 use Rattle.std.specs.Option.{option_map_or}
 use Rattle.mst_ids.specs.declared.name.PortName.{PortName}
-use Rattle.mst_tables.specs.After.{has_bridge}
-use Rattle.mst_tables.specs.Tables.{Net, port_eq}
+use Rattle.mst_net.specs.tables.After.{has_bridge}
+use Rattle.mst_net.specs.tables.Tables.{Net, port_eq}
 use Rattle.mst_rows.specs.Rows.{Row}
 use Rattle.mst_view.specs.View.{LogicalPort, view_ports}
 use Rattle.mst_forest.specs.Msti.{has_msti}

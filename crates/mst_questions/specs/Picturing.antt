@@ -1,6 +1,6 @@
 -- The pictures of a network.
 use Rattle.std.specs.Prelude.{◌≡◌, ℕ, List}
-use Rattle.mst_tables.specs.Tables.{Net}
+use Rattle.mst_net.specs.tables.Tables.{Net}
 use Rattle.mst_forest.specs.Outcome.{Outcome, IsOutcome}
 use Rattle.mst_picture.specs.Picture.{picture}
 use Rattle.mst_picture.specs.VlanPicture.{IsVlanPicture}

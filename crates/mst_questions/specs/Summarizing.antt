@@ -1,6 +1,6 @@
 -- The summary of a network: the rows that tell its first screen.
 use Rattle.std.specs.Prelude.{List}
-use Rattle.mst_tables.specs.Tables.{Net}
+use Rattle.mst_net.specs.tables.Tables.{Net}
 use Rattle.mst_rows.specs.Rows.{Row}
 use Rattle.mst_forest.specs.Outcome.{Outcome, IsOutcome}
 use Rattle.mst_picture.specs.summary.SummaryText.{AreSummaryRows}

@@ -1,7 +1,7 @@
 -- Why there is no advice.
 use Rattle.std.specs.Prelude.{ℕ, not, List, Option, None, Some, if◌then◌else◌}
-use Rattle.mst_tables.specs.After.{has_bridge}
-use Rattle.mst_tables.specs.Tables.{Net}
+use Rattle.mst_net.specs.tables.After.{has_bridge}
+use Rattle.mst_net.specs.tables.Tables.{Net}
 use Rattle.mst_advise.specs.declared.goal.Goal.{Goal}
 use Rattle.mst_advise.specs.declared.goal.Goal.TheVariants as goal
 use Rattle.mst_questions.specs.Explaining.{has_tree, unexplained_of}

@@ -1,6 +1,6 @@
 ghost use Rattle.std.specs.Prelude.{◌≡◌, ◌++◌, true, not, if◌then◌else◌, List, None, Some, OnOk};
 ghost use Rattle.std.specs.List.{Contains};
-ghost use Rattle.mst_tables.specs.After.{has_bridge};
+ghost use Rattle.mst_net.specs.tables.After.{has_bridge};
 ghost use Rattle.mst_rows.specs.Rows.{Row};
 ghost use Rattle.mst_questions.specs.Explaining.{Explains, has_tree as has_tree_in, has_asked, unexplained_of, code_of, text_of};
 
@@ -8,8 +8,8 @@ use mst_advise::explain_laws::some_explained;
 use mst_advise::{port_named, put_explanation, put_explanations};
 use mst_forest::Settled;
 use mst_ids::{PortName, Tree};
+use mst_net::Contents;
 use mst_rows::Rows;
-use mst_tables::Contents;
 use mst_tool::Planner;
 use mst_view::PortInView;
 use std::alloc::{AllocError, Global};

@@ -4,7 +4,7 @@ ghost use Rattle.mst_questions.specs.Unadvised.{unadvised_of, unrooted_of};
 use crate::explaining::{Unexplained, unexplained_in};
 use mst_advise::Goal;
 use mst_ids::{Name, Tree};
-use mst_tables::Contents;
+use mst_net::Contents;
 use mst_tool::Planner;
 
 /// Why there is no advice, if there is none: for a port as where it is [explained](unexplained_in), for a root that there is no

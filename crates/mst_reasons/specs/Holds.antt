@@ -9,7 +9,7 @@ use Rattle.mst_rows.specs.Rows.{Row}
 use Rattle.mst_graph.specs.Islands.{AreJoined}
 use Rattle.mst_graph.specs.Walks.{bridge_at}
 use Rattle.mst_tables.specs.Tables.{Net}
-use Rattle.mst_config.specs.Regions.{same_region}
+use Rattle.mst_forest.specs.config.Regions.{same_region}
 use Rattle.mst_view.specs.View.{LogicalPort}
 use Rattle.mst_note_text.specs.Children.{HasSteps}
 use Rattle.mst_note_text.specs.Depths.{ParentIn}

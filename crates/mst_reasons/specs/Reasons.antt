@@ -12,7 +12,7 @@ use Rattle.mst_rows.specs.Cells.{Cell, word, number}
 use Rattle.mst_rows.specs.Rows.{Row}
 use Rattle.mst_graph.specs.Groups.{AreGroups, IsThinned}
 use Rattle.mst_tables.specs.Tables.{Net}
-use Rattle.mst_config.specs.Regions.{same_region}
+use Rattle.mst_forest.specs.config.Regions.{same_region}
 use Rattle.mst_view.specs.Aggregation.{same_name}
 use Rattle.mst_view.specs.Trees.{is_among}
 use Rattle.mst_view.specs.View.{LogicalPort}

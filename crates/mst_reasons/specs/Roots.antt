@@ -5,7 +5,7 @@ use Rattle.std.specs.Option.{option_map_or}
 use Rattle.std.specs.FinMap as fin
 use Rattle.mst_tables.specs.ByTree.{by_tree}
 use Rattle.mst_tables.specs.Tables.{Net}
-use Rattle.mst_config.specs.Regions.{same_region}
+use Rattle.mst_forest.specs.config.Regions.{same_region}
 use Rattle.mst_view.specs.Aggregation.{same_name}
 use Rattle.mst_forest.specs.InUse.{id_in}
 use Rattle.mst_forest.specs.Outcome.{Outcome}

@@ -9,7 +9,7 @@ use Rattle.mst_net.specs.tables.After.{table_of}
 use Rattle.mst_net.specs.tables.Tables.{Net, BridgeRow, IsNetwork}
 use Rattle.mst_net.specs.tables.declared.refusal.Refusal.{Refusal}
 use Rattle.mst_net.specs.tables.declared.refusal.Refusal.TheVariants.{E04, E16}
-use Rattle.mst_forest.specs.Outcome.{Outcome, IsOutcome}
+use Rattle.mst_plan_text.specs.forest.Outcome.{Outcome, IsOutcome}
 use Rattle.mst_changes.specs.ChangesText.{all_changes}
 use Rattle.mst_changes.specs.Kept.{entries_of}
 use Rattle.mst_changes.specs.declared.subject.Entry.{Entry}

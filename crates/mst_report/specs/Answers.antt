@@ -9,7 +9,7 @@ use Rattle.mst_net.specs.tables.declared.refusal.Refusal.{Refusal}
 use Rattle.mst_net.specs.tables.declared.refusal.Refusal.TheVariants.{E04, E16}
 use Rattle.mst_rows.specs.Lines.{row_line}
 use Rattle.mst_rows.specs.Rows.{Row}
-use Rattle.mst_forest.specs.Outcome.{Outcome, IsOutcome}
+use Rattle.mst_plan_text.specs.forest.Outcome.{Outcome, IsOutcome}
 use Rattle.mst_changes.specs.ChangesText.{all_changes}
 use Rattle.mst_changes.specs.declared.subject.Entry.{Entry}
 use Rattle.mst_plan_text.specs.text.LagText.{lags_rows}

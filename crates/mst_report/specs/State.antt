@@ -1,7 +1,7 @@
 -- The state of a plan, which queries are asked of.
 use Rattle.std.specs.Prelude.{◌≡◌, List, Option, None, Some, MatchOption}
 use Rattle.mst_net.specs.tables.Tables.{Net, IsNetwork, empty_net}
-use Rattle.mst_forest.specs.Outcome.{Outcome, IsOutcome}
+use Rattle.mst_plan_text.specs.forest.Outcome.{Outcome, IsOutcome}
 use Rattle.mst_changes.specs.Kept.{entries_of}
 use Rattle.mst_changes.specs.declared.subject.Entry.{Entry}
 

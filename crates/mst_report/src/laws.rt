@@ -9,8 +9,8 @@ ghost use Rattle.mst_report.specs.State.{State, IsState, IsMark, IsMarkNow};
 ghost use Rattle.mst_changes.specs.declared.subject.Entry.{Entry};
 
 use mst_changes::laws::entries_tell;
-use mst_forest::laws::{has_outcome, one_outcome};
 use mst_note_text::laws::notes;
+use mst_plan_text::forest_laws::{has_outcome, one_outcome};
 use mst_plan_text::laws::{has_plan, one_plan};
 use mst_plan_text::text_laws::{has_rows, one_rows};
 

@@ -2,20 +2,19 @@ ghost use Rattle.std.specs.Prelude.{◌≡◌, ◌≢◌, ◌≤◌, ◌<◌, �
 ghost use Rattle.mst_net.specs.tables.After.{after};
 ghost use Rattle.mst_net.specs.tables.Contents.{SameContents, CanCommit, Commits, room_for};
 ghost use Rattle.std.specs.Option.{option_map};
-ghost use Rattle.mst_forest.specs.Agrees.{AreOf};
-ghost use Rattle.mst_forest.specs.Forest.{IsForest};
-ghost use Rattle.mst_trees.specs.Bound.{SettlesNoUnused};
-ghost use Rattle.mst_view.specs.Viewed.{IsView};
+ghost use Rattle.mst_plan_text.specs.forest.Agrees.{AreOf};
+ghost use Rattle.mst_plan_text.specs.forest.Forest.{IsForest};
+ghost use Rattle.mst_plan.specs.trees.Bound.{SettlesNoUnused};
+ghost use Rattle.mst_plan_text.specs.view.Viewed.{IsView};
 ghost use Rattle.mst_changes.specs.Stored.{kept_entries};
 
 use crate::laws::entries_of_network;
 use mst_changes::Entries;
-use mst_forest::{Forest, Settled};
 use mst_ids::Tree;
 use mst_lang::Edit;
 use mst_net::{Contents, Network, Refusal};
 use mst_plan::{KeptPlan, Plan};
-use mst_view::View;
+use mst_plan_text::{Forest, Settled, View};
 use std::alloc::{AllocError, Global};
 use std::marker::Model;
 use std::mem;

@@ -5,10 +5,10 @@ use Rattle.std.proofs.lemmas.List.{length-map, take_more}
 use Rattle.std.proofs.lemmas.List.Elements.{filter-append}
 use Rattle.std.proofs.lemmas.List.Sums.{length-filter, fold-append}
 use Rattle.mst_tables.proofs.Rising.{range_more}
-use Rattle.mst_forest.proofs.Lists.{filter_mapped}
-use Rattle.mst_forest.proofs.Looking.{filter_alike}
-use Rattle.mst_forest.specs.AllTrees.{all_trees}
-use Rattle.mst_forest.proofs.AllTrees.{trees_are}
+use Rattle.mst_vlan.proofs.forest_lemmas.Lists.{filter_mapped}
+use Rattle.mst_vlan.proofs.forest_lemmas.Looking.{filter_alike}
+use Rattle.mst_vlan.specs.forest.AllTrees.{all_trees}
+use Rattle.mst_vlan.proofs.forest_lemmas.AllTrees.{trees_are}
 use Rattle.mst_graph.specs.Lists.{has_any}
 
 -- one more tree of those that pass, and all of them

@@ -18,23 +18,23 @@ use Rattle.mst_view.specs.Viewed.{named_bridge, named_lan, named_port}
 use Rattle.mst_view.specs.declared.in_view.BridgeInView.{BridgeInView}
 use Rattle.mst_view.specs.declared.in_view.LanInView.{LanInView}
 use Rattle.mst_view.specs.declared.in_view.PortInView.{PortInView}
-use Rattle.mst_config.specs.Shared.{AreRegions}
-use Rattle.mst_config.specs.Regions.{region_of}
-use Rattle.mst_config.proofs.SameRegion.{has_first, HasFirst}
-use Rattle.mst_forest.specs.InUse.{id_in, seen_has}
-use Rattle.mst_forest.specs.Outcome.{Outcome}
-use Rattle.mst_forest.specs.Settled.{SettledNet, outcome_of, IsSettledNet}
-use Rattle.mst_forest.proofs.Entries.{all_weaker}
-use Rattle.mst_forest.proofs.Lists.{all_passing, filter_mapped, mapped_twice, some_is}
-use Rattle.mst_forest.proofs.Looking.{filter_alike, has_tree_at}
-use Rattle.mst_forest.proofs.Seen.{SeenBridge, SeenPort, bridges_seen, ports_seen}
-use Rattle.mst_forest.proofs.SettledNet.{forest_of}
-use Rattle.mst_forest.specs.Msti.{has_tree}
-use Rattle.mst_forest.proofs.Forwarded.{each_forwards}
+use Rattle.mst_vlan.specs.forest.config.Shared.{AreRegions}
+use Rattle.mst_vlan.specs.forest.config.Regions.{region_of}
+use Rattle.mst_vlan.proofs.forest_lemmas.config_lemmas.SameRegion.{has_first, HasFirst}
+use Rattle.mst_vlan.specs.forest.InUse.{id_in, seen_has}
+use Rattle.mst_vlan.specs.forest.Outcome.{Outcome}
+use Rattle.mst_vlan.specs.forest.Settled.{SettledNet, outcome_of, IsSettledNet}
+use Rattle.mst_vlan.proofs.forest_lemmas.Entries.{all_weaker}
+use Rattle.mst_vlan.proofs.forest_lemmas.Lists.{all_passing, filter_mapped, mapped_twice, some_is}
+use Rattle.mst_vlan.proofs.forest_lemmas.Looking.{filter_alike, has_tree_at}
+use Rattle.mst_vlan.proofs.forest_lemmas.Seen.{SeenBridge, SeenPort, bridges_seen, ports_seen}
+use Rattle.mst_vlan.proofs.forest_lemmas.SettledNet.{forest_of}
+use Rattle.mst_vlan.specs.forest.Msti.{has_tree}
+use Rattle.mst_vlan.proofs.forest_lemmas.Forwarded.{each_forwards}
 use Rattle.mst_vlan.specs.Reach.{is_member, lans_up}
 use Rattle.mst_vlan.specs.Seen.{seen_member}
-use Rattle.mst_forest.specs.AllTrees.{all_trees}
-use Rattle.mst_forest.proofs.Pieces.{filter_map-map}
+use Rattle.mst_vlan.specs.forest.AllTrees.{all_trees}
+use Rattle.mst_vlan.proofs.forest_lemmas.Pieces.{filter_map-map}
 use Rattle.mst_facts.proofs.Named.{names_are}
 use Rattle.mst_summary.specs.Blocked.{is_blocked, blocked, blocked_row}
 use Rattle.mst_summary.specs.Carries.{are_of_two, carriers, carries, goes_over, joins, joining_lans, ports_on}

@@ -4,7 +4,7 @@ use Rattle.std.specs.Prelude.{nat_lt, if◌then◌else◌}
 use Rattle.std.specs.List.{AllByRecursion, Contains, filter, fold}
 use Rattle.std.proofs.lemmas.Bool.Decides.{nat_tests}
 use Rattle.mst_graph.proofs.Members.{from_filter, in_filter, in_none}
-use Rattle.mst_forest.proofs.Lists.{all_contained, all_there, some_is, no_some}
+use Rattle.mst_vlan.proofs.forest_lemmas.Lists.{all_contained, all_there, some_is, no_some}
 use Rattle.mst_summary.specs.declared.roots.Follower.{Follower}
 use Rattle.mst_summary.specs.Roots.{with_lesser, next_of, IsNext}
 

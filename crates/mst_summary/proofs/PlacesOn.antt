@@ -9,11 +9,11 @@ use Rattle.mst_view.specs.Aggregation.{same_name}
 use Rattle.mst_view.specs.Viewed.{Viewed, named_port}
 use Rattle.mst_view.specs.View.{LogicalPort}
 use Rattle.mst_view.specs.declared.in_view.PortInView.{PortInView}
-use Rattle.mst_forest.specs.Forest.{Forest}
-use Rattle.mst_forest.specs.SeenRoles.{seen_forwards}
+use Rattle.mst_vlan.specs.forest.Forest.{Forest}
+use Rattle.mst_vlan.specs.forest.SeenRoles.{seen_forwards}
 use Rattle.mst_vlan.specs.Seen.{seen_member}
 use Rattle.mst_vlan.specs.Carried.{seen_is_link}
-use Rattle.mst_forest.proofs.Looking.{filter_alike}
+use Rattle.mst_vlan.proofs.forest_lemmas.Looking.{filter_alike}
 use Rattle.mst_summary.specs.Carries.{are_of_two}
 use Rattle.mst_summary.specs.declared.crossing.Crossing.{Crossing}
 use Rattle.mst_summary.specs.Places.{is_on, places_on, no_port, with_bridge, with_place, with_places}

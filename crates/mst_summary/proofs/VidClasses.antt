@@ -21,13 +21,13 @@ use Rattle.mst_view.specs.Aggregation.{same_name}
 use Rattle.mst_view.specs.Viewed.{Viewed, named_port}
 use Rattle.mst_view.specs.declared.in_view.BridgeInView.{BridgeInView}
 use Rattle.mst_view.specs.declared.in_view.PortInView.{PortInView}
-use Rattle.mst_forest.specs.Forest.{Forest}
-use Rattle.mst_forest.specs.Settled.{SettledNet, outcome_of, IsSettledNet}
-use Rattle.mst_forest.proofs.Entries.{all_weaker}
-use Rattle.mst_forest.proofs.Lists.{all_contained, all_passing, all_there}
-use Rattle.mst_forest.proofs.Looking.{filter_alike}
-use Rattle.mst_forest.specs.Roles.{forwards}
-use Rattle.mst_forest.specs.SeenRoles.{seen_role, seen_tree}
+use Rattle.mst_vlan.specs.forest.Forest.{Forest}
+use Rattle.mst_vlan.specs.forest.Settled.{SettledNet, outcome_of, IsSettledNet}
+use Rattle.mst_vlan.proofs.forest_lemmas.Entries.{all_weaker}
+use Rattle.mst_vlan.proofs.forest_lemmas.Lists.{all_contained, all_passing, all_there}
+use Rattle.mst_vlan.proofs.forest_lemmas.Looking.{filter_alike}
+use Rattle.mst_vlan.specs.forest.Roles.{forwards}
+use Rattle.mst_vlan.specs.forest.SeenRoles.{seen_role, seen_tree}
 use Rattle.mst_vlan.specs.Reach.{bridges_on, lans_up}
 use Rattle.mst_vlan.specs.Seen.{seen_member}
 use Rattle.mst_vlan.specs.declared.island.Island.{Island as IslandNos}

@@ -9,9 +9,9 @@ use Rattle.mst_rows.specs.Rows.{Row, row_of}
 use Rattle.mst_tables.specs.Tables.{Net}
 use Rattle.mst_view.specs.Aggregation.{same_name}
 use Rattle.mst_view.specs.View.{view_ports, bridge_names}
-use Rattle.mst_config.specs.Regions.{first_of_region}
-use Rattle.mst_forest.specs.Msti.{has_tree}
-use Rattle.mst_forest.specs.AllTrees.{all_trees}
+use Rattle.mst_vlan.specs.forest.config.Regions.{first_of_region}
+use Rattle.mst_vlan.specs.forest.Msti.{has_tree}
+use Rattle.mst_vlan.specs.forest.AllTrees.{all_trees}
 use Rattle.mst_summary.specs.declared.counts.Counts.{Counts}
 
 -- a bridge is the first of its region: each region has one

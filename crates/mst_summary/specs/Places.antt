@@ -4,7 +4,7 @@ use Rattle.std.specs.List.{range_with_len}
 use Rattle.std.specs.Option.{option_map_or, unwrap_or}
 use Rattle.mst_view.specs.Aggregation.{same_name}
 use Rattle.mst_view.specs.Viewed.{Viewed}
-use Rattle.mst_forest.specs.Forest.{Forest}
+use Rattle.mst_vlan.specs.forest.Forest.{Forest}
 use Rattle.mst_vlan.specs.Carried.{seen_is_link}
 use Rattle.mst_summary.specs.declared.crossing.Crossing.{Crossing}
 

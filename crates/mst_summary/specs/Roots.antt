@@ -9,8 +9,8 @@ use Rattle.mst_rows.specs.Cells.{absent, word, number}
 use Rattle.mst_rows.specs.Rows.{Row, row_of}
 use Rattle.mst_tables.specs.Tables.{Net, BridgeRow}
 use Rattle.mst_tables.specs.ByTree.{ByTree, by_tree, priority_in}
-use Rattle.mst_forest.specs.InUse.{id_in}
-use Rattle.mst_forest.specs.Outcome.{Outcome}
+use Rattle.mst_vlan.specs.forest.InUse.{id_in}
+use Rattle.mst_vlan.specs.forest.Outcome.{Outcome}
 use Rattle.mst_facts.specs.Roots.{root_of}
 use Rattle.mst_graph.specs.Lists.{has_any}
 use Rattle.mst_summary.specs.declared.roots.Follower.{Follower}

@@ -9,13 +9,13 @@ use Rattle.mst_view.specs.Aggregation.{same_name}
 use Rattle.mst_view.specs.Viewed.{Viewed, named_port}
 use Rattle.mst_view.specs.declared.in_view.BridgeInView.{BridgeInView}
 use Rattle.mst_view.specs.declared.in_view.PortInView.{PortInView}
-use Rattle.mst_forest.specs.Forest.{Forest}
-use Rattle.mst_forest.specs.InUse.{id_in, seen_has}
-use Rattle.mst_forest.specs.Settled.{SettledNet, outcome_of}
-use Rattle.mst_forest.specs.SeenRoles.{seen_forwards}
+use Rattle.mst_vlan.specs.forest.Forest.{Forest}
+use Rattle.mst_vlan.specs.forest.InUse.{id_in, seen_has}
+use Rattle.mst_vlan.specs.forest.Settled.{SettledNet, outcome_of}
+use Rattle.mst_vlan.specs.forest.SeenRoles.{seen_forwards}
 use Rattle.mst_vlan.specs.Seen.{seen_member}
 use Rattle.mst_vlan.specs.declared.island.Island.{Island}
-use Rattle.mst_forest.specs.AllTrees.{all_trees}
+use Rattle.mst_vlan.specs.forest.AllTrees.{all_trees}
 use Rattle.mst_graph.specs.Lists.{has_any}
 use Rattle.mst_slips.specs.Seen.{seen_first}
 use Rattle.mst_summary.specs.declared.roots.Follower.{Follower}

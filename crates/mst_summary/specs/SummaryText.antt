@@ -4,7 +4,7 @@ use Rattle.std.specs.List.{flat_map}
 use Rattle.mst_rows.specs.Rows.{Row}
 use Rattle.mst_tables.specs.Tables.{Net}
 use Rattle.mst_slips.specs.Slips.{slip_rows}
-use Rattle.mst_forest.specs.Outcome.{Outcome}
+use Rattle.mst_vlan.specs.forest.Outcome.{Outcome}
 use Rattle.mst_summary.specs.Counts.{counts_of, counts_row, used_trees}
 use Rattle.mst_summary.specs.Roots.{root_rows}
 use Rattle.mst_summary.specs.Blocked.{blocked, blocked_row}

@@ -2,16 +2,16 @@ ghost use Rattle.std.specs.Prelude.{◌≡◌, ◌++◌, ◌∷◌, [], List, If
 ghost use Rattle.std.specs.List.{Contains};
 ghost use Rattle.mst_view.specs.Viewed.{named_port};
 ghost use Rattle.mst_rows.specs.Rows.{Row};
-ghost use Rattle.mst_forest.specs.Settled.{outcome_of};
+ghost use Rattle.mst_vlan.specs.forest.Settled.{outcome_of};
 ghost use Rattle.mst_summary.specs.Blocked.{stops as stops_of, is_blocked as blocks, blocked_row};
 ghost use Rattle.mst_summary.specs.Seen.{blocked_of};
 
 use crate::looked_up::role;
-use mst_forest::{Role, Settled};
 use mst_ids::{PortName, Tree};
 use mst_kinds::{Kind, SummaryLine};
 use mst_rows::{Rows, Value, put};
 use mst_view::PortInView;
+use mst_vlan::{Role, Settled};
 use std::alloc::{AllocError, Global};
 
 /// Whether there is a role, and it doesn't forward.

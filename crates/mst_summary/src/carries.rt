@@ -4,7 +4,7 @@ ghost use Rattle.mst_view.specs.Aggregation.{same_name};
 ghost use Rattle.mst_rows.specs.Rows.{Row};
 ghost use Rattle.mst_vlan.specs.Carried.{with_trees};
 ghost use Rattle.mst_vlan.specs.classes.AllVids.{all_vids};
-ghost use Rattle.mst_forest.specs.Settled.{outcome_of};
+ghost use Rattle.mst_vlan.specs.forest.Settled.{outcome_of};
 ghost use Rattle.mst_summary.specs.Carries.{all_carries, are_all as all_vids_are, carried as carried_over, carries_row, carries_rows, full_carries, full_of, full_rows, joining_lans as joining_lans_of};
 ghost use Rattle.mst_summary.specs.Grouped.{group_at};
 ghost use Rattle.mst_vlan.specs.classes.Classes.{AreClasses};
@@ -16,12 +16,11 @@ use crate::joining::joining_lans;
 use crate::kept::ports_by_lan;
 use crate::places::places_by_lan;
 use indexmap::IndexMap;
-use mst_forest::Settled;
 use mst_graph::Numbering;
 use mst_ids::{Name, Vid, VidSet};
 use mst_kinds::{Kind, SummaryLine};
 use mst_rows::{Rows, Value, put};
-use mst_vlan::{Carriage, flagged, set_of, vids};
+use mst_vlan::{Carriage, Settled, flagged, set_of, vids};
 use std::alloc::{AllocError, Global};
 
 /// What is kept of a settled network for all its logical LANs: which ports carry each VID, the classes of VIDs that nothing

@@ -6,12 +6,12 @@ ghost use Rattle.mst_slips.specs.Seen.{seen_first};
 ghost use Rattle.mst_summary.specs.Counts.{counts_row};
 ghost use Rattle.mst_summary.specs.Seen.{seen_counts};
 
-use mst_config::Regions;
 use mst_ids::Tree;
 use mst_kinds::{Kind, SummaryLine};
 use mst_rows::{Rows, Value, put};
 use mst_slips::is_first;
 use mst_view::{BridgeInView, PortInView, View};
+use mst_vlan::Regions;
 use std::alloc::AllocError;
 
 /// How much there is of a network: bridges, those that are on, logical ports, those that are enabled, regions and trees.

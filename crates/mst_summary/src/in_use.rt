@@ -1,11 +1,11 @@
 ghost use Rattle.std.specs.Prelude.{◌≡◌, ◌&&◌, IfOk};
-ghost use Rattle.mst_forest.specs.InUse.{AreInUse};
+ghost use Rattle.mst_vlan.specs.forest.InUse.{AreInUse};
 ghost use Rattle.mst_graph.specs.Lists.{has_any};
 ghost use Rattle.mst_summary.specs.Seen.{seen_used, seen_trees};
 
-use mst_forest::{is_had, trees_in_use};
 use mst_ids::Tree;
 use mst_view::{BridgeInView, View};
+use mst_vlan::{is_had, trees_in_use};
 use std::alloc::{AllocError, Global};
 
 /// Whether there is a bridge.

@@ -2,15 +2,15 @@
 ghost use Rattle.std.specs.Prelude.{◌≡◌, ◌==◌, ℕ, true, List, None, Some};
 ghost use Rattle.std.specs.List.{Contains};
 ghost use Rattle.mst_tables.specs.Tables.{Net, IsNetwork};
-ghost use Rattle.mst_forest.specs.Outcome.{Outcome, IsOutcome};
+ghost use Rattle.mst_vlan.specs.forest.Outcome.{Outcome, IsOutcome};
 ghost use Rattle.mst_rows.specs.Rows.{Row};
 ghost use Rattle.mst_summary.specs.declared.roots.Follower.{Follower};
 ghost use Rattle.mst_summary.specs.Roots.{next_of, IsNext};
 ghost use Rattle.mst_summary.specs.SummaryText.{AreSummaryRows};
 
-use mst_forest::laws::one_outcome;
 use mst_graph::laws::group_lists;
 use mst_ids::Vid;
+use mst_vlan::forest_laws::one_outcome;
 use mst_vlan::laws::islands_of_vid;
 
 /// A network has one list of rows as its summary, whichever settled outcomes it is made by, and there is one.

@@ -1,11 +1,11 @@
 ghost use Rattle.std.specs.Prelude.{◌≡◌};
 ghost use Rattle.std.specs.List.{Contains};
-ghost use Rattle.mst_forest.specs.Roles.{role_of};
-ghost use Rattle.mst_forest.specs.Settled.{outcome_of};
+ghost use Rattle.mst_vlan.specs.forest.Roles.{role_of};
+ghost use Rattle.mst_vlan.specs.forest.Settled.{outcome_of};
 
-use mst_forest::{Role, Settled, port_role};
 use mst_ids::Tree;
 use mst_view::PortInView;
+use mst_vlan::{Role, Settled, port_role};
 
 /// The role of a logical port of the view in a tree, or nothing where its bridge hasn't that tree.
 pub fn role(plan: &Settled, tree: Tree, port: &PortInView) -> Option<Role>

@@ -5,10 +5,9 @@ ghost use Rattle.mst_view.specs.Viewed.{named_port};
 ghost use Rattle.mst_summary.specs.Carries.{are_of_two as ports_of_two};
 ghost use Rattle.mst_summary.specs.Seen.{seen_carries, seen_joins, seen_over};
 
-use mst_forest::{Settled, port_forwards};
 use mst_ids::Vid;
 use mst_view::PortInView;
-use mst_vlan::is_member;
+use mst_vlan::{Settled, is_member, port_forwards};
 use std::alloc::{AllocError, Global};
 
 /// Whether a port is active for a VID and a member of its VLAN.

@@ -4,7 +4,7 @@ ghost use Rattle.mst_view.specs.Viewed.{named_bridge};
 ghost use Rattle.mst_rows.specs.Rows.{Row};
 ghost use Rattle.mst_tables.specs.ByTree.{by_tree};
 ghost use Rattle.mst_graph.specs.Lists.{has_any};
-ghost use Rattle.mst_forest.specs.Settled.{outcome_of};
+ghost use Rattle.mst_vlan.specs.forest.Settled.{outcome_of};
 ghost use Rattle.mst_summary.specs.declared.roots.Follower.{Follower as FollowerIn};
 ghost use Rattle.mst_summary.specs.Grouped.{group_at};
 ghost use Rattle.mst_summary.specs.Roots.{follower as follower_of, followers as followers_in, followers_of as those_of, with_lesser, least as least_of, next_of, priority_of, root_row, group_rows};
@@ -13,11 +13,11 @@ ghost use Rattle.mst_summary.specs.Seen.{seen_root};
 use crate::grouped::{add, group_for};
 use indexmap::IndexMap;
 use mst_facts::root_of;
-use mst_forest::{Settled, bridge_id};
 use mst_ids::{BridgeId, Name, Tree};
 use mst_kinds::{Kind, SummaryLine};
 use mst_rows::{Rows, Value, put};
 use mst_view::BridgeInView;
+use mst_vlan::{Settled, bridge_id};
 use std::alloc::{AllocError, Global};
 
 /// A bridge that names a root in a tree: its name, its own identifier there and that of its root.

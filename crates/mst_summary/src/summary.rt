@@ -1,8 +1,8 @@
 ghost use Rattle.std.specs.Prelude.{◌≡◌, ◌++◌, ℕ, List, OnOk};
 ghost use Rattle.std.specs.List.{flat_map};
-ghost use Rattle.mst_config.specs.Shared.{AreRegions};
+ghost use Rattle.mst_vlan.specs.forest.config.Shared.{AreRegions};
 ghost use Rattle.mst_rows.specs.Rows.{Row};
-ghost use Rattle.mst_forest.specs.Settled.{outcome_of};
+ghost use Rattle.mst_vlan.specs.forest.Settled.{outcome_of};
 ghost use Rattle.mst_summary.specs.Seen.{seen_tree_rows};
 ghost use Rattle.mst_summary.specs.SummaryText.{AreSummaryRows};
 
@@ -12,12 +12,10 @@ use crate::counts::{count, put_counts};
 use crate::in_use::used_trees;
 use crate::islands::put_vlans;
 use crate::roots::put_roots;
-use mst_config::Regions;
-use mst_forest::Settled;
 use mst_ids::Tree;
 use mst_rows::Rows;
 use mst_slips::put_slips;
-use mst_vlan::{Carriage, classes_of_vids};
+use mst_vlan::{Carriage, Regions, Settled, classes_of_vids};
 use std::alloc::{AllocError, Global};
 
 /// Puts the rows of a tree.

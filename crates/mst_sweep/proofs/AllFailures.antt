@@ -6,7 +6,7 @@ use Rattle.mst_net.specs.tables.Tables.{Net, Numbers, BridgeRow, LanRow}
 use Rattle.mst_view.specs.Viewed.{Viewed, IsView, member_lan, named_bridge}
 use Rattle.mst_view.specs.declared.in_view.BridgeInView.{BridgeInView}
 use Rattle.mst_view.specs.declared.in_view.MemberLan.{MemberLan}
-use Rattle.mst_forest.proofs.Lists.{mapped_twice}
+use Rattle.mst_vlan.proofs.forest_lemmas.Lists.{mapped_twice}
 use Rattle.mst_vlan.specs.Reach.{bridges_on}
 use Rattle.mst_sweep.specs.declared.failure.Failure.TheVariants.{Lan, Bridge}
 use Rattle.mst_sweep.specs.Failures.{failures}

@@ -13,9 +13,9 @@ use Rattle.mst_net.specs.tables.After.{after, effect}
 use Rattle.mst_net.specs.tables.Tables.{Net, IsNetwork, BridgeRow, port_eq}
 use Rattle.mst_view.specs.Aggregation.{plugs, same_name}
 use Rattle.mst_view.specs.View.{LogicalPort, IsUnrestricted, logical_port, as_port, view_ports, bridge_names}
-use Rattle.mst_forest.specs.Outcome.{Outcome, IsOutcome}
-use Rattle.mst_forest.proofs.Lists.{kept_in, kept_from, no_some, some_is}
-use Rattle.mst_forest.specs.Roles.{forwards_for}
+use Rattle.mst_vlan.specs.forest.Outcome.{Outcome, IsOutcome}
+use Rattle.mst_vlan.proofs.forest_lemmas.Lists.{kept_in, kept_from, no_some, some_is}
+use Rattle.mst_vlan.specs.forest.Roles.{forwards_for}
 use Rattle.mst_vlan.specs.Active.{active_ports, port_ends, IsEnabled}
 use Rattle.mst_vlan.specs.Reach.{bridges_on, is_member, link_of, vid_links, AreIslandsOf}
 use Rattle.mst_vlan.proofs.ActiveLaw.{active_enabled}

@@ -6,9 +6,9 @@ use Rattle.mst_ids.specs.Vids.{is_vid}
 use Rattle.mst_graph.specs.Groups.{AreGroups}
 use Rattle.mst_graph.proofs.Alike.{alike_groups}
 use Rattle.mst_graph.proofs.Members.{here, there, in_whole}
-use Rattle.mst_forest.proofs.Entries.{all_weaker}
-use Rattle.mst_forest.proofs.Lists.{all_there}
-use Rattle.mst_forest.proofs.Looking.{filter_alike}
+use Rattle.mst_vlan.proofs.forest_lemmas.Entries.{all_weaker}
+use Rattle.mst_vlan.proofs.forest_lemmas.Lists.{all_there}
+use Rattle.mst_vlan.proofs.forest_lemmas.Looking.{filter_alike}
 use Rattle.mst_vlan.specs.classes.AllVids.{all_vids}
 use Rattle.mst_vlan.proofs.classes_lemmas.VidPlaces.{vids_once, is_vid_there, OneGrouping}
 use Rattle.mst_graph.specs.Lists.{has_any}

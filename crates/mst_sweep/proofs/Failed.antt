@@ -16,7 +16,7 @@ use Rattle.mst_net.proofs.tables_lemmas.Keys.{names}
 use Rattle.mst_net.proofs.tables_lemmas.NamesInOrder.{names_stay}
 use Rattle.mst_view.specs.Aggregation.{Plug, plugs, lans_as_one, same_name}
 use Rattle.mst_view.specs.View.{LogicalPort, logical_lan, logical_port, as_port, port_names}
-use Rattle.mst_forest.proofs.Lists.{mapped_twice}
+use Rattle.mst_vlan.proofs.forest_lemmas.Lists.{mapped_twice}
 use Rattle.mst_sweep.specs.declared.failure.Failure.{Failure}
 use Rattle.mst_sweep.specs.declared.failure.Failure.TheVariants.{Lan, Bridge}
 use Rattle.mst_sweep.specs.Failures.{edit_of}

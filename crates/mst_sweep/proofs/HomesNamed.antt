@@ -11,7 +11,7 @@ use Rattle.mst_graph.specs.Islands.{Island}
 use Rattle.mst_net.specs.tables.Tables.{Net, Numbers}
 use Rattle.mst_net.specs.tables.Contents.{IsNumbered}
 use Rattle.mst_view.specs.Aggregation.{same_name}
-use Rattle.mst_forest.proofs.Lists.{some_is}
+use Rattle.mst_vlan.proofs.forest_lemmas.Lists.{some_is}
 use Rattle.mst_vlan.specs.declared.island.Island.{Island as IslandNos}
 
 -- ---- names

@@ -3,8 +3,8 @@ use Rattle.std.proofs.Common.{ℕ, List, subst}
 use Rattle.mst_net.specs.tables.Tables.{Net, Numbers}
 use Rattle.mst_vlan.specs.Carried.{ViewWithTrees}
 use Rattle.mst_facts.specs.declared.planned.Planned.{Planned}
-use Rattle.mst_forest.specs.Agrees.{AreOf}
-use Rattle.mst_forest.specs.Forest.{IsForest}
+use Rattle.mst_vlan.specs.forest.Agrees.{AreOf}
+use Rattle.mst_vlan.specs.forest.Forest.{IsForest}
 use Rattle.mst_sweep.specs.Baseline.{AreHomes}
 use Rattle.mst_sweep.specs.Breaking.{IsCarriageOf}
 

@@ -9,7 +9,7 @@ use Rattle.mst_graph.proofs.Members.{in_map, from_map, passing}
 use Rattle.mst_graph.proofs.Walks.{back}
 use Rattle.mst_net.specs.tables.Tables.{Net}
 use Rattle.mst_view.specs.Aggregation.{same_name}
-use Rattle.mst_forest.specs.Outcome.{Outcome}
+use Rattle.mst_vlan.specs.forest.Outcome.{Outcome}
 use Rattle.mst_vlan.specs.Reach.{bridges_on, lans_up, vid_links, AreIslandsOf}
 use Rattle.mst_vlan.proofs.Renumbered.{bridge_listed}
 use Rattle.mst_sweep.specs.Parts.{home}

@@ -19,21 +19,21 @@ use Rattle.mst_view.specs.Trees.{is_among, mstis_of}
 use Rattle.mst_view.specs.View.{LogicalPort, view_ports}
 use Rattle.mst_view.specs.Viewed.{Viewed, named_port}
 use Rattle.mst_view.specs.declared.in_view.PortInView.{PortInView}
-use Rattle.mst_forest.specs.Agrees.{AreOf}
-use Rattle.mst_forest.specs.Forest.{Forest, IsForest}
-use Rattle.mst_forest.specs.InUse.{is_in_use, seen_mstis}
-use Rattle.mst_forest.specs.Msti.{has_msti}
-use Rattle.mst_forest.specs.Outcome.{Outcome}
-use Rattle.mst_forest.proofs.Lists.{mapped_twice, some_is}
-use Rattle.mst_forest.proofs.Seen.{port_of_net, port_seen, port_there}
-use Rattle.mst_forest.specs.Roles.{forwards, forwards_for, cist_role, msti_role, role_in, tree_of_vid}
-use Rattle.mst_forest.specs.SeenRoles.{seen_role, seen_forwards}
-use Rattle.mst_forest.proofs.Forwarded.{each_forwards}
-use Rattle.mst_forest.proofs.Named.{each_same}
+use Rattle.mst_vlan.specs.forest.Agrees.{AreOf}
+use Rattle.mst_vlan.specs.forest.Forest.{Forest, IsForest}
+use Rattle.mst_vlan.specs.forest.InUse.{is_in_use, seen_mstis}
+use Rattle.mst_vlan.specs.forest.Msti.{has_msti}
+use Rattle.mst_vlan.specs.forest.Outcome.{Outcome}
+use Rattle.mst_vlan.proofs.forest_lemmas.Lists.{mapped_twice, some_is}
+use Rattle.mst_vlan.proofs.forest_lemmas.Seen.{port_of_net, port_seen, port_there}
+use Rattle.mst_vlan.specs.forest.Roles.{forwards, forwards_for, cist_role, msti_role, role_in, tree_of_vid}
+use Rattle.mst_vlan.specs.forest.SeenRoles.{seen_role, seen_forwards}
+use Rattle.mst_vlan.proofs.forest_lemmas.Forwarded.{each_forwards}
+use Rattle.mst_vlan.proofs.forest_lemmas.Named.{each_same}
 use Rattle.mst_vlan.specs.Active.{active_ports}
 use Rattle.mst_vlan.specs.Reach.{is_member, link_of, vid_links}
 use Rattle.mst_vlan.specs.Seen.{seen_member}
-use Rattle.mst_forest.proofs.NotInUse.{unused}
+use Rattle.mst_vlan.proofs.forest_lemmas.NotInUse.{unused}
 use Rattle.mst_sweep.specs.Touched.{AreWhereTouched, BreakNoLinks, seen_is_link, seen_beside_link}
 use Rattle.mst_sweep.specs.Left.{AreLeft}
 use Rattle.mst_sweep.proofs.Positions.{any_passes}

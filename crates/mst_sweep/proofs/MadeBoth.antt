@@ -9,8 +9,8 @@ use Rattle.mst_net.specs.tables.After.{after, first_of, has_bridge, has_lan}
 use Rattle.mst_net.specs.tables.Tables.{Net, BridgeRow, LanRow}
 use Rattle.mst_net.specs.tables.declared.refusal.Refusal.TheVariants.{E04, E06}
 use Rattle.mst_net.proofs.tables_lemmas.Keys.{names}
-use Rattle.mst_forest.proofs.Entries.{entries_found}
-use Rattle.mst_forest.proofs.Lists.{all_contained}
+use Rattle.mst_vlan.proofs.forest_lemmas.Entries.{entries_found}
+use Rattle.mst_vlan.proofs.forest_lemmas.Lists.{all_contained}
 use Rattle.mst_vlan.specs.Reach.{bridges_on}
 use Rattle.mst_sweep.specs.declared.failure.Failure.{Failure}
 use Rattle.mst_sweep.specs.declared.failure.Failure.TheVariants.{Lan, Bridge}

@@ -18,17 +18,17 @@ use Rattle.mst_view.specs.View.{LogicalPort, logical_port, as_port, view_ports, 
 use Rattle.mst_view.specs.Viewed.{Viewed, named_port}
 use Rattle.mst_view.specs.declared.in_view.BridgeInView.{BridgeInView}
 use Rattle.mst_view.specs.declared.in_view.PortInView.{PortInView}
-use Rattle.mst_forest.specs.Agrees.{AreOf}
-use Rattle.mst_forest.specs.Forest.{Forest, IsForest}
-use Rattle.mst_forest.specs.Msti.{has_msti}
-use Rattle.mst_forest.specs.Outcome.{Outcome}
-use Rattle.mst_forest.proofs.Entries.{all_weaker}
-use Rattle.mst_forest.proofs.Lists.{all_there, mapped_twice}
-use Rattle.mst_forest.proofs.Named.{own_role}
-use Rattle.mst_forest.specs.Roles.{role_of, role_in, cist_role, msti_role}
-use Rattle.mst_forest.specs.SeenRoles.{seen_role}
-use Rattle.mst_forest.specs.AllTrees.{all_trees}
-use Rattle.mst_forest.proofs.AllTrees.{trees_are}
+use Rattle.mst_vlan.specs.forest.Agrees.{AreOf}
+use Rattle.mst_vlan.specs.forest.Forest.{Forest, IsForest}
+use Rattle.mst_vlan.specs.forest.Msti.{has_msti}
+use Rattle.mst_vlan.specs.forest.Outcome.{Outcome}
+use Rattle.mst_vlan.proofs.forest_lemmas.Entries.{all_weaker}
+use Rattle.mst_vlan.proofs.forest_lemmas.Lists.{all_there, mapped_twice}
+use Rattle.mst_vlan.proofs.forest_lemmas.Named.{own_role}
+use Rattle.mst_vlan.specs.forest.Roles.{role_of, role_in, cist_role, msti_role}
+use Rattle.mst_vlan.specs.forest.SeenRoles.{seen_role}
+use Rattle.mst_vlan.specs.forest.AllTrees.{all_trees}
+use Rattle.mst_vlan.proofs.forest_lemmas.AllTrees.{trees_are}
 use Rattle.mst_facts.specs.declared.both.Both.{Both}
 use Rattle.mst_facts.specs.Roots.{root_of}
 use Rattle.mst_facts.specs.Both.{seen_in_both, seen_both}

@@ -5,7 +5,7 @@ use Rattle.std.specs.List.{AllZip, count_by, filter_map, flat_map}
 use Rattle.mst_graph.specs.Groups.{AreGroups}
 use Rattle.mst_graph.specs.Islands.{Island}
 use Rattle.mst_net.specs.tables.Tables.{Net, IsNetwork}
-use Rattle.mst_forest.specs.Outcome.{Outcome, IsOutcome}
+use Rattle.mst_vlan.specs.forest.Outcome.{Outcome, IsOutcome}
 use Rattle.mst_vlan.specs.Reach.{AreIslandsOf}
 use Rattle.mst_vlan.proofs.classes_lemmas.VidPlaces.{OneGrouping}
 use Rattle.mst_view.specs.View.{bridge_names}

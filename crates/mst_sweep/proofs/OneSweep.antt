@@ -12,9 +12,9 @@ use Rattle.mst_lang.specs.declared.line.Edit.{Edit}
 use Rattle.mst_net.specs.tables.After.{after}
 use Rattle.mst_net.specs.tables.Tables.{Net, BridgeRow, LanRow, IsNetwork}
 use Rattle.mst_net.proofs.tables_lemmas.Keys.{names}
-use Rattle.mst_forest.specs.Outcome.{Outcome, IsOutcome}
-use Rattle.mst_forest.proofs.Entries.{entries_found}
-use Rattle.mst_forest.proofs.Lists.{all_contained}
+use Rattle.mst_vlan.specs.forest.Outcome.{Outcome, IsOutcome}
+use Rattle.mst_vlan.proofs.forest_lemmas.Entries.{entries_found}
+use Rattle.mst_vlan.proofs.forest_lemmas.Lists.{all_contained}
 use Rattle.mst_vlan.specs.Reach.{AreIslandsOf, bridges_on}
 use Rattle.mst_vlan.proofs.classes_lemmas.VidPlaces.{OneGrouping}
 use Rattle.mst_view.specs.View.{bridge_names}

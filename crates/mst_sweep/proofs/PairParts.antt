@@ -18,13 +18,13 @@ use Rattle.mst_view.specs.Viewed.{Viewed}
 use Rattle.mst_view.specs.declared.in_view.BridgeInView.{BridgeInView}
 use Rattle.mst_vlan.specs.classes.Alike.{AreAlike, TellApart}
 use Rattle.mst_vlan.specs.Reach.{AreIslandsOf}
-use Rattle.mst_forest.specs.Agrees.{AreOf}
-use Rattle.mst_forest.specs.Forest.{Forest}
-use Rattle.mst_forest.specs.Outcome.{Outcome}
+use Rattle.mst_vlan.specs.forest.Agrees.{AreOf}
+use Rattle.mst_vlan.specs.forest.Forest.{Forest}
+use Rattle.mst_vlan.specs.forest.Outcome.{Outcome}
 use Rattle.mst_vlan.proofs.classes_lemmas.VidPlaces.{place_of_vid}
 use Rattle.mst_vlan.proofs.classes_lemmas.VidPlaces.{zip_at}
-use Rattle.mst_forest.proofs.Lists.{kept_in, kept_from, no_some, some_is}
-use Rattle.mst_forest.proofs.Seen.{bridge_seen}
+use Rattle.mst_vlan.proofs.forest_lemmas.Lists.{kept_in, kept_from, no_some, some_is}
+use Rattle.mst_vlan.proofs.forest_lemmas.Seen.{bridge_seen}
 use Rattle.mst_facts.proofs.Named.{names_are}
 use Rattle.mst_vlan.proofs.OneList.{OneList}
 use Rattle.mst_view.specs.View.{bridge_names}

@@ -7,9 +7,9 @@ use Rattle.mst_net.specs.tables.Tables.{Net, Numbers}
 use Rattle.mst_view.specs.Aggregation.{same_name}
 use Rattle.mst_view.specs.Viewed.{Viewed, IsView}
 use Rattle.mst_view.specs.declared.in_view.BridgeInView.{BridgeInView}
-use Rattle.mst_forest.proofs.Lists.{apart_cases}
-use Rattle.mst_forest.proofs.Seen.{BridgesRise, bridges_apart}
-use Rattle.mst_forest.proofs.Views.{names_differ}
+use Rattle.mst_vlan.proofs.forest_lemmas.Lists.{apart_cases}
+use Rattle.mst_vlan.proofs.forest_lemmas.Seen.{BridgesRise, bridges_apart}
+use Rattle.mst_vlan.proofs.forest_lemmas.Views.{names_differ}
 use Rattle.mst_facts.specs.declared.both.Both.{Both}
 use Rattle.mst_facts.specs.Both.{seen_in_both}
 use Rattle.mst_facts.proofs.Lists.{find-found}

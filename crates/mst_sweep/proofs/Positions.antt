@@ -2,7 +2,7 @@
 use Rattle.std.proofs.Common.{◌≡◌, ℕ, ◌+◌, ◌≤◌, ◌||◌, Bool, true, false, cond, List, [], ◌∷◌, ◌++◌, Some, refl, sym, ap, ◌∙◌, true≢false, arith, inl, inr}
 use Rattle.std.specs.List.{Contains, find, flat_map, list_any, position_from}
 use Rattle.mst_graph.proofs.Members.{in_none, here, there, cases}
-use Rattle.mst_forest.proofs.Lists.{no_some, some_is}
+use Rattle.mst_vlan.proofs.forest_lemmas.Lists.{no_some, some_is}
 use Rattle.mst_graph.specs.Lists.{has_any}
 
 -- ---- the first place at which a test passes

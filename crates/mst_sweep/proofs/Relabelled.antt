@@ -4,7 +4,7 @@ use Rattle.std.specs.Prelude.{if◌then◌else◌}
 use Rattle.std.specs.List.{Contains, cons_option, filter, filter_map, find, flat_map, list_any}
 use Rattle.std.specs.Option.{option_and_then, option_map, option_map_or}
 use Rattle.mst_graph.proofs.Members.{here, there}
-use Rattle.mst_forest.proofs.Lists.{kept_from}
+use Rattle.mst_vlan.proofs.forest_lemmas.Lists.{kept_from}
 use Rattle.mst_view.specs.Aggregation.{same_name}
 use Rattle.mst_sweep.specs.Parts.{all_parts, are_together, came_apart, part_led}
 use Rattle.mst_sweep.specs.declared.parts.Stays.{Stays}

@@ -16,17 +16,17 @@ use Rattle.mst_view.specs.View.{LogicalPort, bridge_names}
 use Rattle.mst_view.specs.Viewed.{Viewed, named_port}
 use Rattle.mst_view.specs.declared.in_view.BridgeInView.{BridgeInView}
 use Rattle.mst_view.specs.declared.in_view.PortInView.{PortInView}
-use Rattle.mst_forest.specs.Agrees.{AreOf}
-use Rattle.mst_forest.specs.Forest.{Forest}
-use Rattle.mst_forest.specs.Outcome.{Outcome}
-use Rattle.mst_forest.proofs.Entries.{all_weaker, entries_found}
-use Rattle.mst_forest.proofs.Lists.{all_there, all_contained, all_mapped, all_unmapped, kept_same, mapped_twice, no_some}
-use Rattle.mst_forest.proofs.Seen.{bridge_seen}
+use Rattle.mst_vlan.specs.forest.Agrees.{AreOf}
+use Rattle.mst_vlan.specs.forest.Forest.{Forest}
+use Rattle.mst_vlan.specs.forest.Outcome.{Outcome}
+use Rattle.mst_vlan.proofs.forest_lemmas.Entries.{all_weaker, entries_found}
+use Rattle.mst_vlan.proofs.forest_lemmas.Lists.{all_there, all_contained, all_mapped, all_unmapped, kept_same, mapped_twice, no_some}
+use Rattle.mst_vlan.proofs.forest_lemmas.Seen.{bridge_seen}
 use Rattle.mst_vlan.specs.Reach.{bridges_on, lans_up, vid_links, AreIslandsOf}
 use Rattle.mst_vlan.proofs.Renumbered.{bridge_listed}
 use Rattle.mst_vlan.specs.classes.Alike.{AreAlike}
 use Rattle.mst_vlan.proofs.LinksAlike.{links_shared}
-use Rattle.mst_forest.proofs.Pieces.{filter_map-map}
+use Rattle.mst_vlan.proofs.forest_lemmas.Pieces.{filter_map-map}
 use Rattle.mst_facts.specs.declared.both.Both.{Both}
 use Rattle.mst_facts.specs.Both.{seen_in_both, seen_both}
 use Rattle.mst_facts.proofs.Lists.{filter_map-filter_map, find-found}

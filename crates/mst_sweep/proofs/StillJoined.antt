@@ -6,8 +6,8 @@ use Rattle.mst_graph.specs.Islands.{Island, Link, AreJoined, link_ends}
 use Rattle.mst_graph.specs.Walks.{Node, bridge_at, lan_at, stay, along}
 use Rattle.mst_graph.proofs.Walks.{joined_to, stays}
 use Rattle.mst_net.specs.tables.Tables.{Net}
-use Rattle.mst_forest.specs.Outcome.{Outcome}
-use Rattle.mst_forest.proofs.Lists.{kept_from, some_is}
+use Rattle.mst_vlan.specs.forest.Outcome.{Outcome}
+use Rattle.mst_vlan.proofs.forest_lemmas.Lists.{kept_from, some_is}
 use Rattle.mst_vlan.specs.Reach.{vid_links, AreIslandsOf}
 use Rattle.mst_view.specs.View.{bridge_names}
 use Rattle.mst_graph.specs.Lists.{has_any}

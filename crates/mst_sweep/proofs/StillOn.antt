@@ -5,8 +5,8 @@ use Rattle.std.specs.List.{Contains, filter, list_any}
 use Rattle.std.specs.Option.{option_map}
 use Rattle.mst_graph.proofs.Members.{in_map, from_map, in_filter, from_filter}
 use Rattle.mst_net.specs.tables.Tables.{Net, BridgeRow}
-use Rattle.mst_forest.proofs.Lists.{all_contained, no_some, some_is}
-use Rattle.mst_forest.proofs.Views.{bridges_are, entry_there}
+use Rattle.mst_vlan.proofs.forest_lemmas.Lists.{all_contained, no_some, some_is}
+use Rattle.mst_vlan.proofs.forest_lemmas.Views.{bridges_are, entry_there}
 use Rattle.mst_vlan.specs.Reach.{bridges_on}
 use Rattle.mst_sweep.specs.Failing.{fails_bridge, off_if}
 use Rattle.mst_sweep.specs.Pairs.{failed}

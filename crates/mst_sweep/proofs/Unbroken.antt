@@ -4,10 +4,10 @@ use Rattle.std.specs.List.{AllByRecursion}
 use Rattle.std.specs.Option.{option_map_or}
 use Rattle.std.proofs.lemmas.Bool.{eqb-true, eq-eqb}
 use Rattle.std.proofs.lemmas.List.{take_more, take_all}
-use Rattle.mst_forest.proofs.Pieces.{all_append}
+use Rattle.mst_vlan.proofs.forest_lemmas.Pieces.{all_append}
 use Rattle.mst_graph.specs.Lists.{has_any}
-use Rattle.mst_forest.proofs.Entries.{all_weaker}
-use Rattle.mst_forest.proofs.Lists.{all_contained, some_is}
+use Rattle.mst_vlan.proofs.forest_lemmas.Entries.{all_weaker}
+use Rattle.mst_vlan.proofs.forest_lemmas.Lists.{all_contained, some_is}
 use Rattle.mst_sweep.specs.Parts.{all_parts}
 use Rattle.mst_sweep.specs.declared.parts.Stays.{Stays}
 use Rattle.mst_sweep.proofs.CutApart.{two_apart, both_true, not_true}

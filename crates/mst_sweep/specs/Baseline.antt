@@ -8,9 +8,9 @@ use Rattle.mst_graph.specs.Numbers.{AreNumbers}
 use Rattle.mst_net.specs.tables.ByTree.{table_in, vlans_in}
 use Rattle.mst_net.specs.tables.Tables.{Net, Numbers}
 use Rattle.mst_view.specs.Viewed.{Viewed}
-use Rattle.mst_forest.specs.Agrees.{AreOf}
-use Rattle.mst_forest.specs.Forest.{Forest, IsForest}
-use Rattle.mst_forest.specs.Outcome.{Outcome}
+use Rattle.mst_vlan.specs.forest.Agrees.{AreOf}
+use Rattle.mst_vlan.specs.forest.Forest.{Forest, IsForest}
+use Rattle.mst_vlan.specs.forest.Outcome.{Outcome}
 use Rattle.mst_vlan.specs.Reach.{AreIslandsOf}
 use Rattle.mst_vlan.specs.classes.Alike.{TellApart}
 use Rattle.mst_sweep.specs.Parts.{home}

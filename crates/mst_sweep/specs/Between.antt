@@ -3,9 +3,9 @@ use Rattle.std.specs.Prelude.{[], ◌∷◌}
 use Rattle.mst_graph.specs.declared.keys.Numbering.{Numbering}
 use Rattle.mst_net.specs.tables.Tables.{Net, Numbers}
 use Rattle.mst_facts.specs.declared.planned.Planned.{Planned}
-use Rattle.mst_forest.specs.Agrees.{AreOf}
-use Rattle.mst_forest.specs.Forest.{IsForest}
-use Rattle.mst_forest.specs.Outcome.{Outcome}
+use Rattle.mst_vlan.specs.forest.Agrees.{AreOf}
+use Rattle.mst_vlan.specs.forest.Forest.{IsForest}
+use Rattle.mst_vlan.specs.forest.Outcome.{Outcome}
 use Rattle.mst_sweep.specs.CutClasses.{AreKeptAlone, kept_of}
 use Rattle.mst_sweep.specs.Pairs.{Pair, Outcomes, failed}
 use Rattle.mst_sweep.specs.declared.single.Single.{Single}

@@ -5,7 +5,7 @@ use Rattle.mst_ids.specs.Vids.{is_vid}
 use Rattle.mst_graph.specs.Numbers.{AreNumbers}
 use Rattle.mst_graph.specs.declared.keys.Numbering.{Numbering}
 use Rattle.mst_net.specs.tables.Tables.{Net, Numbers}
-use Rattle.mst_forest.specs.Outcome.{Outcome}
+use Rattle.mst_vlan.specs.forest.Outcome.{Outcome}
 use Rattle.mst_sweep.specs.Baseline.{AreHomes}
 use Rattle.mst_sweep.specs.Pairs.{Outcomes, Pair, ArePairParts}
 use Rattle.mst_sweep.specs.Parts.{AreParts}

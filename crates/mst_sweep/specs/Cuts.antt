@@ -13,7 +13,7 @@ use Rattle.mst_rows.specs.Rows.{Row, row_of}
 use Rattle.mst_graph.specs.Groups.{AreGroups}
 use Rattle.mst_net.specs.tables.Tables.{Net}
 use Rattle.mst_view.specs.Trees.{is_among}
-use Rattle.mst_forest.specs.Outcome.{Outcome}
+use Rattle.mst_vlan.specs.forest.Outcome.{Outcome}
 use Rattle.mst_vlan.specs.classes.AllVids.{all_vids}
 use Rattle.mst_graph.specs.Lists.{has_any}
 use Rattle.mst_sweep.specs.declared.cuts.CutBy.{CutBy}

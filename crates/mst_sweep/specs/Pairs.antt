@@ -15,7 +15,7 @@ use Rattle.mst_lang.specs.declared.line.Power.TheVariants.{Off}
 use Rattle.mst_lang.specs.declared.line.LanState.TheVariants.{Down}
 use Rattle.mst_net.specs.tables.After.{after, change, bridge_with, lan_with}
 use Rattle.mst_net.specs.tables.Tables.{Net, BridgeRow, LanRow}
-use Rattle.mst_forest.specs.Outcome.{Outcome, IsOutcome}
+use Rattle.mst_vlan.specs.forest.Outcome.{Outcome, IsOutcome}
 use Rattle.mst_vlan.specs.Reach.{AreIslandsOf}
 use Rattle.mst_view.specs.View.{bridge_names}
 use Rattle.mst_graph.specs.Lists.{has_any}

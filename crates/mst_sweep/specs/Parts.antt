@@ -5,7 +5,7 @@ use Rattle.std.specs.Option.{option_map, option_map_or, option_and_then}
 use Rattle.mst_graph.specs.Islands.{Island}
 use Rattle.mst_net.specs.tables.Tables.{Net}
 use Rattle.mst_view.specs.Aggregation.{same_name}
-use Rattle.mst_forest.specs.Outcome.{Outcome}
+use Rattle.mst_vlan.specs.forest.Outcome.{Outcome}
 use Rattle.mst_vlan.specs.Reach.{AreIslandsOf}
 use Rattle.mst_view.specs.View.{bridge_names}
 use Rattle.mst_sweep.specs.declared.parts.Stays.{Stays}

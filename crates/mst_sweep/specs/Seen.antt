@@ -5,8 +5,8 @@ use Rattle.std.specs.Map.{lookup}
 use Rattle.std.specs.Option.{option_map, option_map_or, option_and_then}
 use Rattle.mst_view.specs.Viewed.{Viewed}
 use Rattle.mst_view.specs.declared.in_view.PortInView.{PortInView}
-use Rattle.mst_forest.specs.Forest.{Forest}
-use Rattle.mst_forest.specs.SeenRoles.{seen_role}
+use Rattle.mst_vlan.specs.forest.Forest.{Forest}
+use Rattle.mst_vlan.specs.forest.SeenRoles.{seen_role}
 use Rattle.mst_vlan.specs.declared.island.Island.{Island}
 use Rattle.mst_facts.specs.declared.both.Both.{Both}
 use Rattle.mst_facts.specs.Named.{seen_root}

@@ -8,7 +8,7 @@ use Rattle.mst_rows.specs.Cells as cell
 use Rattle.mst_rows.specs.Rows.{Row, row_of}
 use Rattle.mst_net.specs.tables.After.{after}
 use Rattle.mst_net.specs.tables.Tables.{Net}
-use Rattle.mst_forest.specs.Outcome.{Outcome, IsOutcome}
+use Rattle.mst_vlan.specs.forest.Outcome.{Outcome, IsOutcome}
 use Rattle.mst_graph.specs.Lists.{has_any}
 use Rattle.mst_sweep.specs.declared.failure.Failure.{Failure}
 use Rattle.mst_sweep.specs.declared.failure.Failure.TheVariants.{Lan, Bridge}

@@ -1,8 +1,8 @@
 ghost use Rattle.std.specs.Prelude.{◌≡◌, ◌<◌, ◌+◌, IfOk, length, map, slice_index, vec_len};
 ghost use Rattle.std.specs.List.{All, AllZip};
 ghost use Rattle.mst_net.specs.tables.Tables.{Net, Numbers};
-ghost use Rattle.mst_forest.specs.Agrees.{AreOf, Known};
-ghost use Rattle.mst_forest.specs.Forest.{IsForest};
+ghost use Rattle.mst_vlan.specs.forest.Agrees.{AreOf, Known};
+ghost use Rattle.mst_vlan.specs.forest.Forest.{IsForest};
 ghost use Rattle.mst_sweep.specs.Baseline.{AreHomes, IsBaseline};
 
 use crate::homes::homes_by;

@@ -2,7 +2,7 @@ ghost use Rattle.std.specs.Prelude.{◌≡◌, ◌++◌, ◌<◌, ◌+◌, ◌�
 ghost use Rattle.std.specs.Option.{ForSome, option_copied};
 ghost use Rattle.mst_ids.specs.Vids.{runs_from};
 ghost use Rattle.mst_rows.specs.Rows.{Row};
-ghost use Rattle.mst_forest.specs.Agrees.{Known};
+ghost use Rattle.mst_vlan.specs.forest.Agrees.{Known};
 ghost use Rattle.mst_vlan.specs.classes.AllVids.{NumberEach};
 ghost use Rattle.mst_graph.specs.Lists.{has_any};
 ghost use Rattle.mst_facts.specs.Both.{seen_both};

@@ -1,6 +1,6 @@
 ghost use Rattle.std.specs.Prelude.{◌≡◌, ◌<◌, ◌+◌, ℕ, false, true, IfOk, length, slice_index, slice_index_or, vec_len};
 ghost use Rattle.std.specs.Option.{ForSome};
-ghost use Rattle.mst_forest.specs.Agrees.{Known};
+ghost use Rattle.mst_vlan.specs.forest.Agrees.{Known};
 ghost use Rattle.mst_sweep.specs.Baseline.{IsBaseline};
 ghost use Rattle.mst_sweep.specs.Breaking.{HasNoParts, IsCarriageOf};
 ghost use Rattle.mst_sweep.specs.Touched.{AreWhereTouched};

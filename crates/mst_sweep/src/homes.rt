@@ -3,8 +3,8 @@ ghost use Rattle.std.specs.List.{list_any};
 ghost use Rattle.std.specs.Option.{option_or};
 ghost use Rattle.indexmap.specs.IndexMap.{get};
 ghost use Rattle.mst_net.specs.tables.Tables.{Net, Numbers};
-ghost use Rattle.mst_forest.specs.Agrees.{AreOf, Known};
-ghost use Rattle.mst_forest.specs.Forest.{IsForest};
+ghost use Rattle.mst_vlan.specs.forest.Agrees.{AreOf, Known};
+ghost use Rattle.mst_vlan.specs.forest.Forest.{IsForest};
 ghost use Rattle.mst_sweep.specs.Seen.{seen_home};
 ghost use Rattle.mst_sweep.specs.Baseline.{AreHomes};
 

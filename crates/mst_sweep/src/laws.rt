@@ -4,7 +4,7 @@ ghost use Rattle.std.specs.List.{Contains, flat_map, sum_by};
 ghost use Rattle.mst_net.specs.tables.After.{after};
 ghost use Rattle.mst_net.specs.tables.Tables.{Net, IsNetwork};
 ghost use Rattle.mst_view.specs.View.{IsUnrestricted};
-ghost use Rattle.mst_forest.specs.Outcome.{Outcome, IsOutcome};
+ghost use Rattle.mst_vlan.specs.forest.Outcome.{Outcome, IsOutcome};
 ghost use Rattle.mst_graph.specs.Lists.{has_any};
 ghost use Rattle.mst_sweep.specs.Apart.{AllAreMembers, ComeApart};
 ghost use Rattle.mst_sweep.specs.Failures.{edit_of, failures};
@@ -15,10 +15,10 @@ ghost use Rattle.mst_rows.specs.Rows.{Row};
 ghost use Rattle.mst_sweep.specs.SweepText.{AreFailureRows, IsSweep};
 ghost use Rattle.mst_sweep.specs.SweepParts.{PartOf, IsPart, ToldOfPart, whole_part, part_of, IsSweepPart, AreSweepParts, but_last_row};
 
-use mst_forest::laws::{has_outcome, one_outcome};
 use mst_graph::laws::group_lists;
 use mst_ids::Vid;
 use mst_net::laws::networks;
+use mst_vlan::forest_laws::{has_outcome, one_outcome};
 use mst_vlan::laws::{islands_of_vid, joined_without_loop};
 
 /// A failure has one list of rows, whichever settled outcomes it is made by, and cuts some VID by each or by none; and there is one.

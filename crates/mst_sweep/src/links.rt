@@ -3,10 +3,9 @@ ghost use Rattle.std.specs.List.{list_any};
 ghost use Rattle.mst_sweep.specs.Touched.{seen_is_link, seen_beside_link, seen_breaks, BreaksNoLink, BreakNoLinks};
 
 use mst_facts::Planned;
-use mst_forest::port_forwards;
 use mst_ids::Vid;
 use mst_view::PortInView;
-use mst_vlan::is_member;
+use mst_vlan::{is_member, port_forwards};
 
 /// Whether a port forwards for a VID and is a member of its VLAN: then it links its bridge and its LAN.
 fn is_link(plan: &Planned, port: &PortInView, vid: Vid) -> bool

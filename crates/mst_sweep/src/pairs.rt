@@ -1,6 +1,6 @@
 ghost use Rattle.std.specs.Prelude.{◌≡◌, Some, IfOk, IfSome};
 ghost use Rattle.mst_view.specs.Aggregation.{same_name};
-ghost use Rattle.mst_forest.specs.Agrees.{Known};
+ghost use Rattle.mst_vlan.specs.forest.Agrees.{Known};
 ghost use Rattle.mst_facts.specs.Both.{seen_both, seen_in_both};
 
 use mst_facts::{Both, Planned};

@@ -2,10 +2,10 @@ ghost use Rattle.std.specs.Prelude.{◌≡◌, ◌≤◌, ◌<◌, ◌∷◌, Ok
 ghost use Rattle.std.specs.List.{Contains, count_by};
 ghost use Rattle.mst_ids.specs.declared.name.PortName.{PortName};
 ghost use Rattle.mst_net.specs.tables.After.{after};
-ghost use Rattle.mst_forest.specs.Agrees.{Known};
-ghost use Rattle.mst_forest.specs.InUse.{AreInUse, seen_mstis};
+ghost use Rattle.mst_vlan.specs.forest.Agrees.{Known};
+ghost use Rattle.mst_vlan.specs.forest.InUse.{AreInUse, seen_mstis};
 ghost use Rattle.mst_view.specs.View.{port_names};
-ghost use Rattle.mst_forest.specs.RoleNumbers.{role_number};
+ghost use Rattle.mst_vlan.specs.forest.RoleNumbers.{role_number};
 ghost use Rattle.mst_sweep.specs.Between.{OfNetworks};
 ghost use Rattle.mst_sweep.specs.declared.failure.Failure.{Failure as FailureOf};
 ghost use Rattle.mst_sweep.specs.Failures.{edit_of};
@@ -14,9 +14,9 @@ ghost use Rattle.mst_sweep.specs.Seen.{seen_port_moved};
 ghost use Rattle.mst_sweep.specs.Touched.{AreTouched};
 
 use mst_facts::Planned;
-use mst_forest::{Role, is_had, port_role, trees_in_use};
 use mst_ids::Tree;
 use mst_view::PortInView;
+use mst_vlan::{Role, is_had, port_role, trees_in_use};
 
 /// Whether a role is other than Disabled.
 fn takes_part(role: Role) -> bool

@@ -1,6 +1,6 @@
 ghost use Rattle.std.specs.Prelude.{◌≡◌, IfOk};
 ghost use Rattle.std.specs.List.{list_any};
-ghost use Rattle.mst_forest.specs.InUse.{AreInUse};
+ghost use Rattle.mst_vlan.specs.forest.InUse.{AreInUse};
 ghost use Rattle.mst_view.specs.View.{bridge_names};
 ghost use Rattle.mst_facts.specs.Both.{seen_both};
 ghost use Rattle.mst_sweep.specs.Between.{OfNetworks};
@@ -8,8 +8,8 @@ ghost use Rattle.mst_sweep.specs.Moved.{is_other_root, root_moved as root_moved_
 ghost use Rattle.mst_sweep.specs.Seen.{seen_root_moved};
 
 use mst_facts::{Both, Planned, root};
-use mst_forest::{is_had, trees_in_use};
 use mst_ids::{BridgeId, Tree};
+use mst_vlan::{is_had, trees_in_use};
 use std::alloc::{AllocError, Global};
 
 /// Whether there are two roots that aren't the same.

@@ -3,7 +3,7 @@ ghost use Rattle.std.specs.List.{count_by};
 ghost use Rattle.mst_ids.specs.Vids.{runs_from};
 ghost use Rattle.mst_rows.specs.Rows.{Row};
 ghost use Rattle.mst_net.specs.tables.After.{after};
-ghost use Rattle.mst_forest.specs.Agrees.{Known};
+ghost use Rattle.mst_vlan.specs.forest.Agrees.{Known};
 ghost use Rattle.mst_sweep.specs.Between.{OfNetworks};
 ghost use Rattle.mst_sweep.specs.Failures.{edit_of};
 ghost use Rattle.mst_sweep.specs.Baseline.{IsBaseline};

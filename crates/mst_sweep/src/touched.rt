@@ -1,12 +1,12 @@
 ghost use Rattle.std.specs.Prelude.{◌≡◌, ℕ, false, IfOk, length, vec_len};
-ghost use Rattle.mst_forest.specs.InUse.{seen_mstis};
-ghost use Rattle.mst_forest.specs.SeenRoles.{seen_role};
+ghost use Rattle.mst_vlan.specs.forest.InUse.{seen_mstis};
+ghost use Rattle.mst_vlan.specs.forest.SeenRoles.{seen_role};
 ghost use Rattle.mst_sweep.specs.Touched.{differ, KeepsRoles, HaveSameRoles, AreTouched, ArePlaces};
 
 use mst_facts::Planned;
-use mst_forest::{Role, mstis_in_use, port_role};
 use mst_ids::Tree;
 use mst_view::PortInView;
+use mst_vlan::{Role, mstis_in_use, port_role};
 use std::alloc::{AllocError, Global};
 
 /// Whether two roles aren't the same, or just one of them is there.

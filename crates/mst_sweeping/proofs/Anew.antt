@@ -13,14 +13,14 @@ use Rattle.mst_view.specs.View.{LogicalPort, view_ports, bridge_names}
 use Rattle.mst_view.specs.Viewed.{Viewed, named_port}
 use Rattle.mst_view.specs.declared.in_view.BridgeInView.{BridgeInView}
 use Rattle.mst_view.specs.declared.in_view.PortInView.{PortInView}
-use Rattle.mst_forest.specs.Agrees.{AreOf}
-use Rattle.mst_forest.specs.Forest.{Forest}
+use Rattle.mst_plan.specs.forest.Agrees.{AreOf}
+use Rattle.mst_plan.specs.forest.Forest.{Forest}
 use Rattle.mst_sweep.specs.facts.declared.both.Both.{Both}
 use Rattle.mst_sweep.specs.facts.Told.{same_told}
 use Rattle.mst_sweep.specs.facts.Both.{seen_in_both, seen_both}
-use Rattle.mst_forest.proofs.Entries.{all_weaker}
-use Rattle.mst_forest.proofs.Lists.{all_there, filter_mapped, mapped_twice}
-use Rattle.mst_forest.proofs.Seen.{bridge_seen}
+use Rattle.mst_plan.proofs.forest_lemmas.Entries.{all_weaker}
+use Rattle.mst_plan.proofs.forest_lemmas.Lists.{all_there, filter_mapped, mapped_twice}
+use Rattle.mst_plan.proofs.forest_lemmas.Seen.{bridge_seen}
 use Rattle.mst_sweep.proofs.facts_lemmas.Lists.{find-map, list_any-map}
 use Rattle.mst_sweep.proofs.facts_lemmas.Named.{found_named, names_are}
 use Rattle.mst_sweeping.specs.declared.ports.BothPorts.{BothPorts}

@@ -13,11 +13,11 @@ use Rattle.mst_sweep.specs.vlan.Reach.{is_member, vid_links}
 use Rattle.mst_sweep.specs.vlan.Seen.{seen_active}
 use Rattle.mst_sweep.proofs.vlan_lemmas.Listed.{active_listed}
 use Rattle.mst_sweep.proofs.vlan_lemmas.LinksAlike.{members_shared, links_shared}
-use Rattle.mst_forest.specs.Agrees.{AreOf}
-use Rattle.mst_forest.specs.Forest.{Forest, IsForest}
-use Rattle.mst_forest.specs.Outcome.{Outcome}
+use Rattle.mst_plan.specs.forest.Agrees.{AreOf}
+use Rattle.mst_plan.specs.forest.Forest.{Forest, IsForest}
+use Rattle.mst_plan.specs.forest.Outcome.{Outcome}
 use Rattle.mst_sweep.specs.vlan.classes.Alike.{AreAlike}
-use Rattle.mst_forest.proofs.Lists.{filter_mapped}
+use Rattle.mst_plan.proofs.forest_lemmas.Lists.{filter_mapped}
 use Rattle.mst_sweeping.specs.declared.links.Link.{Link}
 use Rattle.mst_sweeping.specs.Links.{link_of, carried}
 use Rattle.mst_sweep.specs.vlan.classes.Classes.{HasOnly}

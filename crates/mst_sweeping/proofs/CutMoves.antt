@@ -5,7 +5,7 @@ use Rattle.mst_ids.specs.Vids.{is_vid}
 use Rattle.mst_graph.proofs.Members.{from_filter, here, in_filter, in_none}
 use Rattle.mst_net.specs.tables.Tables.{Net}
 use Rattle.mst_rows.specs.Rows.{Row}
-use Rattle.mst_forest.specs.Outcome.{Outcome}
+use Rattle.mst_plan.specs.forest.Outcome.{Outcome}
 use Rattle.mst_sweep.specs.vlan.classes.AllVids.{all_vids}
 use Rattle.mst_graph.specs.Lists.{has_any}
 use Rattle.mst_sweep.proofs.vlan_lemmas.classes_lemmas.VidPlaces.{is_vid_there}

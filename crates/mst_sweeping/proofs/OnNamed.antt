@@ -6,9 +6,9 @@ use Rattle.mst_net.specs.tables.Tables.{Net, Numbers, BridgeRow}
 use Rattle.mst_view.specs.Aggregation.{same_name}
 use Rattle.mst_view.specs.Viewed.{Viewed, named_bridge}
 use Rattle.mst_view.specs.declared.in_view.BridgeInView.{BridgeInView}
-use Rattle.mst_forest.specs.Agrees.{AreOf}
-use Rattle.mst_forest.specs.Forest.{Forest}
-use Rattle.mst_forest.proofs.Lists.{filter_mapped, mapped_twice}
+use Rattle.mst_plan.specs.forest.Agrees.{AreOf}
+use Rattle.mst_plan.specs.forest.Forest.{Forest}
+use Rattle.mst_plan.proofs.forest_lemmas.Lists.{filter_mapped, mapped_twice}
 use Rattle.mst_sweep.proofs.facts_lemmas.Lists.{list_any-map}
 use Rattle.mst_sweep.specs.vlan.Reach.{bridges_on}
 use Rattle.mst_sweeping.specs.Links.{is_on, stays}

@@ -4,12 +4,12 @@ use Rattle.std.specs.List.{Contains, flat_map}
 use Rattle.std.proofs.lemmas.List.{append-nil}
 use Rattle.mst_net.specs.tables.Tables.{Net}
 use Rattle.mst_rows.specs.Rows.{Row}
-use Rattle.mst_forest.specs.Outcome.{Outcome}
+use Rattle.mst_plan.specs.forest.Outcome.{Outcome}
 use Rattle.mst_sweep.specs.vlan.classes.AllVids.{all_vids}
 use Rattle.mst_graph.specs.Lists.{has_any}
-use Rattle.mst_forest.proofs.Entries.{all_weaker}
-use Rattle.mst_forest.proofs.Lists.{all_there}
-use Rattle.mst_forest.proofs.Looking.{filter_alike}
+use Rattle.mst_plan.proofs.forest_lemmas.Entries.{all_weaker}
+use Rattle.mst_plan.proofs.forest_lemmas.Lists.{all_there}
+use Rattle.mst_plan.proofs.forest_lemmas.Looking.{filter_alike}
 use Rattle.mst_sweep.proofs.vlan_lemmas.classes_lemmas.VidPlaces.{is_vid_there, OneGrouping}
 use Rattle.mst_sweep.proofs.vlan_lemmas.OneList.{OneList}
 use Rattle.mst_sweep.specs.declared.cuts.CutBy.TheVariants as by

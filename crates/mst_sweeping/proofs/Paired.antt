@@ -6,7 +6,7 @@ use Rattle.std.specs.Option.{option_map}
 use Rattle.std.proofs.lemmas.List.{length-map, length-drop, map-append, get_or-map, drop-drop}
 use Rattle.std.proofs.lemmas.Nat.{div-mul-add}
 use Rattle.mst_net.specs.tables.Tables.{Net, Numbers, BridgeRow, LanRow, IsNetwork}
-use Rattle.mst_forest.specs.Outcome.{Outcome}
+use Rattle.mst_plan.specs.forest.Outcome.{Outcome}
 use Rattle.mst_sweep.specs.vlan.Reach.{bridges_on}
 use Rattle.mst_sweep.specs.declared.baseline.Baseline.{Baseline}
 use Rattle.mst_sweep.specs.declared.failure.Failure.{Failure}

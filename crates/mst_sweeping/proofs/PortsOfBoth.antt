@@ -8,14 +8,14 @@ use Rattle.mst_net.specs.tables.Tables.{Net, Numbers, port_eq}
 use Rattle.mst_view.specs.View.{LogicalPort, port_names}
 use Rattle.mst_view.specs.Viewed.{Viewed, named_port}
 use Rattle.mst_view.specs.declared.in_view.PortInView.{PortInView}
-use Rattle.mst_forest.specs.Agrees.{AreOf}
-use Rattle.mst_forest.specs.Forest.{Forest, IsForest}
-use Rattle.mst_forest.specs.Roles.{role_of, role_in}
-use Rattle.mst_forest.specs.SeenRoles.{seen_role}
-use Rattle.mst_forest.specs.declared.kind.Role.{Role}
-use Rattle.mst_forest.proofs.Entries.{all_weaker}
-use Rattle.mst_forest.proofs.Lists.{all_there, mapped_twice}
-use Rattle.mst_forest.proofs.Named.{own_role, port_is}
+use Rattle.mst_plan.specs.forest.Agrees.{AreOf}
+use Rattle.mst_plan.specs.forest.Forest.{Forest, IsForest}
+use Rattle.mst_plan.specs.forest.Roles.{role_of, role_in}
+use Rattle.mst_plan.specs.forest.SeenRoles.{seen_role}
+use Rattle.mst_plan.specs.forest.declared.kind.Role.{Role}
+use Rattle.mst_plan.proofs.forest_lemmas.Entries.{all_weaker}
+use Rattle.mst_plan.proofs.forest_lemmas.Lists.{all_there, mapped_twice}
+use Rattle.mst_plan.proofs.forest_lemmas.Named.{own_role, port_is}
 use Rattle.mst_sweep.proofs.facts_lemmas.Lists.{find-found, find-map}
 use Rattle.mst_sweep.specs.Moved.{is_other_role, port_moved}
 use Rattle.mst_sweep.proofs.Moved.{few_ports}

@@ -10,11 +10,11 @@ use Rattle.mst_net.specs.tables.Tables.{Net, Numbers, port_eq}
 use Rattle.mst_view.specs.Aggregation.{same_name}
 use Rattle.mst_view.specs.Viewed.{Viewed}
 use Rattle.mst_sweep.specs.vlan.Reach.{bridges_on, lans_up, vid_links, AreIslandsOf}
-use Rattle.mst_forest.specs.Agrees.{AreOf}
-use Rattle.mst_forest.specs.Forest.{Forest, IsForest}
-use Rattle.mst_forest.specs.Outcome.{Outcome}
+use Rattle.mst_plan.specs.forest.Agrees.{AreOf}
+use Rattle.mst_plan.specs.forest.Forest.{Forest, IsForest}
+use Rattle.mst_plan.specs.forest.Outcome.{Outcome}
 use Rattle.mst_sweep.specs.vlan.classes.Alike.{AreAlike}
-use Rattle.mst_forest.proofs.Named.{port_is, port_same}
+use Rattle.mst_plan.proofs.forest_lemmas.Named.{port_is, port_same}
 use Rattle.mst_sweep.specs.Parts.{AreParts}
 use Rattle.mst_sweep.proofs.StillJoined.{no_parts}
 use Rattle.mst_sweeping.specs.declared.links.Link.{Link}

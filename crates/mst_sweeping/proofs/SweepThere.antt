@@ -8,9 +8,9 @@ use Rattle.mst_net.specs.tables.Tables.{Net, BridgeRow, LanRow, IsNetwork}
 use Rattle.mst_net.specs.tables.declared.refusal.Refusal.TheVariants.{E04, E06}
 use Rattle.mst_net.proofs.tables_lemmas.Keys.{names}
 use Rattle.mst_rows.specs.Rows.{Row}
-use Rattle.mst_forest.specs.Outcome.{Outcome, IsOutcome}
-use Rattle.mst_forest.proofs.Entries.{entries_found}
-use Rattle.mst_forest.proofs.Lists.{all_mapped, all_passing}
+use Rattle.mst_plan.specs.forest.Outcome.{Outcome, IsOutcome}
+use Rattle.mst_plan.proofs.forest_lemmas.Entries.{entries_found}
+use Rattle.mst_plan.proofs.forest_lemmas.Lists.{all_mapped, all_passing}
 use Rattle.mst_sweep.specs.vlan.Reach.{bridges_on}
 use Rattle.mst_sweep.specs.declared.failure.Failure.{Failure}
 use Rattle.mst_sweep.specs.declared.failure.Failure.TheVariants.{Lan, Bridge}

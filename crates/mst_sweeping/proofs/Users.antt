@@ -8,9 +8,9 @@ use Rattle.std.proofs.lemmas.List.{take_more}
 use Rattle.std.proofs.lemmas.List.Elements.{Contains-append_cases, Contains-append_left, Contains-append_right}
 use Rattle.mst_graph.proofs.Members.{cases, here, in_none, passing}
 use Rattle.mst_view.specs.Aggregation.{same_name}
-use Rattle.mst_forest.proofs.Entries.{all_weaker}
-use Rattle.mst_forest.proofs.Lists.{all_there}
-use Rattle.mst_forest.proofs.Looking.{filter_alike}
+use Rattle.mst_plan.proofs.forest_lemmas.Entries.{all_weaker}
+use Rattle.mst_plan.proofs.forest_lemmas.Lists.{all_there}
+use Rattle.mst_plan.proofs.forest_lemmas.Looking.{filter_alike}
 use Rattle.mst_sweep.proofs.CutApart.{both_true, not_true}
 use Rattle.mst_sweep.proofs.Positions.{any_passes}
 use Rattle.mst_sweeping.specs.declared.links.Link.{Link}

@@ -11,8 +11,8 @@ use Rattle.mst_net.specs.tables.Tables.{Net, Numbers}
 use Rattle.mst_config.specs.Shared.{AreRegions}
 use Rattle.mst_config.specs.Touching.{touches_regions}
 use Rattle.mst_view.specs.Viewed.{Viewed, IsView}
-use Rattle.mst_lag.proofs.LanAlone as lan_alone
-use Rattle.mst_lag.proofs.BridgeAlone as bridge_alone
+use Rattle.mst_plan.proofs.lag_lemmas.LanAlone as lan_alone
+use Rattle.mst_plan.proofs.lag_lemmas.BridgeAlone as bridge_alone
 use Rattle.mst_sweep.specs.declared.failure.Failure.{Failure}
 use Rattle.mst_sweep.specs.declared.failure.Failure.TheVariants.{Lan, Bridge}
 use Rattle.mst_sweep.specs.Failures.{edit_of}

@@ -5,7 +5,7 @@ use Rattle.std.specs.List.{list_any}
 use Rattle.mst_net.specs.tables.Tables.{Net, port_eq}
 use Rattle.mst_view.specs.Aggregation.{same_name}
 use Rattle.mst_view.specs.View.{LogicalPort}
-use Rattle.mst_forest.specs.Outcome.{Outcome}
+use Rattle.mst_plan.specs.forest.Outcome.{Outcome}
 use Rattle.mst_sweep.specs.vlan.Active.{active_ports}
 use Rattle.mst_sweep.specs.vlan.Reach.{bridges_on, is_member}
 use Rattle.mst_sweeping.specs.declared.links.Link.{Link}

@@ -2,7 +2,7 @@
 use Rattle.std.specs.Prelude.{◌≡◌, ℕ, ◌||◌, not, Bool, true, List, filter}
 use Rattle.mst_ids.specs.Vids.{is_vid}
 use Rattle.mst_net.specs.tables.Tables.{Net}
-use Rattle.mst_forest.specs.Outcome.{Outcome}
+use Rattle.mst_plan.specs.forest.Outcome.{Outcome}
 use Rattle.mst_sweep.specs.vlan.classes.AllVids.{all_vids}
 use Rattle.mst_graph.specs.Lists.{has_any}
 use Rattle.mst_sweep.specs.Parts.{AreParts}

@@ -3,7 +3,7 @@ use Rattle.std.specs.Prelude.{◌≡◌, ◌≤◌, ℕ, Bool, List, [], ◌∷�
 use Rattle.std.specs.List.{AllByRecursion, AllZip, range_with_len}
 use Rattle.mst_net.specs.tables.Tables.{Net, Numbers}
 use Rattle.mst_rows.specs.Rows.{Row}
-use Rattle.mst_forest.specs.Outcome.{Outcome, IsOutcome}
+use Rattle.mst_plan.specs.forest.Outcome.{Outcome, IsOutcome}
 use Rattle.mst_sweep.specs.declared.baseline.Baseline.{Baseline}
 use Rattle.mst_sweep.specs.Baseline.{IsBaseline}
 use Rattle.mst_sweep.specs.CutClasses.{AreKeptAlone, kept_of}

@@ -12,7 +12,7 @@ use Rattle.mst_view.specs.Aggregation.{same_name}
 use Rattle.mst_view.specs.Viewed.{Viewed}
 use Rattle.mst_view.specs.declared.in_view.PortInView.{PortInView}
 use Rattle.mst_sweep.specs.vlan.Seen.{seen_active, seen_member}
-use Rattle.mst_forest.specs.Forest.{Forest}
+use Rattle.mst_plan.specs.forest.Forest.{Forest}
 use Rattle.mst_sweep.specs.facts.declared.both.Both.{Both}
 use Rattle.mst_sweep.specs.facts.Told.{same_told}
 use Rattle.mst_sweep.specs.Seen.{seen_port_moved}

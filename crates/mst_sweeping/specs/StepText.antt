@@ -8,7 +8,7 @@ use Rattle.mst_ids.specs.declared.name.PortName.{PortName}
 use Rattle.mst_rows.specs.Cells.{lines, number, ports as ports_cell, trees, vids}
 use Rattle.mst_rows.specs.Rows.{Row, row_of}
 use Rattle.mst_net.specs.tables.Tables.{Net}
-use Rattle.mst_forest.specs.Outcome.{Outcome}
+use Rattle.mst_plan.specs.forest.Outcome.{Outcome}
 use Rattle.mst_graph.specs.Lists.{has_any}
 use Rattle.mst_sweep.specs.declared.cuts.CutBy.{CutBy}
 use Rattle.mst_sweep.specs.declared.cuts.CutBy.TheVariants as by

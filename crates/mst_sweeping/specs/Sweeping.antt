@@ -4,7 +4,7 @@ use Rattle.std.specs.List.{AllZip, count_by, flat_map, range_with_len}
 use Rattle.mst_net.specs.tables.After.{after}
 use Rattle.mst_net.specs.tables.Tables.{Net, Numbers}
 use Rattle.mst_rows.specs.Rows.{Row}
-use Rattle.mst_forest.specs.Outcome.{Outcome, IsOutcome}
+use Rattle.mst_plan.specs.forest.Outcome.{Outcome, IsOutcome}
 use Rattle.mst_sweep.specs.declared.failure.Failure.{Failure}
 use Rattle.mst_sweep.specs.Failures.{edit_of}
 use Rattle.mst_sweep.specs.Pairs.{failed}
@@ -12,7 +12,7 @@ use Rattle.mst_sweep.specs.SweepText.{Told, IsTold, IsSweep}
 use Rattle.mst_sweep.specs.SweepParts.{PartOf, ToldOfPart, IsSweepPart}
 use Rattle.mst_sweep.specs.declared.failure.Failure.TheVariants.{Lan, Bridge}
 use Rattle.mst_view.specs.Viewed.{Viewed}
-use Rattle.mst_lag.specs.Renewed.{IsViewButLan, IsViewButBridge}
+use Rattle.mst_plan.specs.lag.Renewed.{IsViewButLan, IsViewButBridge}
 
 -- these are the rows of what each single failure does, and this is the number of those that cut some VID, by a settled outcome
 -- of the network

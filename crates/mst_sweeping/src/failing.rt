@@ -7,10 +7,8 @@ ghost use Rattle.mst_sweeping.specs.Sweeping.{IsViewBut};
 
 use mst_config::Regions;
 use mst_config::laws::regions_stay;
-use mst_forest::Forest;
-use mst_lag::{renew_bridge, renew_lan};
 use mst_net::{Contents, Network};
-use mst_plan::{Plan, repaired_forest};
+use mst_plan::{Forest, Plan, renew_bridge, renew_lan, repaired_forest};
 use mst_sweep::{Failing, Failure};
 use mst_view::View;
 use std::alloc::{AllocError, Global};

@@ -7,7 +7,7 @@ ghost use Rattle.mst_sweeping.specs.Pairing.{SweepsPairs, SweepPairsParts};
 ghost use Rattle.mst_sweeping.specs.Sweeping.{Sweeps, SweepsPart, SweepParts};
 ghost use Rattle.mst_sweep.specs.SweepParts.{PartOf, ToldOfPart, whole_part, but_last_row};
 ghost use Rattle.mst_net.specs.tables.After.{after};
-ghost use Rattle.mst_forest.specs.Outcome.{Outcome, IsOutcome};
+ghost use Rattle.mst_plan.specs.forest.Outcome.{Outcome, IsOutcome};
 ghost use Rattle.mst_sweep.specs.Failures.{edit_of};
 ghost use Rattle.mst_sweep.specs.declared.failure.Failure.{Failure as FailureOf};
 ghost use Rattle.mst_sweep.specs.SweepText.{AreFailureRows};
@@ -15,9 +15,9 @@ ghost use Rattle.mst_sweeping.specs.StepText.{AreStepRows, IsAsInSweep};
 ghost use Rattle.mst_sweeping.specs.declared.step.Deed.{Deed as DeedOf};
 ghost use Rattle.mst_sweeping.specs.declared.step.Stepped.{Stepped as SteppedOf};
 
-use mst_forest::laws::{has_outcome, one_outcome};
 use mst_graph::laws::group_lists;
 use mst_ids::Vid;
+use mst_plan::forest_laws::{has_outcome, one_outcome};
 use mst_sweep::laws::one_failure;
 use mst_sweep::vlan_laws::islands_of_vid;
 

@@ -24,7 +24,7 @@ mod told;
 pub use between::put_between;
 pub use failing::{trees_failed, without_failure};
 pub use links::Link;
-pub use mst_plan::{Plan, plan_beside};
+pub use mst_plan::{Plan, plan_beside, view};
 pub use mst_sweep::{Carriage, Failure, SweepPart, failures};
 pub use pairing::sweep_pairs;
 pub use step::{Deed, PolicyCounts, Step, Stepped, Walked, put_last, put_step};

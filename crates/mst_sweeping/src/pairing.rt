@@ -1,7 +1,7 @@
 ghost use Rattle.std.specs.Prelude.{◌≡◌, ◌≤◌, ◌-◌, ◌*◌, ◌/◌, List, [], ◌∷◌, IfOk, OnOk, length, map};
 ghost use Rattle.std.specs.List.{AllByRecursion};
 ghost use Rattle.mst_view.specs.Viewed.{IsView};
-ghost use Rattle.mst_forest.specs.Forest.{IsForest};
+ghost use Rattle.mst_plan.specs.forest.Forest.{IsForest};
 ghost use Rattle.mst_plan.specs.Plan.{IsPlan, AreTrees};
 ghost use Rattle.mst_sweeping.specs.Pairing.{SweepsPairs, AreSingles, HasHomes, IsSingle, IsPairing, ArePairsTold, TellsPair};
 ghost use Rattle.mst_sweeping.specs.Sweeping.{Puts};
@@ -12,10 +12,8 @@ ghost use Rattle.mst_sweep.specs.Pairs.{failed, with_each};
 use crate::failing::{renew, trees_ahead, trees_failed, without_failure};
 use crate::sweeping::baseline_of;
 use mst_config::laws::regions_stay;
-use mst_forest::Forest;
-use mst_lag::view;
 use mst_net::Network;
-use mst_plan::Plan;
+use mst_plan::{Forest, Plan, view};
 use mst_rows::Rows;
 use mst_sweep::{
     Baseline, Failing, Failure, Planned, Single, SweepPart, failures, kept_alone,

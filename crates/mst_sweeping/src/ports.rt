@@ -1,15 +1,15 @@
 ghost use Rattle.std.specs.Prelude.{◌≡◌, ◌≤◌, ◌*◌, IfOk, filter_map, length};
 ghost use Rattle.std.specs.List.{count_by};
-ghost use Rattle.mst_forest.specs.Agrees.{Known};
-ghost use Rattle.mst_forest.specs.InUse.{AreInUse};
+ghost use Rattle.mst_plan.specs.forest.Agrees.{Known};
+ghost use Rattle.mst_plan.specs.forest.InUse.{AreInUse};
 ghost use Rattle.mst_view.specs.View.{port_names};
 ghost use Rattle.mst_sweep.specs.Between.{OfNetworks};
 ghost use Rattle.mst_sweep.specs.Moved.{port_moved as port_moved_in, moved_ports as all_moved_ports};
 ghost use Rattle.mst_sweeping.specs.Seen.{seen_both_ports, seen_port_in_both, seen_moved, ArePortsByName};
 
 use indexmap::IndexMap;
-use mst_forest::{is_had, port_role, trees_in_use};
 use mst_ids::{PortName, Tree};
+use mst_plan::{is_had, port_role, trees_in_use};
 use mst_sweep::{Planned, changes_role};
 use mst_view::{PortInView, View};
 use std::alloc::{AllocError, Global};

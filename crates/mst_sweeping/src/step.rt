@@ -1,7 +1,7 @@
 ghost use Rattle.std.specs.Prelude.{◌≡◌, ◌++◌, ◌∷◌, [], List, true, IfOk, OnOk, None, Some, vec_len};
 ghost use Rattle.mst_ids.specs.Vids.{runs_from};
 ghost use Rattle.mst_rows.specs.Rows.{Row};
-ghost use Rattle.mst_forest.specs.Agrees.{Known};
+ghost use Rattle.mst_plan.specs.forest.Agrees.{Known};
 ghost use Rattle.mst_sweep.specs.vlan.classes.AllVids.{NumberEach};
 ghost use Rattle.mst_graph.specs.Lists.{has_any};
 ghost use Rattle.mst_sweep.specs.facts.Both.{seen_both};

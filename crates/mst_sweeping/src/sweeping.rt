@@ -1,8 +1,8 @@
 ghost use Rattle.std.specs.Prelude.{List, IfOk, OnOk};
 ghost use Rattle.std.specs.List.{AllByRecursion};
 ghost use Rattle.mst_rows.specs.Rows.{Row};
-ghost use Rattle.mst_forest.specs.Agrees.{Known};
-ghost use Rattle.mst_forest.specs.Forest.{IsForest};
+ghost use Rattle.mst_plan.specs.forest.Agrees.{Known};
+ghost use Rattle.mst_plan.specs.forest.Forest.{IsForest};
 ghost use Rattle.mst_sweep.specs.Baseline.{IsBaseline};
 ghost use Rattle.mst_sweep.specs.SweepText.{IsTold};
 ghost use Rattle.mst_view.specs.Viewed.{IsView};
@@ -10,9 +10,8 @@ ghost use Rattle.mst_plan.specs.Plan.{IsPlan};
 ghost use Rattle.mst_sweeping.specs.Sweeping.{SweepsPart, AreTold, CanFail, Puts};
 
 use crate::failing::{trees_failed, without_failure};
-use mst_lag::view;
 use mst_net::Network;
-use mst_plan::Plan;
+use mst_plan::{Plan, view};
 use mst_rows::Rows;
 use mst_sweep::{Baseline, Failure, Planned, SweepPart, failures, put_failure, put_last};
 use mst_view::View;

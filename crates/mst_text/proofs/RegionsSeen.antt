@@ -17,9 +17,9 @@ use Rattle.mst_view.specs.Viewed.{Viewed, IsView, named_bridge}
 use Rattle.mst_view.specs.declared.in_view.BridgeInView.{BridgeInView}
 use Rattle.mst_view.proofs.Lists.{some_is, all_both, all_weaker, filter_same, filter_mapped, mapped_twice}
 use Rattle.mst_view.proofs.Entries.{entries_found}
-use Rattle.mst_config.specs.Shared.{AreRegions}
-use Rattle.mst_config.specs.Regions.{same_region, first_of_region, region_of}
-use Rattle.mst_config.proofs.SameRegion.{told, has_first, HasFirst}
+use Rattle.mst_vlan.specs.forest.config.Shared.{AreRegions}
+use Rattle.mst_vlan.specs.forest.config.Regions.{same_region, first_of_region, region_of}
+use Rattle.mst_vlan.proofs.forest_lemmas.config_lemmas.SameRegion.{told, has_first, HasFirst}
 use Rattle.mst_text.specs.Members.{is_in, names_in, seen_region}
 use Rattle.mst_rows.specs.Rows.{Row}
 use Rattle.mst_text.specs.RegionsText.{region_row, bridges_of_region, rows_of_region, regions_rows}

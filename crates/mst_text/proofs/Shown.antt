@@ -3,7 +3,7 @@ use Rattle.std.proofs.Common.{◌≡◌, ◌∙◌, ℕ, Some, List, [], ◌∷�
 use Rattle.std.specs.Option.{option_map, unwrap_or}
 use Rattle.std.specs.FinMap as fin
 use Rattle.hex.specs.Hex.{encode_lower}
-use Rattle.mst_config.specs.Digest.{digest_of}
+use Rattle.mst_vlan.specs.forest.config.Digest.{digest_of}
 use Rattle.mst_tables.specs.After.{table_of}
 use Rattle.mst_tables.specs.Tables.{Net, BridgeRow}
 use Rattle.mst_rows.specs.Rows.{Row}

@@ -13,16 +13,16 @@ use Rattle.mst_view.specs.View.{LogicalPort}
 use Rattle.mst_view.specs.Viewed.{Viewed, named_bridge, named_port}
 use Rattle.mst_view.specs.declared.in_view.BridgeInView.{BridgeInView}
 use Rattle.mst_view.specs.declared.in_view.PortInView.{PortInView}
-use Rattle.mst_forest.specs.Outcome.{Outcome}
-use Rattle.mst_forest.specs.Settled.{SettledNet, outcome_of, IsSettledNet}
-use Rattle.mst_forest.proofs.Entries.{all_weaker}
-use Rattle.mst_forest.proofs.Lists.{all_contained, filter_mapped}
-use Rattle.mst_forest.proofs.Views.{names_differ}
-use Rattle.mst_forest.proofs.Seen.{SeenPort, BridgesRise, PortsRise, ports_seen, bridges_apart, ports_apart, bridge_there}
+use Rattle.mst_vlan.specs.forest.Outcome.{Outcome}
+use Rattle.mst_vlan.specs.forest.Settled.{SettledNet, outcome_of, IsSettledNet}
+use Rattle.mst_vlan.proofs.forest_lemmas.Entries.{all_weaker}
+use Rattle.mst_vlan.proofs.forest_lemmas.Lists.{all_contained, filter_mapped}
+use Rattle.mst_vlan.proofs.forest_lemmas.Views.{names_differ}
+use Rattle.mst_vlan.proofs.forest_lemmas.Seen.{SeenPort, BridgesRise, PortsRise, ports_seen, bridges_apart, ports_apart, bridge_there}
 use Rattle.mst_rows.specs.Rows.{Row}
 use Rattle.mst_text.specs.TreeRows.{heading}
 use Rattle.mst_text.specs.TreeRuns.{port_of, bridge_with, is_of, by_runs}
-use Rattle.mst_forest.specs.Msti.{has_tree}
+use Rattle.mst_vlan.specs.forest.Msti.{has_tree}
 use Rattle.mst_text.specs.TreeText.{ports_of, rows_of_port, own_rows, rows_of_bridge, tree_rows}
 use Rattle.mst_text.proofs.TreeRuns.{runs_of}
 

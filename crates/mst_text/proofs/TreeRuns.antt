@@ -1,9 +1,9 @@
 -- The runs of a list: what each of some owners has of it, where the owners come in order.
 use Rattle.std.proofs.Common.{◌≡◌, ℕ, ◌+◌, suc, ◌||◌, Bool, true, false, cond, List, [], ◌∷◌, ◌++◌, take, drop, refl, sym, ap, subst, ◌∙◌, arith}
 use Rattle.std.specs.List.{AllByRecursion, filter, flat_map, list_any, prefix_len}
-use Rattle.mst_forest.specs.Apart.{Apart}
-use Rattle.mst_forest.proofs.Entries.{all_weaker, all_both}
-use Rattle.mst_forest.proofs.Lists.{all_contained, passed}
+use Rattle.mst_vlan.specs.forest.Apart.{Apart}
+use Rattle.mst_vlan.proofs.forest_lemmas.Entries.{all_weaker, all_both}
+use Rattle.mst_vlan.proofs.forest_lemmas.Lists.{all_contained, passed}
 
 pub flat_map_alike : {A B : Type 0} (f g : A → List B) (xs : List A) → AllByRecursion (λ x. f x ≡ g x) xs → flat_map f xs ≡ flat_map g xs
 flat_map_alike f g [] h = refl

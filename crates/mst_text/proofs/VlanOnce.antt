@@ -3,7 +3,7 @@ use Rattle.std.proofs.Common.{◌≡◌, ℕ, List, ◌∷◌, refl, sym, ap, �
 use Rattle.mst_graph.specs.Islands.{Island}
 use Rattle.mst_tables.specs.Tables.{Net}
 use Rattle.mst_rows.specs.Rows.{Row}
-use Rattle.mst_forest.specs.Outcome.{Outcome}
+use Rattle.mst_vlan.specs.forest.Outcome.{Outcome}
 use Rattle.mst_vlan.specs.Reach.{AreIslandsOf}
 use Rattle.mst_text.specs.VlanRows.{heading}
 use Rattle.mst_text.specs.VlanText.{body_rows, alone, AreBodyRows, AreVlanRows}

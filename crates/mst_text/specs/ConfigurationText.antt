@@ -11,7 +11,7 @@ use Rattle.mst_rows.specs.Rows.{Row, row_of}
 use Rattle.mst_tables.specs.Table.{tree_in, mstis_in}
 use Rattle.mst_tables.specs.Tables.{Net, BridgeRow}
 use Rattle.mst_tables.specs.After.{table_of}
-use Rattle.mst_config.specs.Digest.{digest_of}
+use Rattle.mst_vlan.specs.forest.config.Digest.{digest_of}
 
 -- the VIDs that a table maps to a tree
 abbrev pub vids_in : List ℕ → ℕ → List Bool

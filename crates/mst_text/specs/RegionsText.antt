@@ -10,8 +10,8 @@ use Rattle.mst_rows.specs.Rows.{Row, row_of}
 use Rattle.mst_tables.specs.Tables.{Net, BridgeRow}
 use Rattle.mst_tables.specs.After.{table_of}
 use Rattle.mst_view.specs.Aggregation.{same_name}
-use Rattle.mst_config.specs.Digest.{digest_of}
-use Rattle.mst_config.specs.Regions.{same_region, first_of_region}
+use Rattle.mst_vlan.specs.forest.config.Digest.{digest_of}
+use Rattle.mst_vlan.specs.forest.config.Regions.{same_region, first_of_region}
 
 -- `region mstp CNAME REV DIGEST bridges B ..`, of the region that has this first bridge
 abbrev pub mstp_row : List ℕ → BridgeRow → List ℕ → List (List ℕ) → Row

@@ -14,11 +14,11 @@ use Rattle.mst_vector.specs.declared.msti.MstiVector.{MstiVector}
 use Rattle.mst_tables.specs.Tables.{Net, BridgeRow}
 use Rattle.mst_tables.specs.ByTree.{ByTree, by_tree}
 use Rattle.mst_view.specs.View.{LogicalPort}
-use Rattle.mst_forest.specs.Cist.{cist_port}
-use Rattle.mst_forest.specs.InUse.{id_in}
-use Rattle.mst_forest.specs.Msti.{msti_port}
-use Rattle.mst_forest.specs.Names.{role_text}
-use Rattle.mst_forest.specs.declared.kind.Role.{Role}
+use Rattle.mst_vlan.specs.forest.Cist.{cist_port}
+use Rattle.mst_vlan.specs.forest.InUse.{id_in}
+use Rattle.mst_vlan.specs.forest.Msti.{msti_port}
+use Rattle.mst_vlan.specs.forest.Names.{role_text}
+use Rattle.mst_vlan.specs.forest.declared.kind.Role.{Role}
 use Rattle.mst_text.specs.Holders.{holder_cell}
 
 -- `tree T`

@@ -5,9 +5,9 @@ use Rattle.mst_view.specs.Aggregation.{same_name}
 use Rattle.mst_view.specs.Viewed.{named_bridge, named_port}
 use Rattle.mst_view.specs.declared.in_view.BridgeInView.{BridgeInView}
 use Rattle.mst_view.specs.declared.in_view.PortInView.{PortInView}
-use Rattle.mst_forest.specs.Settled.{SettledNet, outcome_of}
+use Rattle.mst_vlan.specs.forest.Settled.{SettledNet, outcome_of}
 use Rattle.mst_rows.specs.Rows.{Row}
-use Rattle.mst_forest.specs.Msti.{has_tree}
+use Rattle.mst_vlan.specs.forest.Msti.{has_tree}
 use Rattle.mst_text.specs.TreeText.{own_rows, rows_of_port}
 
 -- the row of a port, and the rows of a bridge with these ports, if it has the tree

@@ -3,7 +3,7 @@ use Rattle.std.specs.Prelude.{◌≡◌, ℕ, List, [], ◌∷◌, map}
 use Rattle.mst_graph.specs.Islands.{Island}
 use Rattle.mst_tables.specs.Tables.{Net}
 use Rattle.mst_view.specs.View.{LogicalPort}
-use Rattle.mst_forest.specs.Outcome.{Outcome}
+use Rattle.mst_vlan.specs.forest.Outcome.{Outcome}
 use Rattle.mst_vlan.specs.Active.{active_ports}
 use Rattle.mst_vlan.specs.Reach.{is_member, AreIslandsOf}
 use Rattle.mst_rows.specs.declared.value.ActivePort.{ActivePort}

@@ -1,6 +1,6 @@
 ghost use Rattle.std.specs.Prelude.{◌≡◌, ◌++◌, [], ◌∷◌, List, IfOk, OnOk, is_some, unwrap_or};
 ghost use Rattle.hex.specs.Hex.{encode_lower};
-ghost use Rattle.mst_config.specs.Digest.{digest_of};
+ghost use Rattle.mst_vlan.specs.forest.config.Digest.{digest_of};
 ghost use Rattle.mst_tables.specs.Seen.{bridge_row};
 ghost use Rattle.mst_rows.specs.Rows.{Row};
 ghost use Rattle.mst_text.specs.ConfigurationText.{vids_in, msti_row, mstis_rows, configuration_row, configuration_rows};

@@ -1,9 +1,9 @@
 ghost use Rattle.std.specs.Prelude.{◌≡◌};
 ghost use Rattle.hex.specs.Hex.{encode_lower};
-ghost use Rattle.mst_config.specs.Digest.{digest_of};
+ghost use Rattle.mst_vlan.specs.forest.config.Digest.{digest_of};
 
-use mst_config::digest;
 use mst_tables::Table;
+use mst_vlan::digest;
 
 /// The Configuration Digest of a table in lower case hexadecimal digits.
 pub(crate) fn digest_digits(table: &Table) -> [u8; 32]

@@ -6,10 +6,10 @@ ghost use Rattle.mst_text.specs.Held.{AreHolders, name_with};
 ghost use Rattle.mst_text.specs.Holders.{holder_cell};
 
 use indexmap::IndexMap;
-use mst_forest::Settled;
 use mst_ids::{BridgeId, Mac, Name};
 use mst_rows::Value;
 use mst_view::BridgeInView;
+use mst_vlan::Settled;
 use std::alloc::{AllocError, Global};
 
 /// The names of the bridges of a network by their MAC addresses: which bridge an identifier is of.

@@ -1,7 +1,7 @@
 //! Laws of the rows of a VID. Their functions do nothing: a caller has their clauses.
 ghost use Rattle.std.specs.Prelude.{◌≡◌, ℕ, List};
 ghost use Rattle.mst_tables.specs.Tables.{Net, IsNetwork};
-ghost use Rattle.mst_forest.specs.Outcome.{Outcome};
+ghost use Rattle.mst_vlan.specs.forest.Outcome.{Outcome};
 ghost use Rattle.mst_rows.specs.Rows.{Row};
 ghost use Rattle.mst_text.specs.VlanText.{AreBodyRows, AreVlanRows};
 

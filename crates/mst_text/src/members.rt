@@ -1,9 +1,9 @@
 ghost use Rattle.std.specs.Prelude.{◌≡◌, ◌==◌, ◌++◌, ◌∷◌, [], ℕ, IfOk, OnOk, if◌then◌else◌};
 ghost use Rattle.mst_text.specs.Members.{kept_for, names_in};
 
-use mst_config::Regions;
 use mst_ids::{BridgeId, Name};
 use mst_view::BridgeInView;
+use mst_vlan::Regions;
 use std::alloc::{AllocError, Global};
 use std::collections::BTreeMap;
 

@@ -3,20 +3,20 @@ ghost use Rattle.std.specs.List.{flat_map};
 ghost use Rattle.mst_tables.specs.Seen.{bridge_row};
 ghost use Rattle.mst_tables.specs.Tables.{Net, Numbers, IsNetwork};
 ghost use Rattle.mst_view.specs.Viewed.{IsView};
-ghost use Rattle.mst_config.specs.Shared.{AreRegions};
+ghost use Rattle.mst_vlan.specs.forest.config.Shared.{AreRegions};
 ghost use Rattle.mst_rows.specs.Rows.{Row};
 ghost use Rattle.mst_text.specs.Members.{kept_for, names_in, seen_region};
 ghost use Rattle.mst_text.specs.RegionsText.{mstp_row, rstp_row, region_row, regions_rows};
 
 use crate::digits::digest_digits;
 use crate::members::{Members, members_of, names_of};
-use mst_config::Regions;
 use mst_ids::{BridgeId, Name};
 use mst_kinds::{Kind, RegionLine};
 use mst_lang::Kind as BridgeKind;
 use mst_rows::{Rows, Value, put};
 use mst_tables::{Bridge, Table};
 use mst_view::{BridgeInView, View};
+use mst_vlan::Regions;
 use std::alloc::{AllocError, Global};
 
 /// Puts the rows of a network's regions (802.1Q-2022, 13.8), by its view and its regions: a row for each

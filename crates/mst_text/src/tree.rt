@@ -1,7 +1,7 @@
 ghost use Rattle.std.specs.Prelude.{◌≡◌, ◌++◌, ◌∷◌, [], List, OnOk};
 ghost use Rattle.std.specs.List.{AllByRecursion, Contains, flat_map};
 ghost use Rattle.mst_rows.specs.Rows.{Row};
-ghost use Rattle.mst_forest.specs.Settled.{outcome_of};
+ghost use Rattle.mst_vlan.specs.forest.Settled.{outcome_of};
 ghost use Rattle.mst_text.specs.Held.{AreHolders};
 ghost use Rattle.mst_text.specs.TreeRows.{heading};
 ghost use Rattle.mst_text.specs.TreeRuns.{run_of, bridge_with, by_runs, port_of};
@@ -10,11 +10,11 @@ ghost use Rattle.mst_text.specs.TreeText.{tree_rows};
 use crate::holders::Holders;
 use crate::tree_bridge::put_own_row;
 use crate::tree_port::put_port;
-use mst_forest::Settled;
 use mst_ids::{Name, Tree};
 use mst_kinds::{Kind, TreeLine};
 use mst_rows::{Rows, Value, put};
 use mst_view::{BridgeInView, PortInView};
+use mst_vlan::Settled;
 use std::alloc::{AllocError, Global};
 
 /// Puts the rows of a tree of a settled network: a heading, then for each bridge that has the tree, in byte order of

@@ -3,19 +3,19 @@ ghost use Rattle.std.specs.List.{Contains};
 ghost use Rattle.mst_view.specs.Viewed.{named_bridge};
 ghost use Rattle.mst_tables.specs.Tables.{Net};
 ghost use Rattle.mst_rows.specs.Rows.{Row};
-ghost use Rattle.mst_forest.specs.Settled.{outcome_of};
+ghost use Rattle.mst_vlan.specs.forest.Settled.{outcome_of};
 ghost use Rattle.mst_text.specs.Held.{AreHolders};
 ghost use Rattle.mst_text.specs.TreeRows.{off_row, cist_row, msti_row, vector_rows};
 ghost use Rattle.mst_text.specs.TreeText.{own_rows};
 
 use crate::holders::Holders;
-use mst_forest::{Settled, bridge_id};
 use mst_ids::{BridgeId, Name, Tree};
 use mst_kinds::{Kind, TreeLine};
 use mst_lang::Power;
 use mst_rows::{Rows, Value, put};
 use mst_vector::{CistVector, MstiVector};
 use mst_view::BridgeInView;
+use mst_vlan::{Settled, bridge_id};
 use std::alloc::AllocError;
 
 /// Puts the row of a bridge: that it is off, or its root priority vector in the tree.

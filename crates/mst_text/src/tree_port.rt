@@ -5,13 +5,13 @@ ghost use Rattle.mst_rows.specs.Rows.{Row};
 ghost use Rattle.mst_text.specs.TreeRows.{cist_port_row, disabled_row, msti_port_row, port_row};
 ghost use Rattle.mst_text.specs.TreeRuns.{port_of};
 
-use mst_forest::{Role, Settled, cist_port, msti_port, role_of};
 use mst_ids::Tree;
 use mst_kinds::{Kind, TreeLine};
 use mst_rows::{Rows, Value, put};
 use mst_tables::TreeSettings;
 use mst_vector::{CistPort, MstiPort};
 use mst_view::PortInView;
+use mst_vlan::{Role, Settled, cist_port, msti_port, role_of};
 use std::alloc::AllocError;
 
 /// Puts the row of a logical port, if its bridge has the tree.

@@ -1,17 +1,16 @@
 ghost use Rattle.std.specs.Prelude.{◌≡◌, ℕ, List, ◌++◌, ◌∷◌, [], OnOk};
 ghost use Rattle.mst_ids.specs.Vids.{runs_from};
 ghost use Rattle.mst_rows.specs.Rows.{Row};
-ghost use Rattle.mst_forest.specs.Settled.{outcome_of};
+ghost use Rattle.mst_vlan.specs.forest.Settled.{outcome_of};
 ghost use Rattle.mst_text.specs.VlanRows.{heading};
 ghost use Rattle.mst_text.specs.VlanText.{AreBodyRows, AreVlanRows, alone as vid_alone};
 
 use crate::active::put_active;
 use crate::islands::put_islands;
-use mst_forest::Settled;
 use mst_ids::{Vid, VidSet};
 use mst_kinds::{Kind, VlanLine};
 use mst_rows::{Rows, Value, put};
-use mst_vlan::{active_ports, reach_from};
+use mst_vlan::{Settled, active_ports, reach_from};
 use std::alloc::{AllocError, Global};
 
 /// Puts the rows of a VID: a heading, and then its body.

@@ -14,7 +14,7 @@ use Rattle.mst_forest.specs.InUse.{id_in}
 use Rattle.mst_forest.specs.Outcome.{Outcome}
 use Rattle.mst_graph.specs.Lists.{has_any}
 use Rattle.mst_judged.specs.reasons.sweep.facts.Roots.{root_of, root_name, named_by}
-use Rattle.mst_config.specs.Regions.{same_region}
+use Rattle.mst_forest.specs.config.Regions.{same_region}
 use Rattle.mst_forest.proofs.Lists.{all_contained, no_some, some_is}
 use Rattle.mst_forest.proofs.Looking.{first_found}
 use Rattle.mst_forest.proofs.Views.{bridges_are, entry_there, same_mac}

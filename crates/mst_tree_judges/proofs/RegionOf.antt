@@ -9,8 +9,8 @@ use Rattle.mst_view.specs.Aggregation.{same_name}
 use Rattle.mst_view.specs.Viewed.{Viewed}
 use Rattle.mst_view.specs.declared.in_view.BridgeInView.{BridgeInView}
 use Rattle.mst_tables.specs.Tables.{Net, Numbers, BridgeRow}
-use Rattle.mst_config.specs.Regions.{same_configuration, same_region}
-use Rattle.mst_config.specs.Shared.{same_in}
+use Rattle.mst_forest.specs.config.Regions.{same_configuration, same_region}
+use Rattle.mst_forest.specs.config.Shared.{same_in}
 use Rattle.mst_forest.specs.Agrees.{AreOf}
 use Rattle.mst_forest.proofs.Lists.{no_some, some_is}
 use Rattle.mst_forest.proofs.Looking.{first_found}

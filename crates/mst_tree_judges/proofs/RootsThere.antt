@@ -7,7 +7,7 @@ use Rattle.std.proofs.lemmas.Bool.{eqb-true}
 use Rattle.mst_tables.specs.Tables.{Net, IsNetwork}
 use Rattle.mst_vector.specs.declared.cist.CistVector.{CistVector}
 use Rattle.mst_vector.specs.declared.msti.MstiVector.{MstiVector}
-use Rattle.mst_nested.specs.Trees.{IsSettled}
+use Rattle.mst_forest.specs.nested.Trees.{IsSettled}
 use Rattle.mst_forest.specs.Msti.{has_msti}
 use Rattle.mst_forest.specs.Outcome.{Outcome, trees_of}
 use Rattle.mst_judged.specs.reasons.sweep.facts.Roots.{root_of}

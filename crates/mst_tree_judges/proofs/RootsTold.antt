@@ -15,7 +15,7 @@ use Rattle.mst_forest.specs.InUse.{id_in}
 use Rattle.mst_forest.specs.Outcome.{Outcome}
 use Rattle.mst_graph.specs.Lists.{has_any}
 use Rattle.mst_judged.specs.reasons.sweep.facts.Roots.{root_of}
-use Rattle.mst_config.specs.Regions.{same_region}
+use Rattle.mst_forest.specs.config.Regions.{same_region}
 use Rattle.mst_judged.specs.reasons.summary.Roots.{least, with_lesser}
 use Rattle.mst_judged.specs.reasons.summary.declared.roots.Follower.{Follower}
 use Rattle.mst_judged.proofs.reasons_lemmas.summary_lemmas.Next.{least_of}

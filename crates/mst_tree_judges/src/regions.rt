@@ -1,7 +1,7 @@
 ghost use Rattle.std.specs.Prelude.{◌≡◌, IfOk, map, nat_eq, if◌then◌else◌, [], ◌∷◌, true};
 ghost use Rattle.std.specs.Map.{lookup};
 ghost use Rattle.mst_graph.specs.Groups.{AreGroups};
-ghost use Rattle.mst_config.specs.Regions.{same_region};
+ghost use Rattle.mst_forest.specs.config.Regions.{same_region};
 ghost use Rattle.mst_judged.specs.reasons.Named.{named as named_in};
 ghost use Rattle.mst_judged.specs.reasons.Reasons.{AreRegionReasons, has_two as has_two_of};
 

@@ -4,7 +4,7 @@ ghost use Rattle.std.specs.Option.{option_copied, option_map, option_map_or};
 ghost use Rattle.indexmap.specs.IndexMap.{get};
 ghost use Rattle.mst_view.specs.Aggregation.{same_name};
 ghost use Rattle.mst_view.specs.Viewed.{named_bridge};
-ghost use Rattle.mst_config.specs.Regions.{same_region};
+ghost use Rattle.mst_forest.specs.config.Regions.{same_region};
 ghost use Rattle.mst_forest.specs.Settled.{outcome_of};
 ghost use Rattle.mst_graph.specs.Lists.{has_any};
 ghost use Rattle.mst_judged.specs.reasons.summary.Roots.{least as least_of};

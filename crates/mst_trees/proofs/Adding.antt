@@ -2,7 +2,7 @@
 use Rattle.std.proofs.Common.{◌≡◌, ◌≢◌, ℕ, List, [], ◌∷◌, ◌++◌, refl, sym, ap, subst, ◌∙◌, append_assoc}
 use Rattle.std.specs.List.{Contains}
 use Rattle.std.proofs.lemmas.List.{append-nil}
-use Rattle.mst_topology.specs.Topology.{TreePort}
+use Rattle.mst_forest.specs.topology.Topology.{TreePort}
 use Rattle.mst_forest.specs.Apart.{Apart}
 use Rattle.mst_trees.specs.Wirings.{HaveNumbers}
 use Rattle.mst_forest.proofs.Lists.{apart_before}

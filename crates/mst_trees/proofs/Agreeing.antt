@@ -4,10 +4,10 @@ use Rattle.std.specs.Option.{unwrap_or}
 use Rattle.std.specs.FinMap as fin
 use Rattle.mst_ids.specs.declared.name.PortName.{PortName}
 use Rattle.mst_vector.specs.Rules.{Rules}
-use Rattle.mst_topology.specs.Topology.{TreePort, Topology, IsTopology, HasBridge, HasPort}
-use Rattle.mst_topology.specs.Settled.{Settled, IsDesignated}
-use Rattle.mst_outcome.specs.Renamed.{Renaming, IsRenamed}
-use Rattle.mst_outcome.specs.Assignment.{Assignment, vector_of, designated_of, IsSettledFor}
+use Rattle.mst_forest.specs.topology.Topology.{TreePort, Topology, IsTopology, HasBridge, HasPort}
+use Rattle.mst_forest.specs.topology.Settled.{Settled, IsDesignated}
+use Rattle.mst_forest.specs.outcome.Renamed.{Renaming, IsRenamed}
+use Rattle.mst_forest.specs.outcome.Assignment.{Assignment, vector_of, designated_of, IsSettledFor}
 use Rattle.mst_net.specs.tables.Tables.{Net, Numbers, IsNetwork}
 use Rattle.mst_net.specs.tables.Contents.{IsNumbered}
 use Rattle.mst_view.specs.Viewed.{Viewed, IsView}

@@ -6,10 +6,10 @@ use Rattle.mst_vector.specs.declared.cist.CistBridge.{CistBridge}
 use Rattle.mst_vector.specs.declared.cist.CistPort.{CistPort}
 use Rattle.mst_vector.specs.declared.msti.MstiBridge.{MstiBridge}
 use Rattle.mst_vector.specs.declared.msti.MstiPort.{MstiPort}
-use Rattle.mst_topology.specs.Topology.{TreePort, Topology, IsTopology, HasBridge, HasPort}
-use Rattle.mst_topology.specs.Settled.{Designates, IsDesignated}
-use Rattle.mst_outcome.specs.Renamed.{Renaming, renamed, IsRenamed}
-use Rattle.mst_nested.specs.Trees.{Trees, IsLanOf, IsInternal, HasTree, IsNested}
+use Rattle.mst_forest.specs.topology.Topology.{TreePort, Topology, IsTopology, HasBridge, HasPort}
+use Rattle.mst_forest.specs.topology.Settled.{Designates, IsDesignated}
+use Rattle.mst_forest.specs.outcome.Renamed.{Renaming, renamed, IsRenamed}
+use Rattle.mst_forest.specs.nested.Trees.{Trees, IsLanOf, IsInternal, HasTree, IsNested}
 use Rattle.mst_forest.proofs.Lists.{some_is, no_some}
 
 -- what each LAN's designated port is, under the former keys and the new ones

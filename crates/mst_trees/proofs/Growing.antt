@@ -10,16 +10,16 @@ use Rattle.mst_vector.specs.Msti.{msti_rules}
 use Rattle.mst_vector.specs.declared.cist.CistVector.{CistVector}
 use Rattle.mst_vector.specs.declared.msti.MstiVector.{MstiVector}
 use Rattle.mst_vector.specs.declared.msti.MstiBridge.{MstiBridge}
-use Rattle.mst_topology.specs.Topology.{HasBridge}
-use Rattle.mst_topology.specs.Settled.{IsDesignated}
-use Rattle.mst_outcome.specs.Assignment.{Assignment, vector_of, designated_of, IsSettledFor}
+use Rattle.mst_forest.specs.topology.Topology.{HasBridge}
+use Rattle.mst_forest.specs.topology.Settled.{IsDesignated}
+use Rattle.mst_forest.specs.outcome.Assignment.{Assignment, vector_of, designated_of, IsSettledFor}
 use Rattle.mst_net.specs.tables.Tables.{Net, Numbers, BridgeRow}
 use Rattle.mst_net.specs.tables.ByTree.{by_tree}
 use Rattle.mst_view.specs.Viewed.{Viewed}
 use Rattle.mst_view.specs.declared.in_view.BridgeInView.{BridgeInView}
 use Rattle.mst_view.specs.declared.in_view.PortInView.{PortInView}
 use Rattle.mst_view.specs.Trees.{is_among}
-use Rattle.mst_config.specs.Shared.{AreRegions}
+use Rattle.mst_forest.specs.config.Shared.{AreRegions}
 use Rattle.mst_forest.specs.Cist.{cist_sight, cist_of}
 use Rattle.mst_forest.specs.Msti.{msti_bridge, has_msti, msti_sight, msti_of}
 use Rattle.mst_forest.specs.Outcome.{TreeOutcome, IsTreeOutcome, Outcome, IsOutcome}

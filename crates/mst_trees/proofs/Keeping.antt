@@ -16,8 +16,8 @@ use Rattle.std.proofs.lemmas.Map.Lookups.{exact_unsigned}
 use Rattle.std.proofs.lemmas.Map.Made.{is_member-Decides, length-le_from_is_member, IsDistinct-from_AllPairs}
 use Rattle.mst_vector.specs.Cist.{cist_rules}
 use Rattle.mst_vector.specs.declared.msti.MstiVector.{MstiVector}
-use Rattle.mst_outcome.specs.Assignment.{Assignment, vector_of}
-use Rattle.mst_topology.specs.Repair.{WithinBounds, CountsVectors}
+use Rattle.mst_forest.specs.outcome.Assignment.{Assignment, vector_of}
+use Rattle.mst_forest.specs.topology.Repair.{WithinBounds, CountsVectors}
 use Rattle.mst_view.specs.Viewed.{Viewed}
 use Rattle.mst_view.specs.declared.in_view.PortInView.{PortInView}
 use Rattle.mst_trees.specs.SettledBy.{IsSettledBy}

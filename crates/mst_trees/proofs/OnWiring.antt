@@ -12,13 +12,13 @@ use Rattle.mst_vector.specs.declared.cist.CistBridge.{CistBridge}
 use Rattle.mst_vector.specs.declared.cist.CistPort.{CistPort}
 use Rattle.mst_vector.specs.declared.msti.MstiBridge.{MstiBridge}
 use Rattle.mst_vector.specs.declared.msti.MstiPort.{MstiPort}
-use Rattle.mst_topology.specs.Topology.{TreePort, Topology, IsTopology, HasBridge, HasPort}
-use Rattle.mst_topology.specs.Settled.{Settled, IsDesignated}
-use Rattle.mst_outcome.specs.Assignment.{vector_of, designated_of, IsSettledFor}
-use Rattle.mst_topology.specs.Repair.{WithinBounds}
-use Rattle.mst_outcome.specs.Parts.{SameParts}
-use Rattle.mst_topology.specs.Wiring.{settings_in, port_in, topology_of}
-use Rattle.mst_outcome.specs.Held.{Tree, IsHeld}
+use Rattle.mst_forest.specs.topology.Topology.{TreePort, Topology, IsTopology, HasBridge, HasPort}
+use Rattle.mst_forest.specs.topology.Settled.{Settled, IsDesignated}
+use Rattle.mst_forest.specs.outcome.Assignment.{vector_of, designated_of, IsSettledFor}
+use Rattle.mst_forest.specs.topology.Repair.{WithinBounds}
+use Rattle.mst_forest.specs.outcome.Parts.{SameParts}
+use Rattle.mst_forest.specs.topology.Wiring.{settings_in, port_in, topology_of}
+use Rattle.mst_forest.specs.outcome.Held.{Tree, IsHeld}
 use Rattle.mst_net.specs.tables.Tables.{Net, Numbers}
 use Rattle.mst_net.specs.tables.Seen.{bridge_row}
 use Rattle.mst_view.specs.Trees.{is_among}

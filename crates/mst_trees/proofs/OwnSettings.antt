@@ -8,7 +8,7 @@ use Rattle.mst_ids.specs.Identifiers.{port_id}
 use Rattle.mst_ids.specs.Costs.{automatic_cost}
 use Rattle.mst_ids.specs.declared.name.PortName.{PortName}
 use Rattle.mst_vector.specs.declared.msti.MstiPort.{MstiPort}
-use Rattle.mst_topology.specs.Places.{in_map}
+use Rattle.mst_forest.specs.topology.Places.{in_map}
 use Rattle.mst_net.specs.tables.ByTree.{ByTree, AreInTrees, port_priority_in, port_cost_in}
 use Rattle.mst_net.specs.tables.TreesSet.{trees_where}
 use Rattle.mst_net.proofs.tables_lemmas.SettingsLemmas.{network_in_trees}

@@ -7,17 +7,17 @@ use Rattle.mst_vector.specs.Rules.{Rules}
 use Rattle.mst_vector.specs.Cist.{cist_rules}
 use Rattle.mst_vector.specs.Msti.{msti_rules}
 use Rattle.mst_vector.specs.declared.msti.MstiVector.{MstiVector}
-use Rattle.mst_topology.specs.Topology.{TreePort, Topology, IsTopology}
-use Rattle.mst_topology.specs.Settled.{Settled}
-use Rattle.mst_outcome.specs.Renamed.{Renaming, IsRenamed}
-use Rattle.mst_outcome.specs.Assignment.{Assignment, vector_of, designated_of, IsSettledFor}
+use Rattle.mst_forest.specs.topology.Topology.{TreePort, Topology, IsTopology}
+use Rattle.mst_forest.specs.topology.Settled.{Settled}
+use Rattle.mst_forest.specs.outcome.Renamed.{Renaming, IsRenamed}
+use Rattle.mst_forest.specs.outcome.Assignment.{Assignment, vector_of, designated_of, IsSettledFor}
 use Rattle.mst_net.specs.tables.Tables.{Net, Numbers}
 use Rattle.mst_view.specs.Viewed.{Viewed}
 use Rattle.mst_view.specs.declared.in_view.PortInView.{PortInView}
 use Rattle.mst_forest.specs.Cist.{cist_sight, cist_of}
 use Rattle.mst_forest.specs.Msti.{msti_sight, msti_of}
 use Rattle.mst_forest.specs.Outcome.{Outcome, IsOutcome, trees_of}
-use Rattle.mst_nested.specs.Trees.{IsTree, IsSettled}
+use Rattle.mst_forest.specs.nested.Trees.{IsTree, IsSettled}
 use Rattle.mst_forest.specs.Seen.{cist_seen, internal_seen, msti_seen}
 use Rattle.mst_forest.specs.Agrees.{AreOf, internal_ports_of}
 use Rattle.mst_trees.specs.Mstis.{AreOutcomes}

@@ -1,6 +1,6 @@
 -- The space of a settler for the wirings from which and to which the MSTIs of a view go.
 use Rattle.std.proofs.Common.{◌≡◌, [], sym, subst, arith}
-use Rattle.mst_outcome.specs.Assignment.{Assignment}
+use Rattle.mst_forest.specs.outcome.Assignment.{Assignment}
 use Rattle.mst_settle.specs.Settler.{KeepsSpace}
 use Rattle.mst_settle.specs.Differences.{Wirings, HasSpaceOn, HasSpaceForBoth}
 use Rattle.mst_settle.proofs.Spaced.{on_kept}

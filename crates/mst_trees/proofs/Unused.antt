@@ -4,7 +4,7 @@ use Rattle.std.specs.List.{AllByRecursion, list_any}
 use Rattle.std.specs.Option.{option_map_or}
 use Rattle.std.specs.Map.{lookup}
 use Rattle.mst_vector.specs.declared.msti.MstiVector.{MstiVector}
-use Rattle.mst_outcome.specs.Assignment.{Assignment}
+use Rattle.mst_forest.specs.outcome.Assignment.{Assignment}
 use Rattle.mst_net.specs.tables.Tables.{Net, Numbers}
 use Rattle.mst_view.specs.Trees.{is_among}
 use Rattle.mst_view.specs.Viewed.{Viewed}

@@ -2,9 +2,9 @@
 use Rattle.std.specs.Prelude.{◌≡◌, ◌≢◌, ◌↔◌, ℕ, ◌*◌, ◌≤◌, List, length, Option, None, false}
 use Rattle.std.specs.List.{Contains}
 use Rattle.std.specs.List.Sorted.{IsStrictlyIncreasing}
-use Rattle.mst_outcome.specs.Assignment.{vector_of}
-use Rattle.mst_topology.specs.Repair.{CountsVectors}
-use Rattle.mst_tables.specs.Tables.{Net}
+use Rattle.mst_forest.specs.outcome.Assignment.{vector_of}
+use Rattle.mst_forest.specs.topology.Repair.{CountsVectors}
+use Rattle.mst_net.specs.tables.Tables.{Net}
 use Rattle.mst_forest.specs.Msti.{has_msti}
 use Rattle.mst_forest.specs.Forest.{Forest, msti_settlings, msti_vector}
 

@@ -1,3 +1,4 @@
+pub use Rattle.mst_forest.specs as forest
 pub mod Wirings
 pub mod Own
 pub mod Ground

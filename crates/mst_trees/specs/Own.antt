@@ -3,7 +3,7 @@ use Rattle.std.specs.Prelude.{◌≡◌, ℕ, ◌==◌, ◌&&◌, ◌||◌, Bool
 use Rattle.std.specs.BTreeMap.{BTreeMap}
 use Rattle.mst_ids.specs.declared.name.PortName.{PortName}
 use Rattle.mst_vector.specs.declared.msti.MstiPort.{MstiPort}
-use Rattle.mst_topology.specs.Places.{in_map}
+use Rattle.mst_forest.specs.topology.Places.{in_map}
 use Rattle.mst_net.specs.tables.ByTree.{ByTree, port_priority_in, port_cost_in}
 use Rattle.mst_view.specs.Viewed.{Viewed, named_port}
 use Rattle.mst_view.specs.declared.in_view.PortInView.{PortInView}

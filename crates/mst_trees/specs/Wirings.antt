@@ -10,8 +10,8 @@ use Rattle.mst_vector.specs.declared.cist.CistBridge.{CistBridge}
 use Rattle.mst_vector.specs.declared.cist.CistPort.{CistPort}
 use Rattle.mst_vector.specs.declared.msti.MstiBridge.{MstiBridge}
 use Rattle.mst_vector.specs.declared.msti.MstiPort.{MstiPort}
-use Rattle.mst_topology.specs.Topology.{TreePort}
-use Rattle.mst_topology.specs.Wiring.{settings_in}
+use Rattle.mst_forest.specs.topology.Topology.{TreePort}
+use Rattle.mst_forest.specs.topology.Wiring.{settings_in}
 use Rattle.mst_view.specs.Viewed.{Viewed, named_port}
 use Rattle.mst_view.specs.declared.in_view.PortInView.{PortInView}
 use Rattle.mst_forest.specs.Apart.{Apart}

@@ -2,8 +2,8 @@ ghost use Rattle.std.specs.Prelude.{◌≡◌, ◌≢◌, IfOk};
 ghost use Rattle.mst_forest.specs.Apart.{Apart};
 ghost use Rattle.mst_trees.specs.Wirings.{HaveNumbers};
 
+use mst_forest::{Bridges, TreePort, Wiring};
 use mst_ids::BridgeNo;
-use mst_topology::{Bridges, TreePort, Wiring};
 use mst_vector::Metric;
 use std::alloc::{AllocError, Global};
 

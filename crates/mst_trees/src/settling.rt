@@ -1,8 +1,8 @@
 //! The trees of a network, settled by its view and its regions: from nothing, or repaired from those that stand.
 ghost use Rattle.std.specs.Prelude.{◌≡◌, IfOk};
 ghost use Rattle.mst_vector.specs.Cist.{cist_rules};
-ghost use Rattle.mst_outcome.specs.Assignment.{vector_of};
-ghost use Rattle.mst_outcome.specs.Held.{IsHeld};
+ghost use Rattle.mst_forest.specs.outcome.Assignment.{vector_of};
+ghost use Rattle.mst_forest.specs.outcome.Held.{IsHeld};
 ghost use Rattle.mst_net.specs.tables.Tables.{Net, Numbers};
 ghost use Rattle.mst_forest.specs.Agrees.{AreOf, Known};
 ghost use Rattle.mst_trees.specs.Internal.{KnownInternal};
@@ -13,18 +13,15 @@ ghost use Rattle.mst_trees.specs.Mstis.{AreOutcomes};
 ghost use Rattle.mst_trees.specs.SettledBy.{IsSettledBy};
 ghost use Rattle.mst_forest.specs.Seen.{cist_seen};
 ghost use Rattle.mst_trees.specs.Wirings.{msti_wires};
-ghost use Rattle.mst_nested.specs.Trees.{IsSettled};
+ghost use Rattle.mst_forest.specs.nested.Trees.{IsSettled};
 
 use crate::cist::{cist_wiring, repaired_cist};
 use crate::msti::{internal_ports, msti_wiring};
 use crate::mstis::repaired_mstis;
-use mst_config::Regions;
 use mst_forest::laws::{has_outcome, nested};
-use mst_forest::{Forest, Mstis};
+use mst_forest::outcome_laws::renamed;
+use mst_forest::{Forest, Mstis, Regions, SpanningTree, Wiring};
 use mst_ids::{BridgeNo, LanNo, Name, PortName, PortNo};
-use mst_outcome::SpanningTree;
-use mst_outcome::laws::renamed;
-use mst_topology::Wiring;
 use mst_vector::{CistMetric, CistPort, MstiMetric, MstiPort};
 use mst_view::{PortInView, View};
 use std::alloc::{AllocError, Global};

@@ -1,6 +1,6 @@
 -- What the lines of a change make of a network, and which of them are refused.
 use Rattle.std.specs.Prelude.{◌≡◌, ℕ, true, List, [], ◌∷◌, ◌++◌, length, Result, Ok, Err}
-use Rattle.mst_config.specs.Shared.{AreRegions}
+use Rattle.mst_forest.specs.config.Shared.{AreRegions}
 use Rattle.mst_kinds.specs.declared.kind.Kind.TheVariants as kind
 use Rattle.mst_kinds.specs.declared.refusal_line.RefusalLine.TheVariants as refusal_line
 use Rattle.mst_lang.specs.Faults as fault

@@ -4,8 +4,8 @@ ghost use Rattle.mst_verdict.specs.Setting.{IsMade, after_lines, change_row, kep
 ghost use Rattle.mst_rows.specs.Rows.{Row};
 
 use mst_change::StepLine;
-use mst_config::laws::regions_stay;
-use mst_config::touches_regions;
+use mst_forest::config_laws::regions_stay;
+use mst_forest::touches_regions;
 use mst_kinds::{Kind, RefusalLine};
 use mst_lang::Edit;
 use mst_net::{Network, Refusal};

@@ -12,18 +12,18 @@ use Rattle.mst_vector.specs.Msti.{msti_rules}
 use Rattle.mst_vector.specs.declared.cist.CistBridge.{CistBridge}
 use Rattle.mst_vector.specs.declared.cist.CistPort.{CistPort}
 use Rattle.mst_vector.specs.declared.msti.MstiBridge.{MstiBridge}
-use Rattle.mst_topology.specs.Topology.{TreePort, HasBridge, KeyTests}
+use Rattle.mst_forest.specs.topology.Topology.{TreePort, HasBridge, KeyTests}
 use Rattle.mst_graph.specs.Joined.{IsJoined, HasNoLoop, Other}
 use Rattle.mst_graph.proofs.Members.{in_filter, from_filter}
-use Rattle.mst_nested.specs.Ports.{port_ends as plug_ends}
-use Rattle.mst_nested.specs.Trees.{Trees, IsSettled, IsFree, IsEnabled as IsEnabledPlug, HasTree, SameRegion}
-use Rattle.mst_nested.specs.Roles.{Forwards}
-use Rattle.mst_nested.specs.Active.{IsTreeOfVid, IsActive}
+use Rattle.mst_forest.specs.nested.Ports.{port_ends as plug_ends}
+use Rattle.mst_forest.specs.nested.Trees.{Trees, IsSettled, IsFree, IsEnabled as IsEnabledPlug, HasTree, SameRegion}
+use Rattle.mst_forest.specs.nested.Roles.{Forwards}
+use Rattle.mst_forest.specs.nested.Active.{IsTreeOfVid, IsActive}
 use Rattle.mst_tables.specs.Tables.{Net, BridgeRow, IsNetwork}
 use Rattle.mst_tables.specs.ByTree.{by_tree}
 use Rattle.mst_view.specs.View.{LogicalPort, view_ports}
-use Rattle.mst_config.specs.Regions.{same_region, region_of}
-use Rattle.mst_config.proofs.SameRegion.{told}
+use Rattle.mst_forest.specs.config.Regions.{same_region, region_of}
+use Rattle.mst_forest.proofs.config_lemmas.SameRegion.{told}
 use Rattle.mst_forest.specs.Sight.{tree_port}
 use Rattle.mst_forest.specs.Cist.{cist_bridge, cist_port, cist_sight, cist_of}
 use Rattle.mst_forest.specs.Msti.{msti_bridge, msti_sight, has_msti}

@@ -4,11 +4,11 @@ use Rattle.std.specs.Prelude.{if◌then◌else◌, ◌↔◌}
 use Rattle.mst_ids.specs.declared.name.PortName.{PortName}
 use Rattle.mst_vector.specs.Msti.{msti_rules}
 use Rattle.mst_vector.specs.declared.cist.CistPort.{CistPort}
-use Rattle.mst_topology.specs.Topology.{TreePort}
+use Rattle.mst_forest.specs.topology.Topology.{TreePort}
 use Rattle.mst_graph.specs.Walks.{bridge_at, lan_at}
-use Rattle.mst_nested.specs.Exits.{IsCrossing, IsExit}
-use Rattle.mst_nested.specs.Roles.{Forwards}
-use Rattle.mst_nested.specs.Trees.{IsSettled, SamePart, HasTree}
+use Rattle.mst_forest.specs.nested.Exits.{IsCrossing, IsExit}
+use Rattle.mst_forest.specs.nested.Roles.{Forwards}
+use Rattle.mst_forest.specs.nested.Trees.{IsSettled, SamePart, HasTree}
 use Rattle.mst_tables.specs.Tables.{Net, IsNetwork}
 use Rattle.mst_tables.specs.ByTree.{by_tree}
 use Rattle.mst_view.specs.View.{LogicalPort, view_ports}

@@ -1,3 +1,4 @@
+pub use Rattle.mst_forest.proofs as forest_lemmas
 pub use Rattle.mst_classes.proofs as classes_lemmas
 pub mod Names
 pub mod Carried

@@ -1,7 +1,7 @@
 -- Names tell bridges and LANs.
 use Rattle.std.proofs.Common.{ℕ, List, nat_eq, refl}
 use Rattle.std.specs.Cmp.Lexicographic.{pointwise, bytes_decides}
-use Rattle.mst_topology.specs.Topology.{IsTest, KeyTests}
+use Rattle.mst_forest.specs.topology.Topology.{IsTest, KeyTests}
 
 is_test : IsTest (pointwise nat_eq)
 is_test = record { itself = λ a. (bytes_decides a a).1 refl; alone = λ a b e. (bytes_decides a b).0 e }

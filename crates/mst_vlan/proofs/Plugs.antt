@@ -4,8 +4,8 @@ use Rattle.std.specs.Prelude.{if◌then◌else◌}
 use Rattle.mst_ids.specs.declared.name.PortName.{PortName}
 use Rattle.mst_vector.specs.Cist.{cist_rules}
 use Rattle.mst_vector.specs.declared.cist.CistPort.{CistPort}
-use Rattle.mst_topology.specs.Topology.{TreePort}
-use Rattle.mst_nested.specs.Trees.{TakesPart}
+use Rattle.mst_forest.specs.topology.Topology.{TreePort}
+use Rattle.mst_forest.specs.nested.Trees.{TakesPart}
 use Rattle.mst_tables.specs.Tables.{Net, IsNetwork}
 use Rattle.mst_tables.specs.ByTree.{by_tree}
 use Rattle.mst_view.specs.View.{LogicalPort}

@@ -13,7 +13,7 @@ use Rattle.mst_tables.specs.Tables.{Net, BridgeRow, IsNetwork}
 use Rattle.mst_tables.specs.After.{table_of}
 use Rattle.mst_tables.proofs.TableFits.{tree_in-no_table}
 use Rattle.mst_view.specs.Trees.{mstis_of, is_among}
-use Rattle.mst_config.specs.Regions.{same_region, same_configuration}
+use Rattle.mst_forest.specs.config.Regions.{same_region, same_configuration}
 use Rattle.mst_forest.specs.Msti.{has_msti}
 use Rattle.mst_forest.specs.Roles.{tree_of_vid}
 

@@ -8,15 +8,15 @@ ghost use Rattle.mst_vector.specs.declared.cist.CistBridge.{CistBridge};
 ghost use Rattle.mst_vector.specs.declared.cist.CistPort.{CistPort};
 ghost use Rattle.mst_vector.specs.declared.cist.CistVector.{CistVector};
 ghost use Rattle.mst_vector.specs.declared.msti.MstiVector.{MstiVector};
-ghost use Rattle.mst_topology.specs.Topology.{TreePort, HasBridge};
+ghost use Rattle.mst_forest.specs.topology.Topology.{TreePort, HasBridge};
 ghost use Rattle.mst_graph.specs.Islands.{Island};
 ghost use Rattle.mst_graph.specs.Joined.{HasNoLoop};
 ghost use Rattle.mst_graph.specs.Walks.{Node, Walk, bridge_at, lan_at};
-ghost use Rattle.mst_nested.specs.Exits.{IsCrossing, IsExit, HoldsRoot, HasOneExit};
-ghost use Rattle.mst_nested.specs.Parts.{SameRoots, HasRoot, HasRegionalRoot, HasMstiRoot};
-ghost use Rattle.mst_nested.specs.Ports.{port_ends as plug_ends};
-ghost use Rattle.mst_nested.specs.Roles.{Forwards, ForwardsInside};
-ghost use Rattle.mst_nested.specs.Trees.{SamePart, SameRegion, HasTree};
+ghost use Rattle.mst_forest.specs.nested.Exits.{IsCrossing, IsExit, HoldsRoot, HasOneExit};
+ghost use Rattle.mst_forest.specs.nested.Parts.{SameRoots, HasRoot, HasRegionalRoot, HasMstiRoot};
+ghost use Rattle.mst_forest.specs.nested.Ports.{port_ends as plug_ends};
+ghost use Rattle.mst_forest.specs.nested.Roles.{Forwards, ForwardsInside};
+ghost use Rattle.mst_forest.specs.nested.Trees.{SamePart, SameRegion, HasTree};
 ghost use Rattle.mst_tables.specs.Tables.{Net, IsNetwork};
 ghost use Rattle.mst_tables.specs.ByTree.{by_tree};
 ghost use Rattle.mst_view.specs.View.{LogicalPort, IsUnrestricted};
@@ -29,8 +29,8 @@ ghost use Rattle.mst_vlan.specs.Active.{active_ports, port_ends, IsEnabled, Join
 ghost use Rattle.mst_vlan.specs.Reach.{AreIslandsOf};
 
 use mst_forest::laws::{forwarding, nested};
+use mst_forest::nested_laws as laws;
 use mst_ids::{Name, PortName};
-use mst_nested::laws;
 
 /// Where no logical port's role is restricted, the active ports of a VID join what is enabled and make no loop, whatever
 /// trees the regions map the VID to: a

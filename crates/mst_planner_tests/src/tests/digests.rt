@@ -4,7 +4,7 @@
 use super::lines::planner_of;
 use hex::encode;
 use md5::{Digest, Md5};
-use mst_config::{hmac_md5, mcid};
+use mst_forest::{hmac_md5, mcid};
 use mst_ids::{ConfName, Name};
 use mst_net::{Contents, Table};
 use std::alloc::{AllocError, Global};

@@ -1,5 +1,5 @@
 use Rattle.std.proofs.Common.{◌∙◌}
-use Rattle.mst_outcome.specs.Assignment.{designated_of}
+use Rattle.mst_forest.specs.outcome.Assignment.{designated_of}
 use Rattle.mst_forest.specs.Seen.{seen_internal}
 use Rattle.mst_forest.proofs.Seen.{port_seen}
 use Rattle.mst_explain.proofs.Planned.{internal_is}

@@ -1,4 +1,4 @@
-use Rattle.mst_forest.proofs.SettledNet.{known_of}
+use Rattle.mst_vlan.proofs.forest_lemmas.SettledNet.{known_of}
 use Rattle.mst_diff.proofs.reach.sides_between.Goals as goal
 
 pub new-requires : goal.new-requires

@@ -1,10 +1,10 @@
 use Rattle.std.proofs.Common.{List, ℕ, subst, ◌∙◌}
 use Rattle.std.proofs.lemmas.Result.{IfOk-weaker}
-use Rattle.mst_forest.specs.Agrees.{AreOf}
-use Rattle.mst_forest.specs.Forest.{IsForest}
-use Rattle.mst_forest.specs.Settled.{outcome_of}
+use Rattle.mst_vlan.specs.forest.Agrees.{AreOf}
+use Rattle.mst_vlan.specs.forest.Forest.{IsForest}
+use Rattle.mst_vlan.specs.forest.Settled.{outcome_of}
 use Rattle.mst_vlan.specs.Reach.{AreReached}
-use Rattle.mst_forest.proofs.SettledNet.{forest_of}
+use Rattle.mst_vlan.proofs.forest_lemmas.SettledNet.{forest_of}
 use Rattle.mst_tables.specs.Tables.{Net, Numbers}
 use Rattle.mst_vlan.specs.Carried.{ViewWithTrees}
 use Rattle.mst_diff.specs.Seen.{seen_groups}

@@ -1,6 +1,6 @@
 use Rattle.std.proofs.Common.{◌≡◌, ℕ, ◌+◌, ◌++◌, ◌∷◌, [], true, false, get_or, sym, ◌∙◌, ap, arith, rules}
 use Rattle.std.proofs.lemmas.Grind.{common_steps}
-use Rattle.mst_tables.proofs.Rising.{one_passes, one_fails}
+use Rattle.mst_net.proofs.tables_lemmas.Rising.{one_passes, one_fails}
 use Rattle.mst_forest.specs.InUse.{is_in_use}
 use Rattle.mst_forest.proofs.InUse.{all_seen}
 use Rattle.mst_forest.proofs.in_use.mstis_in_use.Goals as goal

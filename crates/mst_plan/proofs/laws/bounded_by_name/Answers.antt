@@ -1,13 +1,13 @@
 use Rattle.std.proofs.Common.{subst}
 use Rattle.mst_vector.specs.Cist.{cist_rules}
 use Rattle.mst_vector.specs.Msti.{msti_rules}
-use Rattle.mst_forest.specs.Cist.{cist_sight}
-use Rattle.mst_forest.specs.Msti.{msti_sight}
-use Rattle.mst_forest.specs.Outcome.{Outcome}
+use Rattle.mst_trees.specs.forest.Cist.{cist_sight}
+use Rattle.mst_trees.specs.forest.Msti.{msti_sight}
+use Rattle.mst_trees.specs.forest.Outcome.{Outcome}
 use Rattle.mst_outcome.specs.Assignment.{vector_of, designated_of}
-use Rattle.mst_forest.specs.Forest.{msti_vector, msti_designated, msti_settlings}
-use Rattle.mst_forest.proofs.CistTopology.{cist_is_sight}
-use Rattle.mst_forest.proofs.MstiTopology.{msti_is_sight}
+use Rattle.mst_trees.specs.forest.Forest.{msti_vector, msti_designated, msti_settlings}
+use Rattle.mst_trees.proofs.forest_lemmas.CistTopology.{cist_is_sight}
+use Rattle.mst_trees.proofs.forest_lemmas.MstiTopology.{msti_is_sight}
 use Rattle.mst_plan.specs.ByName.{KeepsBoundByName}
 use Rattle.mst_plan.proofs.ByName.{by_name}
 use Rattle.mst_plan.proofs.EditNumbers.{together, are_one}

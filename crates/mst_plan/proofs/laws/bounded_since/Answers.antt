@@ -4,13 +4,13 @@ use Rattle.mst_vector.specs.Msti.{msti_rules}
 use Rattle.mst_vector.specs.declared.cist.CistVector.{CistVector}
 use Rattle.mst_vector.specs.declared.msti.MstiVector.{MstiVector}
 use Rattle.mst_net.specs.tables.Contents.{Contents}
-use Rattle.mst_forest.specs.Cist.{cist_sight}
-use Rattle.mst_forest.specs.Msti.{msti_sight}
-use Rattle.mst_forest.specs.Outcome.{Outcome}
+use Rattle.mst_trees.specs.forest.Cist.{cist_sight}
+use Rattle.mst_trees.specs.forest.Msti.{msti_sight}
+use Rattle.mst_trees.specs.forest.Outcome.{Outcome}
 use Rattle.mst_outcome.specs.Assignment.{vector_of, designated_of}
-use Rattle.mst_forest.specs.Forest.{Forest, msti_vector, msti_designated, msti_settlings}
-use Rattle.mst_forest.proofs.CistTopology.{cist_is_sight}
-use Rattle.mst_forest.proofs.MstiTopology.{msti_is_sight}
+use Rattle.mst_trees.specs.forest.Forest.{Forest, msti_vector, msti_designated, msti_settlings}
+use Rattle.mst_trees.proofs.forest_lemmas.CistTopology.{cist_is_sight}
+use Rattle.mst_trees.proofs.forest_lemmas.MstiTopology.{msti_is_sight}
 use Rattle.mst_plan.specs.ByName.{KeepBoundsByName, KeepFirstBounds, StandsFor}
 use Rattle.mst_plan.specs.Standing.{standing_of}
 use Rattle.mst_plan.proofs.ByName.{AreOne, by_name}

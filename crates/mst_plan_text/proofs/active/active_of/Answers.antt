@@ -1,11 +1,11 @@
 use Rattle.std.proofs.Common.{◌≡◌, map, sym, ap, ◌∙◌}
 use Rattle.std.proofs.lemmas.Result.{IfOk-weaker}
 use Rattle.mst_view.proofs.Lists.{mapped_twice}
-use Rattle.mst_forest.specs.Settled.{outcome_of}
+use Rattle.mst_vlan.specs.forest.Settled.{outcome_of}
 use Rattle.mst_text.specs.vlan.Seen.{seen_active}
 use Rattle.mst_text.specs.VlanSeen.{seen_port}
 use Rattle.mst_text.proofs.VlanNamed.{active_named}
-use Rattle.mst_forest.proofs.SettledNet.{forest_of}
+use Rattle.mst_vlan.proofs.forest_lemmas.SettledNet.{forest_of}
 use Rattle.mst_plan_text.specs.Bodies.{pair_of, pairs_of, seen_pair}
 use Rattle.mst_plan_text.proofs.active.active_of.Goals as goal
 

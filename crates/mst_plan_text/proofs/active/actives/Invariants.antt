@@ -1,5 +1,5 @@
 use Rattle.std.proofs.Common.{◌≡◌, ◌+◌, length, map, take}
-use Rattle.mst_forest.specs.Settled.{outcome_of}
+use Rattle.mst_vlan.specs.forest.Settled.{outcome_of}
 use Rattle.mst_plan_text.specs.Bodies.{pairs_of}
 use Rattle.mst_plan_text.proofs.active.actives.Given as goal
 

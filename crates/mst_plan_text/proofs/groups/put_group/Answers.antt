@@ -2,7 +2,7 @@ use Rattle.std.proofs.Common.{◌≡◌, ◌++◌, ◌∷◌, [], List, append_a
 use Rattle.std.proofs.lemmas.Result.{on_ok_weaker}
 use Rattle.mst_ids.specs.Vids.{runs_from}
 use Rattle.mst_rows.specs.Rows.{Row}
-use Rattle.mst_forest.specs.Settled.{outcome_of}
+use Rattle.mst_vlan.specs.forest.Settled.{outcome_of}
 use Rattle.mst_text.specs.VlanRows.{heading}
 use Rattle.mst_text.specs.VlanText.{body_rows}
 use Rattle.mst_plan_text.specs.PlanText.{group_rows, runs_of_group}

@@ -2,7 +2,7 @@ use Rattle.std.proofs.Common.{Vec, Global, ℕ, List, ◌++◌, subst, take}
 use Rattle.std.specs.List.{flat_map}
 use Rattle.mst_rows.proofs.Loops.{rows_all, rows_more}
 use Rattle.mst_rows.specs.Rows.{Row}
-use Rattle.mst_forest.specs.Settled.{outcome_of}
+use Rattle.mst_vlan.specs.forest.Settled.{outcome_of}
 use Rattle.mst_plan_text.specs.PlanText.{group_rows}
 use Rattle.mst_plan_text.proofs.groups.put_groups.Goals as goal
 

@@ -1,7 +1,7 @@
 use Rattle.std.proofs.Common.{ℕ, List, ◌++◌, take}
 use Rattle.std.specs.List.{flat_map}
 use Rattle.mst_rows.specs.Rows.{Row}
-use Rattle.mst_forest.specs.Settled.{outcome_of}
+use Rattle.mst_vlan.specs.forest.Settled.{outcome_of}
 use Rattle.mst_plan_text.specs.PlanText.{group_rows, AreIslandsOfEach, Islands}
 use Rattle.mst_plan_text.specs.contracts.groups.put_groups.{R-type}
 use Rattle.mst_plan_text.proofs.groups.put_groups.Given as goal

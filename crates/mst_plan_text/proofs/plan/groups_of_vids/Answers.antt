@@ -4,8 +4,8 @@ use Rattle.std.proofs.lemmas.List.{length-map}
 use Rattle.std.proofs.lemmas.Result.{IfOk-weaker}
 use Rattle.mst_graph.proofs.Alike.{alike_groups}
 use Rattle.mst_ids.specs.declared.name.PortName.{PortName}
-use Rattle.mst_forest.specs.Agrees.{AreOf}
-use Rattle.mst_forest.specs.Settled.{outcome_of}
+use Rattle.mst_vlan.specs.forest.Agrees.{AreOf}
+use Rattle.mst_vlan.specs.forest.Settled.{outcome_of}
 use Rattle.mst_text.specs.VlanText.{ports_of_vid}
 use Rattle.mst_text.proofs.vlan_lemmas.classes_lemmas.Firsts.{firsts_below}
 use Rattle.mst_plan_text.specs.Bodies.{pair_of, pairs_at, pairs_of}

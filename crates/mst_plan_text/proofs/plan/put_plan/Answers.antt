@@ -1,6 +1,6 @@
 use Rattle.std.proofs.Common.{◌++◌, refl, subst, append_assoc}
 use Rattle.std.proofs.lemmas.Result.{on_ok_weaker}
-use Rattle.mst_forest.specs.Settled.{outcome_of}
+use Rattle.mst_vlan.specs.forest.Settled.{outcome_of}
 use Rattle.mst_plan_text.specs.PlanText.{trees_rows}
 use Rattle.mst_plan_text.proofs.plan.put_plan.Goals as goal
 

@@ -4,7 +4,7 @@ use Rattle.std.proofs.lemmas.List.Folds.{flat_map-map}
 use Rattle.std.proofs.lemmas.Result.{on_ok_weaker}
 use Rattle.mst_graph.proofs.Alike.{alike_groups}
 use Rattle.mst_rows.specs.Rows.{Row}
-use Rattle.mst_forest.specs.Settled.{outcome_of}
+use Rattle.mst_vlan.specs.forest.Settled.{outcome_of}
 use Rattle.mst_text.specs.VlanText.{ports_of_vid}
 use Rattle.mst_text.specs.vlan.classes.AllVids.{all_vids}
 use Rattle.mst_plan_text.specs.PlanText.{group_rows, AreIslandsOfEach, HaveOneBody, Islands}

@@ -1,5 +1,5 @@
 use Rattle.mst_rows.proofs.Loops.{rows_more}
-use Rattle.mst_forest.specs.Settled.{outcome_of}
+use Rattle.mst_vlan.specs.forest.Settled.{outcome_of}
 use Rattle.mst_text.specs.TreeText.{tree_rows}
 use Rattle.mst_plan_text.proofs.trees.put_mstis.Goals as goal
 

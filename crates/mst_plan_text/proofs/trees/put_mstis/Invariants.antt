@@ -1,7 +1,7 @@
 use Rattle.std.proofs.Common.{List, ◌++◌, take}
 use Rattle.std.specs.List.{flat_map}
 use Rattle.mst_rows.specs.Rows.{Row}
-use Rattle.mst_forest.specs.Settled.{outcome_of}
+use Rattle.mst_vlan.specs.forest.Settled.{outcome_of}
 use Rattle.mst_text.specs.TreeText.{tree_rows}
 use Rattle.mst_plan_text.specs.contracts.trees.put_mstis.{R-type}
 use Rattle.mst_plan_text.proofs.trees.put_mstis.Given as goal

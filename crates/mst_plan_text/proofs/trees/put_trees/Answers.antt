@@ -2,8 +2,8 @@ use Rattle.std.proofs.Common.{◌≡◌, ◌++◌, List, ap, subst, ◌∙◌, a
 use Rattle.std.specs.List.{flat_map}
 use Rattle.std.proofs.lemmas.Result.{on_ok_weaker}
 use Rattle.mst_rows.specs.Rows.{Row}
-use Rattle.mst_forest.specs.InUse.{seen_mstis}
-use Rattle.mst_forest.specs.Settled.{outcome_of}
+use Rattle.mst_vlan.specs.forest.InUse.{seen_mstis}
+use Rattle.mst_vlan.specs.forest.Settled.{outcome_of}
 use Rattle.mst_text.specs.TreeText.{tree_rows}
 use Rattle.mst_plan_text.specs.PlanText.{mstis, trees_rows}
 use Rattle.mst_plan_text.proofs.SeenTrees.{mstis_named}

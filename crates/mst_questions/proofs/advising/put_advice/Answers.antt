@@ -1,7 +1,7 @@
 use Rattle.std.proofs.Common.{subst}
 use Rattle.std.proofs.lemmas.Result.{IfOk-weaker}
 use Rattle.mst_advise.specs.Advising.{Advises}
-use Rattle.mst_tables.specs.Contents.{Contents}
+use Rattle.mst_net.specs.tables.Contents.{Contents}
 use Rattle.mst_questions.proofs.advising.put_advice.Goals as goal
 
 pub returns-clause-told : goal.returns-clause-told

@@ -1,6 +1,6 @@
 use Rattle.std.proofs.Common.{◌≡◌, ◌++◌, None, List, sym, subst}
 use Rattle.std.specs.Prelude.{OnOk}
-use Rattle.mst_tables.specs.Tables.{Net}
+use Rattle.mst_net.specs.tables.Tables.{Net}
 use Rattle.mst_rows.specs.Rows.{Row}
 use Rattle.mst_questions.specs.Explaining.{Explains, unexplained_of}
 use Rattle.mst_questions.proofs.explaining.put_explanation_of.Goals as goal

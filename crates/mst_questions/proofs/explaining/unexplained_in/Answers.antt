@@ -1,8 +1,8 @@
 use Rattle.std.proofs.Common.{is_some, sym, ap, ◌∙◌}
 use Rattle.std.specs.FinMap as fin
 use Rattle.std.specs.Option.{option_map}
-use Rattle.mst_tables.specs.Seen.{bridge_row}
-use Rattle.mst_tables.specs.Tables.{Net}
+use Rattle.mst_net.specs.tables.Seen.{bridge_row}
+use Rattle.mst_net.specs.tables.Tables.{Net}
 use Rattle.mst_questions.specs.Explaining.{unexplained_of}
 use Rattle.mst_questions.proofs.Explained.{without_bridge}
 use Rattle.mst_questions.proofs.explaining.unexplained_in.Goals as goal

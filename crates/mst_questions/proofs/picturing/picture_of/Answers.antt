@@ -1,5 +1,5 @@
 use Rattle.std.proofs.Common.{ap, subst, ◌∙◌, ◌++◌}
-use Rattle.mst_tables.specs.Tables.{Net}
+use Rattle.mst_net.specs.tables.Tables.{Net}
 use Rattle.mst_forest.specs.Settled.{outcome_of}
 use Rattle.mst_picture.specs.Picture.{picture}
 use Rattle.mst_questions.specs.Picturing.{Depicts}

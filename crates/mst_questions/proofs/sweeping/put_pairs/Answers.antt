@@ -1,6 +1,6 @@
 use Rattle.std.proofs.Common.{subst}
 use Rattle.std.proofs.lemmas.Result.{IfOk-weaker}
-use Rattle.mst_tables.specs.Contents.{Contents}
+use Rattle.mst_net.specs.tables.Contents.{Contents}
 use Rattle.mst_advise.specs.sweeping.Pairing.{SweepsPairs}
 use Rattle.mst_questions.proofs.sweeping.put_pairs.Goals as goal
 

@@ -1,10 +1,10 @@
 use Rattle.std.proofs.Common.{◌≡◌, ◌<◌, ℕ, ◌+◌, Bool, false, List, filter, length, sym, ap, subst, ◌∙◌}
 use Rattle.std.specs.List.{All, AllZip, Contains}
 use Rattle.std.proofs.lemmas.Result.{IfOk-weaker}
-use Rattle.mst_forest.proofs.Entries.{all_weaker}
-use Rattle.mst_forest.proofs.Lists.{all_contained, all_there}
-use Rattle.mst_forest.proofs.Looking.{filter_alike}
-use Rattle.mst_forest.specs.Settled.{outcome_of}
+use Rattle.mst_vlan.proofs.forest_lemmas.Entries.{all_weaker}
+use Rattle.mst_vlan.proofs.forest_lemmas.Lists.{all_contained, all_there}
+use Rattle.mst_vlan.proofs.forest_lemmas.Looking.{filter_alike}
+use Rattle.mst_vlan.specs.forest.Settled.{outcome_of}
 use Rattle.mst_vlan.specs.classes.AllVids.{all_vids}
 use Rattle.mst_vlan.proofs.classes_lemmas.VidPlaces.{is_vid_there}
 use Rattle.mst_vlan.proofs.Renumbered.{all_members}

@@ -1,7 +1,7 @@
 use Rattle.std.proofs.Common.{◌≡◌, ℕ, ◌+◌, Bool, true, false, cond, List, [], ◌∷◌, ◌++◌, take, filter, sym, ap, subst, ◌∙◌, append-nil}
 use Rattle.std.specs.List.{flat_map}
 use Rattle.mst_rows.proofs.Loops.{rows_all, rows_more}
-use Rattle.mst_forest.specs.Settled.{outcome_of}
+use Rattle.mst_vlan.specs.forest.Settled.{outcome_of}
 use Rattle.mst_summary.specs.Carries.{are_all, carried, carries_rows}
 use Rattle.mst_summary.proofs.Lists.{passed_more}
 use Rattle.mst_summary.proofs.carries.put_lans.Goals as goal

@@ -1,7 +1,7 @@
 use Rattle.std.proofs.Common.{◌≡◌, List, ◌++◌, take}
 use Rattle.std.specs.List.{flat_map}
 use Rattle.mst_rows.specs.Rows.{Row}
-use Rattle.mst_forest.specs.Settled.{outcome_of}
+use Rattle.mst_vlan.specs.forest.Settled.{outcome_of}
 use Rattle.mst_summary.specs.Carries.{carried, carries_rows, full_of}
 use Rattle.mst_summary.specs.contracts.carries.put_lans.{R-type}
 use Rattle.mst_summary.proofs.carries.put_lans.Given as goal

@@ -1,7 +1,7 @@
 use Rattle.std.proofs.Common.{◌≡◌, ◌==◌, true, sym, ap, ◌∙◌}
 use Rattle.mst_view.specs.Trees.{is_among}
 use Rattle.mst_view.specs.declared.in_view.BridgeInView.{BridgeInView}
-use Rattle.mst_forest.specs.Seen.{trees_at}
+use Rattle.mst_vlan.specs.forest.Seen.{trees_at}
 use Rattle.mst_graph.specs.Lists.{has_any}
 use Rattle.mst_summary.proofs.Lists.{any_or}
 use Rattle.mst_summary.proofs.in_use.is_used.Goals as goal

@@ -1,6 +1,6 @@
 use Rattle.std.proofs.Common.{◌≡◌, refl, take, ◌+◌, ℕ, List, get_or, sym, subst, arith, rules}
 use Rattle.std.proofs.lemmas.Grind.{common_steps}
-use Rattle.mst_forest.specs.Settled.{outcome_of}
+use Rattle.mst_vlan.specs.forest.Settled.{outcome_of}
 use Rattle.mst_summary.specs.Vlans.{HasIslands}
 use Rattle.mst_summary.proofs.VidClasses.{AtPlaces, more_at, all_at}
 use Rattle.mst_summary.proofs.islands.counts_at.Goals as goal

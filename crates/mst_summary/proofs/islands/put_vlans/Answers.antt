@@ -2,7 +2,7 @@ use Rattle.std.proofs.Common.{◌≡◌, ℕ, ◌++◌, List, length, map, refl,
 use Rattle.std.specs.List.{flat_map}
 use Rattle.std.proofs.lemmas.Result.{on_ok_weaker}
 use Rattle.mst_rows.specs.Rows.{Row}
-use Rattle.mst_forest.specs.Settled.{outcome_of}
+use Rattle.mst_vlan.specs.forest.Settled.{outcome_of}
 use Rattle.mst_vlan.specs.classes.AllVids.{NumberEach}
 use Rattle.mst_vlan.proofs.classes_lemmas.VidPlaces.{vids_long}
 use Rattle.mst_vlan.proofs.classes_lemmas.VidPlaces.{numbers_below, each_below}

@@ -6,7 +6,7 @@ use Rattle.std.proofs.lemmas.Result.{on_ok_weaker}
 use Rattle.std.specs.List.{filter_map}
 use Rattle.mst_view.specs.Viewed.{named_bridge}
 use Rattle.mst_view.specs.declared.in_view.BridgeInView.{BridgeInView}
-use Rattle.mst_forest.specs.Settled.{outcome_of}
+use Rattle.mst_vlan.specs.forest.Settled.{outcome_of}
 use Rattle.mst_summary.specs.Roots.{follower}
 use Rattle.mst_summary.proofs.Named.{followers_named}
 use Rattle.mst_summary.proofs.roots.push_followers.Goals as goal

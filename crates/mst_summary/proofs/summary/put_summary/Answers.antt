@@ -2,14 +2,14 @@ use Rattle.std.proofs.Common.{◌≡◌, ◌++◌, ◌∷◌, [], List, append_a
 use Rattle.std.specs.List.{flat_map}
 use Rattle.std.proofs.lemmas.Result.{on_ok_weaker}
 use Rattle.mst_rows.specs.Rows.{Row}
-use Rattle.mst_forest.specs.Settled.{outcome_of}
+use Rattle.mst_vlan.specs.forest.Settled.{outcome_of}
 use Rattle.mst_view.specs.Viewed.{IsView}
 use Rattle.mst_slips.specs.Slips.{slip_rows}
 use Rattle.mst_summary.specs.Carries.{all_carries, full_carries}
 use Rattle.mst_summary.specs.Counts.{counts_of, counts_row}
 use Rattle.mst_summary.specs.Seen.{seen_tree_rows, seen_counts, seen_trees}
 use Rattle.mst_summary.specs.SummaryText.{all_trees_rows}
-use Rattle.mst_forest.proofs.SettledNet.{known_of}
+use Rattle.mst_vlan.proofs.forest_lemmas.SettledNet.{known_of}
 use Rattle.mst_summary.proofs.Named.{counts_named, tree_rows_named}
 use Rattle.mst_summary.proofs.summary.put_summary.Goals as goal
 

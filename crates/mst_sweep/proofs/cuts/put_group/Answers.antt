@@ -1,7 +1,7 @@
 use Rattle.std.proofs.Common.{◌≡◌, ◌∙◌, ℕ, ◌-◌, ◌<◌, List, [], ◌∷◌, ◌++◌, get_or, map, Some, sym, ap, subst, arith}
 use Rattle.std.specs.Prelude.{OnOk, slice_get}
 use Rattle.std.proofs.lemmas.List.{get_or-map}
-use Rattle.mst_forest.proofs.Lists.{no_some, some_is}
+use Rattle.mst_vlan.proofs.forest_lemmas.Lists.{no_some, some_is}
 use Rattle.mst_rows.specs.Rows.{Row}
 use Rattle.mst_sweep.specs.declared.cuts.CutBy.{CutBy}
 use Rattle.mst_sweep.specs.Cuts.{group_row, group_rows, names_of, parts_at}

@@ -1,6 +1,6 @@
 use Rattle.std.proofs.Common.{◌≡◌, ◌<◌, ◌≤◌, length, sym, ◌∙◌, arith}
 use Rattle.mst_view.specs.View.{port_names}
-use Rattle.mst_forest.proofs.NotInUse.{unused, unused_by}
+use Rattle.mst_vlan.proofs.forest_lemmas.NotInUse.{unused, unused_by}
 use Rattle.mst_sweep.proofs.Moved.{few_ports, none_counted}
 use Rattle.mst_sweep.proofs.Untouched.{had_listed}
 use Rattle.mst_sweep.proofs.ports.moved_in_tree.Goals as goal

@@ -1,8 +1,8 @@
 use Rattle.std.proofs.Common.{◌≡◌}
 use Rattle.std.specs.List.{filter, list_any, range_with_len}
 use Rattle.mst_net.specs.tables.Tables.{Net, Numbers}
-use Rattle.mst_forest.specs.Agrees.{AreOf}
-use Rattle.mst_forest.specs.Forest.{IsForest}
+use Rattle.mst_vlan.specs.forest.Agrees.{AreOf}
+use Rattle.mst_vlan.specs.forest.Forest.{IsForest}
 use Rattle.mst_view.specs.View.{bridge_names}
 use Rattle.mst_sweep.specs.Moved.{root_moved}
 use Rattle.mst_sweep.proofs.roots.moved_roots.Given as goal

@@ -1,6 +1,6 @@
 use Rattle.std.proofs.Common.{sym, ap, ◌∙◌}
 use Rattle.std.specs.List.{list_any}
-use Rattle.mst_forest.proofs.NotInUse.{unused, unused_by}
+use Rattle.mst_vlan.proofs.forest_lemmas.NotInUse.{unused, unused_by}
 use Rattle.mst_sweep.specs.Seen.{seen_root_moved}
 use Rattle.mst_sweep.proofs.Moved.{any_moved, none_moved}
 use Rattle.mst_sweep.proofs.roots.tree_moved.Goals as goal

@@ -1,5 +1,5 @@
 use Rattle.std.proofs.Common.{◌≡◌, ℕ, ◌+◌, Bool, List, [], ◌∷◌, ◌++◌, true, get_or, length, sym, ap, subst, ◌∙◌}
-use Rattle.mst_forest.specs.InUse.{seen_mstis}
+use Rattle.mst_vlan.specs.forest.InUse.{seen_mstis}
 use Rattle.mst_sweep.specs.Touched.{KeepsRoles}
 use Rattle.mst_sweep.proofs.Untouched.{one_flag, one_longer}
 use Rattle.mst_sweep.proofs.touched.touched.Goals as goal

@@ -1,5 +1,5 @@
 use Rattle.std.proofs.Common.{◌≡◌, ℕ, false, true, get_or, length}
-use Rattle.mst_forest.specs.InUse.{seen_mstis}
+use Rattle.mst_vlan.specs.forest.InUse.{seen_mstis}
 use Rattle.mst_sweep.specs.Touched.{KeepsRoles}
 use Rattle.mst_sweep.proofs.touched.touched.Given as goal
 

@@ -1,6 +1,6 @@
 use Rattle.std.proofs.Common.{subst}
 use Rattle.std.specs.List.{range_with_len}
-use Rattle.mst_forest.specs.Outcome.{Outcome}
+use Rattle.mst_plan.specs.forest.Outcome.{Outcome}
 use Rattle.mst_sweep.specs.SweepParts.{ToldOfPart, IsSweepPart}
 use Rattle.mst_sweeping.specs.Sweeping.{SweepsPart}
 use Rattle.mst_sweeping.proofs.SweepThere.{has_part}

@@ -1,5 +1,5 @@
 use Rattle.std.proofs.Common.{[], ◌∷◌, sym, subst}
-use Rattle.mst_forest.specs.Outcome.{IsOutcome}
+use Rattle.mst_plan.specs.forest.Outcome.{IsOutcome}
 use Rattle.mst_sweep.specs.CutClasses.{AreKeptAlone, kept_of}
 use Rattle.mst_sweep.specs.Pairs.{failed}
 use Rattle.mst_sweep.proofs.Together.{failed_left}

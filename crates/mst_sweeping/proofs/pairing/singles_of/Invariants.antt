@@ -1,6 +1,6 @@
 use Rattle.std.proofs.Common.{take}
 use Rattle.mst_view.specs.Viewed.{IsView}
-use Rattle.mst_forest.specs.Forest.{IsForest}
+use Rattle.mst_plan.specs.forest.Forest.{IsForest}
 use Rattle.mst_sweeping.specs.Pairing.{AreSingles}
 use Rattle.mst_sweeping.proofs.pairing.singles_of.Given as goal
 

@@ -1,7 +1,7 @@
 use Rattle.std.proofs.Common.{◌≡◌, ◌≤◌, length, sym, ap, ◌∙◌, arith}
 use Rattle.std.specs.List.{count_by}
 use Rattle.mst_view.specs.View.{port_names}
-use Rattle.mst_forest.proofs.NotInUse.{unused, unused_by}
+use Rattle.mst_plan.proofs.forest_lemmas.NotInUse.{unused, unused_by}
 use Rattle.mst_sweep.proofs.Moved.{none_counted}
 use Rattle.mst_sweeping.specs.Seen.{seen_both_ports, seen_moved}
 use Rattle.mst_sweeping.proofs.PortsOfBoth.{few_of_both, moved_counted}

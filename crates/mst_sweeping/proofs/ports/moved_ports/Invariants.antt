@@ -1,8 +1,8 @@
 use Rattle.std.proofs.Common.{◌≡◌, ◌≤◌, ◌*◌}
 use Rattle.std.specs.List.{count_by, sum_by, range_with_len}
 use Rattle.mst_net.specs.tables.Tables.{Net, Numbers}
-use Rattle.mst_forest.specs.Agrees.{AreOf}
-use Rattle.mst_forest.specs.Forest.{IsForest}
+use Rattle.mst_plan.specs.forest.Agrees.{AreOf}
+use Rattle.mst_plan.specs.forest.Forest.{IsForest}
 use Rattle.mst_view.specs.View.{port_names}
 use Rattle.mst_sweep.specs.Moved.{port_moved}
 use Rattle.mst_sweeping.proofs.ports.moved_ports.Given as goal

@@ -1,7 +1,7 @@
 use Rattle.std.proofs.Common.{◌≤◌, List, take}
 use Rattle.mst_view.specs.Viewed.{IsView}
 use Rattle.mst_rows.specs.Rows.{Row}
-use Rattle.mst_forest.specs.Forest.{IsForest}
+use Rattle.mst_plan.specs.forest.Forest.{IsForest}
 use Rattle.mst_sweeping.specs.Sweeping.{AreTold, Puts}
 use Rattle.mst_sweeping.proofs.sweeping.sweep_failures.Given as goal
 

@@ -6,8 +6,8 @@ use Rattle.mst_view.specs.declared.in_view.BridgeInView.{BridgeInView}
 use Rattle.mst_view.specs.declared.in_view.PortInView.{PortInView}
 use Rattle.mst_rows.specs.Rows.{Row}
 use Rattle.mst_rows.proofs.Loops.{rest_more, rest_none}
-use Rattle.mst_forest.proofs.Lists.{all_there}
-use Rattle.mst_forest.specs.Settled.{SettledNet}
+use Rattle.mst_vlan.proofs.forest_lemmas.Lists.{all_there}
+use Rattle.mst_vlan.specs.forest.Settled.{SettledNet}
 use Rattle.mst_text.specs.TreeRuns.{bridge_with, by_runs, is_of, run_of}
 use Rattle.mst_text.proofs.tree.put_bridges.Goals as goal
 

@@ -2,7 +2,7 @@ use Rattle.std.proofs.Common.{◌≡◌, ◌++◌, ◌∷◌, [], List, map, ◌
 use Rattle.std.proofs.lemmas.Result.{on_ok_weaker}
 use Rattle.mst_ids.specs.Vids.{runs_from}
 use Rattle.mst_rows.specs.Rows.{Row}
-use Rattle.mst_forest.proofs.SettledNet.{forest_of}
+use Rattle.mst_vlan.proofs.forest_lemmas.SettledNet.{forest_of}
 use Rattle.mst_view.specs.Viewed.{Viewed}
 use Rattle.mst_view.specs.declared.in_view.PortInView.{PortInView}
 use Rattle.mst_vlan.specs.declared.island.Island.{Island}

@@ -1,8 +1,8 @@
 use Rattle.std.proofs.Common.{◌≡◌, ◌==◌, ◌||◌, false, sym, ap, ◌∙◌}
 use Rattle.std.specs.Prelude.{option_copied}
 use Rattle.std.proofs.lemmas.Bool.{ne_eqb}
-use Rattle.mst_config.specs.Regions.{same_region}
-use Rattle.mst_config.specs.Shared.{same_in}
+use Rattle.mst_forest.specs.config.Regions.{same_region}
+use Rattle.mst_forest.specs.config.Shared.{same_in}
 use Rattle.mst_forest.specs.Forest.{Forest}
 use Rattle.mst_tree_judges.proofs.RegionOf.{none_same, some_same}
 use Rattle.mst_tree_judges.proofs.roots.is_of.Goals as goal

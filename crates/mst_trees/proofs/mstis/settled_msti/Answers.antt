@@ -1,7 +1,7 @@
 use Rattle.std.proofs.Common.{IfOk, sym, subst, ap, ◌∙◌}
 use Rattle.mst_vector.specs.Msti.{msti_rules}
-use Rattle.mst_outcome.specs.Assignment.{vector_of}
-use Rattle.mst_outcome.specs.Held.{IsHeld}
+use Rattle.mst_forest.specs.outcome.Assignment.{vector_of}
+use Rattle.mst_forest.specs.outcome.Held.{IsHeld}
 use Rattle.mst_trees.specs.Ground.{Ground, rewiring_of}
 use Rattle.mst_trees.specs.Mstis.{IsSettledFrom}
 use Rattle.mst_trees.specs.Wirings.{AreOwn, msti_wires}

@@ -1,5 +1,5 @@
 use Rattle.std.proofs.Common.{◌≡◌, ℕ, take}
-use Rattle.mst_topology.specs.Places.{in_map}
+use Rattle.mst_forest.specs.topology.Places.{in_map}
 use Rattle.mst_trees.specs.Wirings.{own_in}
 use Rattle.mst_trees.proofs.OwnSettings.{noted_of}
 use Rattle.mst_trees.proofs.own.own_settings.Given as goal

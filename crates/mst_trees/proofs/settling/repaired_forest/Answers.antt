@@ -1,6 +1,6 @@
 use Rattle.std.proofs.Common.{sym, subst, ap, ◌∙◌}
 use Rattle.mst_vector.specs.Cist.{cist_rules}
-use Rattle.mst_outcome.specs.Assignment.{designated_of, IsSettledFor}
+use Rattle.mst_forest.specs.outcome.Assignment.{designated_of, IsSettledFor}
 use Rattle.mst_forest.specs.Seen.{internal_seen, cist_seen}
 use Rattle.mst_forest.specs.Agrees.{AreOf}
 use Rattle.mst_forest.specs.Forest.{Forest}

@@ -2,7 +2,7 @@ use Rattle.std.proofs.Common.{◌≡◌, false, sym, ap, subst, ◌∙◌}
 use Rattle.mst_lang.specs.declared.line.Edit.{Edit}
 use Rattle.mst_net.specs.tables.After.{effect}
 use Rattle.mst_net.specs.tables.Tables.{Net}
-use Rattle.mst_forest.specs.Msti.{has_msti}
+use Rattle.mst_plan_text.specs.forest.Msti.{has_msti}
 use Rattle.mst_report.proofs.Staying.{kept_so, same_then, effect_made}
 use Rattle.mst_report.proofs.planner.Planner.apply.Goals as goal
 

@@ -5,7 +5,7 @@ use Rattle.mst_net.specs.tables.Tables.{Net}
 use Rattle.mst_changes.specs.ChangesText.{all_changes}
 use Rattle.mst_changes.specs.Kept.{entries_of}
 use Rattle.mst_changes.specs.Stored.{kept_entries}
-use Rattle.mst_forest.specs.Settled.{outcome_of}
+use Rattle.mst_plan_text.specs.forest.Settled.{outcome_of}
 use Rattle.mst_report.specs.Answers.{TellsChanges}
 use Rattle.mst_report.specs.Planned.{planned_state}
 use Rattle.mst_report.proofs.Answering.{was_marked, changes_are}

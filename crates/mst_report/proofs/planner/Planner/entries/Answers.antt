@@ -1,7 +1,7 @@
 use Rattle.std.proofs.Common.{subst}
 use Rattle.mst_net.specs.tables.Tables.{Net}
 use Rattle.mst_changes.specs.Stored.{kept_entries}
-use Rattle.mst_forest.specs.Settled.{outcome_of}
+use Rattle.mst_plan_text.specs.forest.Settled.{outcome_of}
 use Rattle.mst_report.specs.State.{IsMarkNow}
 use Rattle.mst_report.proofs.planner.Planner.entries.Goals as goal
 

@@ -1,6 +1,6 @@
 use Rattle.std.proofs.lemmas.Result.{on_ok_weaker}
 use Rattle.mst_note_text.specs.NotesText.{AreNoteRows}
-use Rattle.mst_forest.specs.Settled.{outcome_of}
+use Rattle.mst_plan_text.specs.forest.Settled.{outcome_of}
 use Rattle.mst_report.proofs.Told.{tells}
 use Rattle.mst_report.proofs.planner.Planner.notes.Goals as goal
 

@@ -1,6 +1,6 @@
 use Rattle.std.proofs.Common.{◌≡◌, refl}
 use Rattle.std.proofs.lemmas.Result.{on_ok_weaker}
-use Rattle.mst_forest.specs.Settled.{outcome_of}
+use Rattle.mst_plan_text.specs.forest.Settled.{outcome_of}
 use Rattle.mst_plan_text.specs.text.TreeText.{tree_rows}
 use Rattle.mst_report.proofs.Told.{tells}
 use Rattle.mst_report.proofs.planner.Planner.tree.Goals as goal

@@ -4,8 +4,8 @@ use Rattle.std.proofs.lemmas.List.{get_or_default}
 use Rattle.mst_graph.specs.Numbers.{AreNumbers}
 use Rattle.mst_net.specs.tables.Tables.{Net, Numbers}
 use Rattle.mst_vlan.specs.Carried.{ViewWithTrees}
-use Rattle.mst_forest.specs.Agrees.{AreOf}
-use Rattle.mst_forest.specs.Forest.{IsForest}
+use Rattle.mst_vlan.specs.forest.Agrees.{AreOf}
+use Rattle.mst_vlan.specs.forest.Forest.{IsForest}
 use Rattle.mst_sweep.specs.Baseline.{AreHomes}
 use Rattle.mst_sweep.proofs.baseline.Baseline.new.Goals as goal
 
