@@ -20,12 +20,12 @@ import re
 import sys
 
 TOP = os.path.join(os.path.dirname(os.path.abspath(__file__)), os.pardir, "crates")
-CALLS = ["mst_tool::runs::run", "mst_tool::checks::check", "mst_vlan::topology::active_ports/named", "mst_vlan::topology::active_ports/joined"]
+CALLS = ["mst_tool::runs::run", "mst_tool::checks::check", "mst_roles::topology::active_ports/named", "mst_roles::topology::active_ports/joined"]
 ASKED = ["mst_questions::asks::ask", "mst_between::diffs::diff"]
 STANDING = ["mst_ask::asking::ask_within/ended"]
 VERIFIED = ["mst_verifying::verifies::verify"]
 ALTERED = ["mst_altering::alters::steps"]
-LOOPS = ["mst_vlan::laws::joined_without_loop"]
+LOOPS = ["mst_roles::laws::joined_without_loop"]
 # What the hints of a script, a policy and a change are.
 HINTED = [("mst_hinting", "Lines", "hints_of")]
 # From the program's words to its exit status.

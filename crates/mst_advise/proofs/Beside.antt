@@ -4,12 +4,12 @@ use Rattle.std.specs.Prelude.{if◌then◌else◌}
 use Rattle.std.specs.List.{Contains}
 use Rattle.std.specs.Option.{option_and_then}
 use Rattle.std.specs.FinMap as fin
-use Rattle.mst_forest.specs.outcome.Assignment.{designated_of}
+use Rattle.mst_roles.specs.forest.outcome.Assignment.{designated_of}
 use Rattle.mst_view.specs.Viewed.{named_port}
 use Rattle.mst_view.specs.declared.in_view.PortInView.{PortInView}
-use Rattle.mst_forest.specs.Forest.{designated_in, msti_designated}
-use Rattle.mst_forest.specs.Settled.{SettledNet, IsSettledNet, name_of_port, outcome_of}
-use Rattle.mst_forest.proofs.Seen.{port_seen}
+use Rattle.mst_roles.specs.forest.Forest.{designated_in, msti_designated}
+use Rattle.mst_roles.specs.forest.Settled.{SettledNet, IsSettledNet, name_of_port, outcome_of}
+use Rattle.mst_roles.proofs.forest_lemmas.Seen.{port_seen}
 use Rattle.mst_advise.specs.InQuestion.{designated_beside}
 
 module _ (s : SettledNet) (is : IsSettledNet s) (tree : ℕ) (p : PortInView) (there : Contains s.view.ports p) where

@@ -7,8 +7,8 @@ use Rattle.mst_view.specs.Aggregation.{same_name}
 use Rattle.mst_view.specs.declared.in_view.BridgeInView.{BridgeInView}
 use Rattle.mst_net.specs.tables.Seen.{bridge_row}
 use Rattle.mst_net.specs.tables.Tables.{BridgeRow}
-use Rattle.mst_forest.specs.Settled.{SettledNet, IsSettledNet}
-use Rattle.mst_forest.proofs.Seen.{bridge_seen, bridge_there}
+use Rattle.mst_roles.specs.forest.Settled.{SettledNet, IsSettledNet}
+use Rattle.mst_roles.proofs.forest_lemmas.Seen.{bridge_seen, bridge_there}
 use Rattle.mst_verify.proofs.tree_judges_lemmas.RegionOf.{found_there, none_found}
 
 module _ (s : SettledNet) (is : IsSettledNet s) (name : List ℕ) where

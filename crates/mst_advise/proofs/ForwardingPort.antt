@@ -8,15 +8,15 @@ use Rattle.mst_view.specs.View.{LogicalPort, view_ports}
 use Rattle.mst_policy.specs.Items as policy
 use Rattle.mst_policy.specs.declared.expectation.Expectation.TheVariants as expect
 use Rattle.mst_net.specs.tables.Tables.{Net, port_eq}
-use Rattle.mst_forest.specs.Roles.{forwards, role_in}
-use Rattle.mst_forest.specs.declared.kind.Role.{Role}
-use Rattle.mst_forest.specs.declared.kind.Role.TheVariants as role
-use Rattle.mst_forest.specs.Outcome.{Outcome}
-use Rattle.mst_forest.specs.Settled.{SettledNet, IsSettledNet, outcome_of}
-use Rattle.mst_forest.proofs.Named.{port_found, port_is, port_same}
-use Rattle.mst_forest.proofs.Lists.{no_some, some_is}
-use Rattle.mst_forest.proofs.Looking.{first_found}
-use Rattle.mst_forest.proofs.Seen.{port_there}
+use Rattle.mst_roles.specs.Roles.{forwards, role_in}
+use Rattle.mst_roles.specs.declared.kind.Role.{Role}
+use Rattle.mst_roles.specs.declared.kind.Role.TheVariants as role
+use Rattle.mst_roles.specs.forest.Outcome.{Outcome}
+use Rattle.mst_roles.specs.forest.Settled.{SettledNet, IsSettledNet, outcome_of}
+use Rattle.mst_roles.proofs.Named.{port_found, port_is, port_same}
+use Rattle.mst_roles.proofs.forest_lemmas.Lists.{no_some, some_is}
+use Rattle.mst_roles.proofs.forest_lemmas.Looking.{first_found}
+use Rattle.mst_roles.proofs.forest_lemmas.Seen.{port_there}
 use Rattle.mst_verify.specs.tree_judges.judged.reasons.Holds.{Holds, is_wanted}
 use Rattle.mst_verify.specs.tree_judges.judged.reasons.Named.{is_enabled, is_port_named, stopped}
 use Rattle.mst_verify.proofs.tree_judges_lemmas.RegionOf.{found_there}

@@ -9,12 +9,12 @@ use Rattle.mst_ids.specs.Identifiers.{bridge_id}
 use Rattle.mst_view.specs.Aggregation.{same_name}
 use Rattle.mst_net.specs.tables.ByTree.{by_tree}
 use Rattle.mst_net.specs.tables.Tables.{Net, BridgeRow}
-use Rattle.mst_forest.specs.InUse.{id_in}
-use Rattle.mst_forest.specs.Outcome.{Outcome}
-use Rattle.mst_forest.proofs.Entries.{all_weaker}
-use Rattle.mst_forest.proofs.Lists.{all_contained, all_there, filter_mapped, mapped_twice}
-use Rattle.mst_forest.proofs.Looking.{filter_alike}
-use Rattle.mst_forest.proofs.Views.{bridges_are}
+use Rattle.mst_roles.specs.forest.InUse.{id_in}
+use Rattle.mst_roles.specs.forest.Outcome.{Outcome}
+use Rattle.mst_roles.proofs.forest_lemmas.Entries.{all_weaker}
+use Rattle.mst_roles.proofs.forest_lemmas.Lists.{all_contained, all_there, filter_mapped, mapped_twice}
+use Rattle.mst_roles.proofs.forest_lemmas.Looking.{filter_alike}
+use Rattle.mst_roles.proofs.forest_lemmas.Views.{bridges_are}
 use Rattle.mst_verify.specs.summary.declared.roots.Follower.{Follower}
 use Rattle.mst_verify.proofs.summary_lemmas.Lists.{all_mapped}
 use Rattle.mst_verify.specs.tree_judges.judged.reasons.Roots.{identifier}

@@ -11,13 +11,13 @@ use Rattle.mst_view.specs.View.{LogicalPort}
 use Rattle.mst_view.specs.Viewed.{named_port}
 use Rattle.mst_view.specs.declared.in_view.PortInView.{PortInView}
 use Rattle.mst_net.specs.tables.Tables.{Net, BridgeRow, port_eq}
-use Rattle.mst_forest.specs.Roles.{cist_role, msti_role, role_in}
-use Rattle.mst_forest.specs.declared.kind.Role.{Role}
-use Rattle.mst_forest.specs.Msti.{has_msti}
-use Rattle.mst_forest.specs.Outcome.{Outcome}
-use Rattle.mst_forest.specs.Settled.{SettledNet, IsSettledNet}
-use Rattle.mst_forest.proofs.Named.{found_in}
-use Rattle.mst_forest.proofs.Lists.{no_some, passed, there_first, there_later}
+use Rattle.mst_roles.specs.Roles.{cist_role, msti_role, role_in}
+use Rattle.mst_roles.specs.declared.kind.Role.{Role}
+use Rattle.mst_roles.specs.forest.Msti.{has_msti}
+use Rattle.mst_roles.specs.forest.Outcome.{Outcome}
+use Rattle.mst_roles.specs.forest.Settled.{SettledNet, IsSettledNet}
+use Rattle.mst_roles.proofs.Named.{found_in}
+use Rattle.mst_roles.proofs.forest_lemmas.Lists.{no_some, passed, there_first, there_later}
 use Rattle.mst_explain.specs.Explained.{trees_of_bridge}
 use Rattle.mst_advise.specs.Costs.{contested, is_inner, port_named}
 

@@ -10,7 +10,7 @@ use Rattle.mst_net.specs.tables.Contents.{Contents, SameContents, Tables}
 use Rattle.mst_net.specs.tables.Tables.{Net}
 use Rattle.mst_net.specs.tables.declared.refusal.Refusal.{Refusal}
 use Rattle.mst_rows.specs.Rows.{Row}
-use Rattle.mst_forest.specs.Outcome.{Outcome, IsOutcome}
+use Rattle.mst_roles.specs.forest.Outcome.{Outcome, IsOutcome}
 use Rattle.mst_advise.specs.declared.advising.Advised.{Advised}
 use Rattle.mst_advise.specs.declared.advising.Advised.TheVariants as advised
 use Rattle.mst_advise.specs.declared.goal.Goal.{Goal}

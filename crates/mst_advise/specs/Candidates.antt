@@ -1,7 +1,7 @@
 -- The settings that may bring about what is wanted: candidates, of which each is some settings that are made together.
 use Rattle.std.specs.Prelude.{◌≡◌, List, [], ◌∷◌, map}
 use Rattle.mst_net.specs.tables.Tables.{Net}
-use Rattle.mst_forest.specs.Outcome.{Outcome}
+use Rattle.mst_roles.specs.forest.Outcome.{Outcome}
 use Rattle.mst_advise.specs.Costs.{port_named}
 use Rattle.mst_advise.specs.InQuestion.{AreInQuestionOf}
 use Rattle.mst_advise.specs.Priorities.{root_settings}

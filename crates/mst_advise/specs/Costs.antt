@@ -7,9 +7,9 @@ use Rattle.mst_view.specs.View.{LogicalPort, view_ports}
 use Rattle.mst_vector.specs.Rules.{is_cost}
 use Rattle.mst_net.specs.tables.ByTree.{by_tree}
 use Rattle.mst_net.specs.tables.Tables.{Net, port_eq}
-use Rattle.mst_forest.specs.Cist.{cist_port}
-use Rattle.mst_forest.specs.Msti.{is_internal, msti_port}
-use Rattle.mst_forest.specs.Outcome.{Outcome}
+use Rattle.mst_roles.specs.forest.Cist.{cist_port}
+use Rattle.mst_roles.specs.forest.Msti.{is_internal, msti_port}
+use Rattle.mst_roles.specs.forest.Outcome.{Outcome}
 use Rattle.mst_advise.specs.declared.contests.RootContest.{RootContest}
 use Rattle.mst_advise.specs.declared.setting.Setting.{Setting}
 use Rattle.mst_advise.specs.declared.setting.Setting.TheVariants.{ExternalCost, InternalCost}

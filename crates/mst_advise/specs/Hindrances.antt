@@ -5,8 +5,8 @@ use Rattle.std.specs.FinMap as fin
 use Rattle.mst_view.specs.View.{LogicalPort, is_on}
 use Rattle.mst_net.specs.tables.ByTree.{by_tree}
 use Rattle.mst_net.specs.tables.Tables.{Net}
-use Rattle.mst_forest.specs.InUse.{id_in}
-use Rattle.mst_forest.specs.Outcome.{Outcome}
+use Rattle.mst_roles.specs.forest.InUse.{id_in}
+use Rattle.mst_roles.specs.forest.Outcome.{Outcome}
 use Rattle.mst_sweeping.specs.sweep.facts.Roots.{root_of}
 use Rattle.mst_verify.specs.tree_judges.judged.reasons.Roots.{concerned}
 use Rattle.mst_advise.specs.Costs.{port_named}

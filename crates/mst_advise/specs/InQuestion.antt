@@ -6,9 +6,9 @@ use Rattle.mst_view.specs.Aggregation.{same_name}
 use Rattle.mst_view.specs.View.{LogicalPort}
 use Rattle.mst_rows.specs.Rows.{Row}
 use Rattle.mst_net.specs.tables.Tables.{Net}
-use Rattle.mst_forest.specs.Roles.{role_in}
-use Rattle.mst_forest.specs.declared.kind.Role.{Role}
-use Rattle.mst_forest.specs.Outcome.{Outcome}
+use Rattle.mst_roles.specs.Roles.{role_in}
+use Rattle.mst_roles.specs.declared.kind.Role.{Role}
+use Rattle.mst_roles.specs.forest.Outcome.{Outcome}
 use Rattle.mst_explain.specs.Explained.{IsExplained}
 use Rattle.mst_graph.specs.Lists.{each_once}
 use Rattle.mst_advise.specs.Contests.{contests_in, lost_by}

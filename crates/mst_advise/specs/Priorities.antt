@@ -7,7 +7,7 @@ use Rattle.mst_ids.specs.Identifiers.{bridge_id}
 use Rattle.mst_view.specs.Aggregation.{same_name}
 use Rattle.mst_net.specs.tables.ByTree.{priority_in}
 use Rattle.mst_net.specs.tables.Tables.{Net}
-use Rattle.mst_forest.specs.Outcome.{Outcome}
+use Rattle.mst_roles.specs.forest.Outcome.{Outcome}
 use Rattle.mst_verify.specs.tree_judges.judged.reasons.Roots.{concerned, identifier}
 use Rattle.mst_advise.specs.declared.setting.Setting.{Setting}
 use Rattle.mst_advise.specs.declared.setting.Setting.TheVariants.{Priority}

@@ -1,14 +1,14 @@
 ghost use Rattle.std.specs.Prelude.{◌≡◌, ◌++◌, OnOk};
 ghost use Rattle.std.specs.List.{Contains};
 ghost use Rattle.mst_view.specs.Viewed.{named_port};
-ghost use Rattle.mst_forest.specs.Settled.{outcome_of};
+ghost use Rattle.mst_roles.specs.forest.Settled.{outcome_of};
 ghost use Rattle.mst_advise.specs.Costs.{against, contested as contested_by, cost_of as own_cost_of, cost_setting as own_setting, greatest_cost, higher_costs, is_inner as is_inner_of, least_cost, lower_costs, with_cost};
 
 use crate::contests::RootContest;
 use crate::named::port_named;
 use crate::setting::Setting;
-use mst_forest::{Settled, cist_port, msti_port};
 use mst_ids::{Cost, Tree};
+use mst_roles::{Settled, cist_port, msti_port};
 use mst_view::PortInView;
 use std::alloc::AllocError;
 

@@ -2,9 +2,9 @@ ghost use Rattle.std.specs.Prelude.{◌≡◌, ◌↔◌, not, IfOk, IsTrue, Non
 ghost use Rattle.std.specs.List.{Contains};
 ghost use Rattle.mst_view.specs.Viewed.{named_port};
 ghost use Rattle.mst_policy.specs.declared.expectation.Expectation.TheVariants as expect;
-ghost use Rattle.mst_forest.specs.Roles.{role_in};
+ghost use Rattle.mst_roles.specs.Roles.{role_in};
 ghost use Rattle.mst_net.specs.tables.Tables.{Net};
-ghost use Rattle.mst_forest.specs.Settled.{outcome_of};
+ghost use Rattle.mst_roles.specs.forest.Settled.{outcome_of};
 ghost use Rattle.mst_graph.specs.Lists.{has_any};
 ghost use Rattle.mst_verify.specs.tree_judges.judged.reasons.Holds.{Holds, is_wanted};
 ghost use Rattle.mst_verify.specs.tree_judges.judged.Islands.{AreKept};
@@ -15,9 +15,9 @@ ghost use Rattle.mst_advise.specs.Goals.{expectation_of, forwarding, this_port};
 
 use crate::goal::Goal;
 use crate::named::port_named;
-use mst_forest::{Settled, role_of};
 use mst_ids::{Name, PortName, Tree, VidSet};
 use mst_policy::Expectation;
+use mst_roles::{Settled, role_of};
 use mst_verify::laws::told_where_broken;
 use mst_verify::{Before, Homes, Judged, Reason, reasons};
 use mst_view::PortInView;

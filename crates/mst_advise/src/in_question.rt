@@ -2,9 +2,9 @@ ghost use Rattle.std.specs.Prelude.{◌≡◌, ◌==◌, ◌||◌, ◌++◌, [],
 ghost use Rattle.std.specs.List.{Contains};
 ghost use Rattle.std.specs.Option.{option_map_or};
 ghost use Rattle.mst_view.specs.Viewed.{named_port};
-ghost use Rattle.mst_forest.specs.Roles.{role_in};
-ghost use Rattle.mst_forest.specs.Msti.{has_msti};
-ghost use Rattle.mst_forest.specs.Settled.{name_of_port, outcome_of};
+ghost use Rattle.mst_roles.specs.Roles.{role_in};
+ghost use Rattle.mst_roles.specs.forest.Msti.{has_msti};
+ghost use Rattle.mst_roles.specs.forest.Settled.{name_of_port, outcome_of};
 ghost use Rattle.mst_advise.specs.Costs.{against, greatest_cost, port_named as port_of_name};
 ghost use Rattle.mst_advise.specs.InQuestion.{AreInQuestion, AreInQuestionBy, AreInQuestionOf, beside, by_contest, designated_beside as designated_of, extremes, in_question as question_of};
 
@@ -16,8 +16,8 @@ use crate::priorities::add_lower_priorities;
 use crate::setting::{Setting, once};
 use mst_explain::laws::some_explained;
 use mst_explain::put_explanation;
-use mst_forest::{Settled, role_of};
 use mst_ids::{PortName, PortNo, Tree};
+use mst_roles::{Settled, role_of};
 use mst_view::PortInView;
 use std::alloc::{AllocError, Global};
 

@@ -1,7 +1,7 @@
 //! Laws of advice. Their functions do nothing: a caller has their clauses.
 ghost use Rattle.std.specs.Prelude.{◌≡◌, List};
 ghost use Rattle.mst_net.specs.tables.Tables.{Net, IsNetwork};
-ghost use Rattle.mst_forest.specs.Outcome.{Outcome, IsOutcome};
+ghost use Rattle.mst_roles.specs.forest.Outcome.{Outcome, IsOutcome};
 ghost use Rattle.mst_advise.specs.Candidates.{AreCandidates};
 ghost use Rattle.mst_advise.specs.declared.goal.Goal.{Goal as GoalOf};
 ghost use Rattle.mst_advise.specs.declared.setting.Setting.{Setting as SettingOf};
@@ -10,7 +10,7 @@ ghost use Rattle.mst_advise.specs.Advising.{Advises};
 ghost use Rattle.mst_advise.specs.declared.advising.Advised.{Advised as AdvisedOf};
 
 use mst_explain::laws::one_explained;
-use mst_forest::laws::one_outcome;
+use mst_roles::forest_laws::one_outcome;
 
 /// There is one list of candidates for a goal in a network, whichever settled outcome they are by.
 pub fn one_candidates()

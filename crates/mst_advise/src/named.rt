@@ -3,8 +3,8 @@ ghost use Rattle.std.specs.List.{find};
 ghost use Rattle.std.specs.Option.{option_copied};
 ghost use Rattle.mst_net.specs.tables.Tables.{port_eq};
 
-use mst_forest::Settled;
 use mst_ids::PortName;
+use mst_roles::Settled;
 use mst_view::PortInView;
 
 /// The logical port of a name.

@@ -3,8 +3,8 @@ ghost use Rattle.mst_advise.specs.PortPriorities.{is_before, is_behind, least_fr
 ghost use Rattle.mst_advise.specs.Priorities.{greatest_upto};
 
 use crate::setting::Setting;
-use mst_forest::Settled;
 use mst_ids::{PortId, PortName, PortNumber, Priority, Tree};
+use mst_roles::Settled;
 use std::alloc::AllocError;
 
 /// The identifier of a port in a tree.

@@ -2,14 +2,14 @@ ghost use Rattle.std.specs.Prelude.{◌≡◌, ◌≤◌, ◌++◌, ◌∷◌, [
 ghost use Rattle.std.specs.List.{Contains};
 ghost use Rattle.std.specs.Option.{option_map_or};
 ghost use Rattle.mst_ids.specs.Identifiers.{bridge_id as bridge_id_of};
-ghost use Rattle.mst_forest.specs.Settled.{outcome_of};
+ghost use Rattle.mst_roles.specs.forest.Settled.{outcome_of};
 ghost use Rattle.mst_verify.specs.tree_judges.judged.reasons.Roots.{identifier as identifier_in};
 ghost use Rattle.mst_advise.specs.Priorities.{below_own, greatest_priority, greatest_upto, lower_priorities, others as others_of, priorities as priorities_of, root_settings as root_settings_of, set_priority};
 ghost use Rattle.mst_advise.specs.Seen.{ids_of as ids, seen_first, seen_next, seen_others};
 
 use crate::setting::Setting;
-use mst_forest::{Settled, bridge_id};
 use mst_ids::{BridgeId, Mac, Name, Priority, Tree};
+use mst_roles::{Settled, bridge_id};
 use mst_verify::{Follower, all_but, bridge_named, followers};
 use mst_view::BridgeInView;
 use std::alloc::{AllocError, Global};

@@ -7,10 +7,10 @@ use Rattle.std.proofs.lemmas.List.{take_more, flat_map_more}
 use Rattle.std.proofs.lemmas.List.Elements.{filter-append}
 use Rattle.mst_ids.specs.declared.name.PortName.{PortName}
 use Rattle.mst_tables.specs.Tables.{Net}
-use Rattle.mst_forest.specs.declared.kind.Role.{Role}
-use Rattle.mst_forest.specs.Outcome.{Outcome}
-use Rattle.mst_forest.proofs.Lists.{some_is, no_some, all_kept}
-use Rattle.mst_forest.proofs.Entries.{all_weaker}
+use Rattle.mst_roles.specs.declared.kind.Role.{Role}
+use Rattle.mst_roles.specs.forest.Outcome.{Outcome}
+use Rattle.mst_roles.proofs.forest_lemmas.Lists.{some_is, no_some, all_kept}
+use Rattle.mst_roles.proofs.forest_lemmas.Entries.{all_weaker}
 use Rattle.mst_changes.specs.declared.subject.Item.{Item}
 use Rattle.mst_changes.specs.declared.subject.Item.TheVariants.{Port}
 use Rattle.mst_changes.specs.declared.subject.Subject.{Subject}
@@ -23,11 +23,11 @@ use Rattle.mst_view.specs.View.{bridge_names, port_names}
 use Rattle.mst_changes.specs.Values.{value_at}
 use Rattle.mst_changes.specs.Kept.{entry_at, entries_at, entries_of}
 use Rattle.mst_changes.specs.Stored.{bridge_entry, port_entry, kept_in}
-use Rattle.mst_forest.proofs.Pieces.{all_append}
+use Rattle.mst_roles.proofs.forest_lemmas.Pieces.{all_append}
 use Rattle.mst_changes.proofs.Lists.{filter_all, filter_none}
 use Rattle.mst_changes.proofs.Changed.{entries_in_trees}
 use Rattle.mst_changes.proofs.Orders.{all_in}
-use Rattle.mst_forest.proofs.AllTrees.{trees_are}
+use Rattle.mst_roles.proofs.forest_lemmas.AllTrees.{trees_are}
 
 abbrev pub is_of : ℕ → Entry → Bool
 is_of tree entry = entry.tree == tree

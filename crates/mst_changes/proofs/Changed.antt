@@ -14,25 +14,25 @@ use Rattle.mst_tables.proofs.Keyed.{flipped}
 use Rattle.mst_tables.proofs.Keys.{names, ports}
 use Rattle.mst_view.specs.Trees.{mstis_of, is_among}
 use Rattle.mst_view.specs.View.{LogicalPort, view_ports, bridge_names, port_names}
-use Rattle.mst_forest.specs.Apart.{Apart}
-use Rattle.mst_forest.specs.Msti.{has_msti}
-use Rattle.mst_forest.specs.Outcome.{Outcome}
-use Rattle.mst_forest.proofs.Lists.{apart_mapped}
-use Rattle.mst_forest.proofs.Views.{bridges_rise, ports_rise}
-use Rattle.mst_forest.specs.Roles.{role_in}
+use Rattle.mst_roles.specs.forest.Apart.{Apart}
+use Rattle.mst_roles.specs.forest.Msti.{has_msti}
+use Rattle.mst_roles.specs.forest.Outcome.{Outcome}
+use Rattle.mst_roles.proofs.forest_lemmas.Lists.{apart_mapped}
+use Rattle.mst_roles.proofs.forest_lemmas.Views.{bridges_rise, ports_rise}
+use Rattle.mst_roles.specs.Roles.{role_in}
 use Rattle.mst_changes.specs.declared.subject.Item.TheVariants.{Bridge, Port}
 use Rattle.mst_changes.specs.declared.subject.Subject.{Subject}
 use Rattle.mst_changes.specs.declared.value.VectorOrRole.{VectorOrRole}
 use Rattle.mst_changes.specs.declared.value.VectorOrRole.TheVariants.{InCist, InMsti, HasRole}
 use Rattle.mst_changes.specs.declared.subject.Entry.{Entry}
-use Rattle.mst_forest.specs.AllTrees.{all_trees}
+use Rattle.mst_roles.specs.forest.AllTrees.{all_trees}
 use Rattle.mst_changes.specs.Subjects.{bridge_in, port_in, subjects_in, subjects, names_of_either, subjects_of, subjects_of_either}
 use Rattle.mst_changes.specs.Values.{value_at}
 use Rattle.mst_changes.specs.Kept.{entry_at, entries_at}
 use Rattle.mst_changes.specs.Merging.{Rise}
 use Rattle.mst_changes.specs.TreeChanges.{either_in}
 use Rattle.mst_changes.proofs.Lists.{filter_map-flat_map}
-use Rattle.mst_forest.proofs.Pieces.{filter_map-map}
+use Rattle.mst_roles.proofs.forest_lemmas.Pieces.{filter_map-map}
 use Rattle.mst_changes.proofs.Orders.{subjects_rise, tree_rises}
 use Rattle.mst_changes.proofs.Names.{either_rise, kept_left, kept_right}
 

@@ -7,43 +7,43 @@ use Rattle.std.specs.FinMap as fin
 use Rattle.std.proofs.lemmas.List.{take_more, flat_map_more}
 use Rattle.std.proofs.lemmas.List.Elements.{filter_map-append}
 use Rattle.mst_ids.specs.declared.name.PortName.{PortName}
-use Rattle.mst_forest.specs.outcome.Assignment.{vector_of}
+use Rattle.mst_roles.specs.forest.outcome.Assignment.{vector_of}
 use Rattle.mst_tables.specs.Tables.{Net, Numbers, BridgeRow}
 use Rattle.mst_view.specs.Trees.{is_among}
 use Rattle.mst_view.specs.View.{LogicalPort, view_ports, bridge_names, port_names}
 use Rattle.mst_view.specs.Viewed.{Viewed, named_bridge, named_port}
 use Rattle.mst_view.specs.declared.in_view.BridgeInView.{BridgeInView}
 use Rattle.mst_view.specs.declared.in_view.PortInView.{PortInView}
-use Rattle.mst_forest.specs.Agrees.{AreOf}
-use Rattle.mst_forest.specs.Forest.{Forest, IsForest, msti_vector}
-use Rattle.mst_forest.specs.InUse.{is_in_use}
-use Rattle.mst_forest.specs.Msti.{has_msti}
-use Rattle.mst_forest.specs.Seen.{trees_at}
-use Rattle.mst_forest.proofs.Lists.{kept_same, all_there}
-use Rattle.mst_forest.proofs.Entries.{all_weaker}
-use Rattle.mst_forest.proofs.Seen.{SeenBridge, bridges_seen}
-use Rattle.mst_forest.proofs.Looking.{has_tree_at}
-use Rattle.mst_forest.specs.Roles.{role_of, role_in, cist_role, msti_role}
-use Rattle.mst_forest.specs.SeenRoles.{seen_role}
-use Rattle.mst_forest.specs.declared.kind.Role.{Role}
-use Rattle.mst_forest.proofs.Named.{own_role}
+use Rattle.mst_roles.specs.forest.Agrees.{AreOf}
+use Rattle.mst_roles.specs.forest.Forest.{Forest, IsForest, msti_vector}
+use Rattle.mst_roles.specs.forest.InUse.{is_in_use}
+use Rattle.mst_roles.specs.forest.Msti.{has_msti}
+use Rattle.mst_roles.specs.forest.Seen.{trees_at}
+use Rattle.mst_roles.proofs.forest_lemmas.Lists.{kept_same, all_there}
+use Rattle.mst_roles.proofs.forest_lemmas.Entries.{all_weaker}
+use Rattle.mst_roles.proofs.forest_lemmas.Seen.{SeenBridge, bridges_seen}
+use Rattle.mst_roles.proofs.forest_lemmas.Looking.{has_tree_at}
+use Rattle.mst_roles.specs.Roles.{role_of, role_in, cist_role, msti_role}
+use Rattle.mst_roles.specs.SeenRoles.{seen_role}
+use Rattle.mst_roles.specs.declared.kind.Role.{Role}
+use Rattle.mst_roles.proofs.Named.{own_role}
 use Rattle.mst_changes.specs.declared.subject.Item.TheVariants.{Bridge, Port}
 use Rattle.mst_changes.specs.declared.subject.Subject.{Subject}
 use Rattle.mst_changes.specs.declared.value.VectorOrRole.{VectorOrRole}
 use Rattle.mst_changes.specs.declared.value.VectorOrRole.TheVariants.{InCist, InMsti, HasRole}
 use Rattle.mst_changes.specs.declared.subject.Entry.{Entry}
-use Rattle.mst_forest.specs.AllTrees.{all_trees}
+use Rattle.mst_roles.specs.forest.AllTrees.{all_trees}
 use Rattle.mst_changes.specs.Subjects.{port_in, subjects_in}
 use Rattle.mst_changes.specs.Values.{vector_in, value_at}
 use Rattle.mst_changes.specs.Kept.{entries_at}
 use Rattle.mst_changes.specs.Seen.{seen_vector, seen_bridge_entry, seen_port_entry}
 use Rattle.mst_changes.specs.Stored.{bridge_entry, port_entry, kept_in}
 use Rattle.mst_changes.specs.declared.kept.TreeEntries.{TreeEntries}
-use Rattle.mst_forest.proofs.Pieces.{filter_map-map}
+use Rattle.mst_roles.proofs.forest_lemmas.Pieces.{filter_map-map}
 use Rattle.mst_changes.proofs.Lists.{filter_map-zip}
 use Rattle.mst_changes.proofs.Changed.{bridge_at, port_at, entries_in}
-use Rattle.mst_forest.proofs.AllTrees.{trees_are}
-use Rattle.mst_forest.proofs.NotInUse.{unused}
+use Rattle.mst_roles.proofs.forest_lemmas.AllTrees.{trees_are}
+use Rattle.mst_roles.proofs.forest_lemmas.NotInUse.{unused}
 
 -- what is kept of one more
 pub kept_more : {A B : Type 0} (h : A → Option B) (xs : List A) (i : ℕ) (x : A) → i < length xs → x ≡ get_or xs i x → (before now : List B) → now ≡ before ++ filter_map h (take i xs)

@@ -2,8 +2,8 @@
 use Rattle.std.proofs.Common.{◌≡◌, Bool, true, false, cond, List, [], ◌∷◌, ◌++◌, map, Option, None, refl, sym, ap, ◌∙◌}
 use Rattle.std.specs.List.{AllByRecursion, filter, filter_map, flat_map, cons_option, zip}
 use Rattle.std.proofs.lemmas.List.Elements.{filter_map-append}
-use Rattle.mst_forest.specs.Apart.{Apart}
-use Rattle.mst_forest.proofs.Pieces.{all_append}
+use Rattle.mst_roles.specs.forest.Apart.{Apart}
+use Rattle.mst_roles.proofs.forest_lemmas.Pieces.{all_append}
 
 pub apart_append : {A : Type 0} (R : A → A → Type 0) (xs ys : List A) → Apart R xs → Apart R ys → AllByRecursion (λ x. AllByRecursion (R x) ys) xs → Apart R (xs ++ ys)
 apart_append R [] ys h k both = k

@@ -4,7 +4,7 @@ use Rattle.std.specs.Prelude.{if◌then◌else◌}
 use Rattle.std.specs.List.{AllByRecursion, flat_map, cons_option}
 use Rattle.std.specs.Option.{option_map}
 use Rattle.std.specs.Ordering.{is_eq, is_gt}
-use Rattle.mst_forest.proofs.Lists.{some_is, no_some, all_kept}
+use Rattle.mst_roles.proofs.forest_lemmas.Lists.{some_is, no_some, all_kept}
 use Rattle.mst_changes.specs.declared.subject.Subject.{Subject}
 use Rattle.mst_changes.specs.declared.value.VectorOrRole.{VectorOrRole}
 use Rattle.mst_changes.specs.declared.subject.Entry.{Entry}

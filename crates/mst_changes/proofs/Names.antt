@@ -9,11 +9,11 @@ use Rattle.std.specs.FinMap as fin
 use Rattle.std.specs.FinMap.{FinMap, IsAntisymmetric, find, is_sorted, entries, entries_sorted, get-entries, from_entries, get-from_entries}
 use Rattle.std.specs.FinMap.Entries.{below_all, where_key, same_entries, is_sorted-where_key, find-where_key}
 use Rattle.std.proofs.lemmas.List.Folds.{list_any-append}
-use Rattle.mst_forest.specs.Apart.{Apart}
-use Rattle.mst_forest.proofs.Entries.{entries_apart}
-use Rattle.mst_forest.proofs.Lists.{apart_mapped}
+use Rattle.mst_roles.specs.forest.Apart.{Apart}
+use Rattle.mst_roles.proofs.forest_lemmas.Entries.{entries_apart}
+use Rattle.mst_roles.proofs.forest_lemmas.Lists.{apart_mapped}
 use Rattle.mst_changes.specs.Subjects.{names_of_either}
-use Rattle.mst_forest.proofs.Pieces.{filter_map-map}
+use Rattle.mst_roles.proofs.forest_lemmas.Pieces.{filter_map-map}
 use Rattle.mst_changes.proofs.Lists.{kept_passing}
 
 tied : (o : Ordering) → is_eq o ≡ true → o ≡ Equal

@@ -3,9 +3,9 @@ use Rattle.std.proofs.Common.{◌≡◌, ℕ, ◌==◌, ◌||◌, false, List, [
 use Rattle.std.specs.List.{flat_map}
 use Rattle.mst_ids.specs.Names.{port_cmp}
 use Rattle.mst_ids.specs.declared.name.PortName.{PortName}
-use Rattle.mst_forest.specs.InUse.{is_in_use}
-use Rattle.mst_forest.specs.Settled.{SettledNet, outcome_of, IsSettledNet}
-use Rattle.mst_forest.proofs.SettledNet.{forest_of}
+use Rattle.mst_roles.specs.forest.InUse.{is_in_use}
+use Rattle.mst_roles.specs.forest.Settled.{SettledNet, outcome_of, IsSettledNet}
+use Rattle.mst_roles.proofs.forest_lemmas.SettledNet.{forest_of}
 use Rattle.mst_changes.specs.declared.subject.Subject.{Subject}
 use Rattle.mst_changes.specs.declared.value.VectorOrRole.{VectorOrRole}
 use Rattle.mst_changes.specs.Subjects.{port_in, names_of_either}
@@ -14,7 +14,7 @@ use Rattle.mst_changes.specs.PortChanges.{port_change_rows}
 use Rattle.mst_changes.specs.Values.{value_at}
 use Rattle.mst_changes.specs.ChangesText.{change_rows}
 use Rattle.mst_changes.proofs.Gathered.{no_value_there}
-use Rattle.mst_forest.proofs.NotInUse.{unused_by}
+use Rattle.mst_roles.proofs.forest_lemmas.NotInUse.{unused_by}
 
 none_changed : (x y : Subject → Option VectorOrRole) (tree : ℕ) → ((name : PortName) → x (port_in tree name) ≡ None) → ((name : PortName) → y (port_in tree name) ≡ None) → (names : List PortName)
     → flat_map (λ subject. change_rows subject (x subject) (y subject)) (map (port_in tree) names) ≡ []

@@ -6,19 +6,19 @@ use Rattle.std.specs.Cmp.{tied_itself, nat_cmp_total, nat_cmp_is, then_flip}
 use Rattle.std.specs.Cmp.Lexicographic.{nat_list_cmp_total}
 use Rattle.mst_ids.specs.Names.{name_cmp, port_cmp}
 use Rattle.mst_ids.specs.declared.name.PortName.{PortName}
-use Rattle.mst_forest.specs.Apart.{Apart}
-use Rattle.mst_forest.proofs.Lists.{all_mapped, apart_mapped}
-use Rattle.mst_forest.proofs.Entries.{all_weaker}
-use Rattle.mst_forest.proofs.Views.{ports_total}
+use Rattle.mst_roles.specs.forest.Apart.{Apart}
+use Rattle.mst_roles.proofs.forest_lemmas.Lists.{all_mapped, apart_mapped}
+use Rattle.mst_roles.proofs.forest_lemmas.Entries.{all_weaker}
+use Rattle.mst_roles.proofs.forest_lemmas.Views.{ports_total}
 use Rattle.mst_changes.specs.declared.subject.Item.{Item}
 use Rattle.mst_changes.specs.declared.subject.Item.TheVariants.{Bridge, Port}
 use Rattle.mst_changes.specs.declared.subject.Subject.{Subject}
-use Rattle.mst_forest.specs.AllTrees.{all_trees}
+use Rattle.mst_roles.specs.forest.AllTrees.{all_trees}
 use Rattle.mst_changes.specs.Subjects.{bridge_in, port_in, subjects_in, subjects, item_cmp, subject_cmp}
 use Rattle.mst_changes.specs.Merging.{Rise}
-use Rattle.mst_forest.proofs.Pieces.{all_append}
+use Rattle.mst_roles.proofs.forest_lemmas.Pieces.{all_append}
 use Rattle.mst_changes.proofs.Lists.{apart_append}
-use Rattle.mst_forest.proofs.AllTrees.{trees_are}
+use Rattle.mst_roles.proofs.forest_lemmas.AllTrees.{trees_are}
 
 item_turned : (a b : Item) → item_cmp a b ≡ ordering_reverse (item_cmp b a)
 item_turned (Bridge a) (Bridge b) = nat_list_cmp_total.antisymm a b

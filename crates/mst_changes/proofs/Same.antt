@@ -5,13 +5,13 @@ use Rattle.std.specs.List.{flat_map}
 use Rattle.mst_vector.specs.declared.cist.CistVector.{CistVector}
 use Rattle.mst_vector.specs.declared.msti.MstiVector.{MstiVector}
 use Rattle.mst_tables.specs.Tables.{Net}
-use Rattle.mst_forest.specs.Outcome.{Outcome}
+use Rattle.mst_roles.specs.forest.Outcome.{Outcome}
 use Rattle.mst_changes.specs.declared.subject.Subject.{Subject}
 use Rattle.mst_changes.specs.declared.value.VectorOrRole.{VectorOrRole}
 use Rattle.mst_changes.specs.declared.value.VectorOrRole.TheVariants.{InCist, InMsti, HasRole}
 use Rattle.mst_changes.specs.Subjects.{subjects_of_either}
 use Rattle.mst_changes.specs.Values.{value_at, same_cist, same_msti, same_value, same_side}
-use Rattle.mst_forest.specs.RoleNumbers.{role_number}
+use Rattle.mst_roles.specs.RoleNumbers.{role_number}
 use Rattle.mst_changes.specs.ChangesText.{item_row, change_rows, all_changes}
 
 own : (n : ℕ) → (n == n) ≡ true

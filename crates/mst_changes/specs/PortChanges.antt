@@ -3,7 +3,7 @@ use Rattle.std.specs.Prelude.{ℕ, List, length, map, min}
 use Rattle.mst_ids.specs.Names.{port_cmp}
 use Rattle.mst_rows.specs.Rows.{Row}
 use Rattle.mst_tables.specs.Tables.{Net}
-use Rattle.mst_forest.specs.Outcome.{Outcome}
+use Rattle.mst_roles.specs.forest.Outcome.{Outcome}
 use Rattle.mst_changes.specs.Subjects.{names_of_either, port_in}
 use Rattle.mst_view.specs.View.{port_names}
 use Rattle.mst_changes.specs.Values.{value_at}

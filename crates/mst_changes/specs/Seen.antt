@@ -1,14 +1,14 @@
 -- The entries of a view, under the numbers of records.
 use Rattle.std.specs.Prelude.{ℕ, ◌==◌, Option, None, if◌then◌else◌}
 use Rattle.std.specs.Option.{option_map}
-use Rattle.mst_forest.specs.outcome.Assignment.{vector_of}
+use Rattle.mst_roles.specs.forest.outcome.Assignment.{vector_of}
 use Rattle.mst_view.specs.Trees.{is_among}
 use Rattle.mst_view.specs.Viewed.{Viewed}
 use Rattle.mst_view.specs.declared.in_view.BridgeInView.{BridgeInView}
 use Rattle.mst_view.specs.declared.in_view.PortInView.{PortInView}
-use Rattle.mst_forest.specs.Seen.{trees_at}
-use Rattle.mst_forest.specs.Forest.{Forest, msti_vector}
-use Rattle.mst_forest.specs.SeenRoles.{seen_role}
+use Rattle.mst_roles.specs.forest.Seen.{trees_at}
+use Rattle.mst_roles.specs.forest.Forest.{Forest, msti_vector}
+use Rattle.mst_roles.specs.SeenRoles.{seen_role}
 use Rattle.mst_changes.specs.declared.subject.Item.TheVariants.{Bridge, Port}
 use Rattle.mst_changes.specs.declared.value.VectorOrRole.{VectorOrRole}
 use Rattle.mst_changes.specs.declared.value.VectorOrRole.TheVariants.{InCist, InMsti, HasRole}

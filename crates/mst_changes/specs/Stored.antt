@@ -4,7 +4,7 @@ use Rattle.std.specs.List.{zip, flat_map}
 use Rattle.std.specs.Option.{option_map}
 use Rattle.mst_ids.specs.declared.name.PortName.{PortName}
 use Rattle.mst_view.specs.Viewed.{Viewed}
-use Rattle.mst_forest.specs.declared.kind.Role.{Role}
+use Rattle.mst_roles.specs.declared.kind.Role.{Role}
 use Rattle.mst_changes.specs.declared.subject.Item.TheVariants.{Bridge, Port}
 use Rattle.mst_changes.specs.declared.value.VectorOrRole.{VectorOrRole}
 use Rattle.mst_changes.specs.declared.value.VectorOrRole.TheVariants.{HasRole}

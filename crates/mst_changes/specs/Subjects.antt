@@ -12,7 +12,7 @@ use Rattle.mst_changes.specs.declared.subject.Item.{Item}
 use Rattle.mst_changes.specs.declared.subject.Item.TheVariants.{Bridge, Port}
 use Rattle.mst_changes.specs.declared.subject.Subject.{Subject}
 use Rattle.mst_changes.specs.declared.subject.Entry.{Entry}
-use Rattle.mst_forest.specs.AllTrees.{all_trees}
+use Rattle.mst_roles.specs.forest.AllTrees.{all_trees}
 use Rattle.mst_view.specs.View.{bridge_names, port_names}
 
 abbrev pub bridge_in : ℕ → List ℕ → Subject

@@ -1,7 +1,7 @@
 -- What is told of a side of a change: a root priority vector, a role, or nothing.
 use Rattle.std.specs.Prelude.{Option, Some, None}
-use Rattle.mst_forest.specs.Names.{role_text}
-use Rattle.mst_forest.specs.declared.kind.Role.{Role}
+use Rattle.mst_roles.specs.Names.{role_text}
+use Rattle.mst_roles.specs.declared.kind.Role.{Role}
 use Rattle.mst_rows.specs.declared.value.Vector.{Vector}
 use Rattle.mst_rows.specs.Cells.{Cell, absent, object, word}
 use Rattle.mst_rows.specs.Rows.{vector}

@@ -5,15 +5,15 @@ use Rattle.std.specs.FinMap as fin
 use Rattle.mst_vector.specs.declared.cist.CistVector.{CistVector}
 use Rattle.mst_vector.specs.declared.msti.MstiVector.{MstiVector}
 use Rattle.mst_tables.specs.Tables.{Net}
-use Rattle.mst_forest.specs.Msti.{has_msti}
-use Rattle.mst_forest.specs.Outcome.{Outcome}
-use Rattle.mst_forest.specs.Roles.{role_of}
+use Rattle.mst_roles.specs.forest.Msti.{has_msti}
+use Rattle.mst_roles.specs.forest.Outcome.{Outcome}
+use Rattle.mst_roles.specs.Roles.{role_of}
 use Rattle.mst_changes.specs.declared.subject.Item.{Item}
 use Rattle.mst_changes.specs.declared.subject.Item.TheVariants.{Bridge, Port}
 use Rattle.mst_changes.specs.declared.subject.Subject.{Subject}
 use Rattle.mst_changes.specs.declared.value.VectorOrRole.{VectorOrRole}
 use Rattle.mst_changes.specs.declared.value.VectorOrRole.TheVariants.{InCist, InMsti, HasRole}
-use Rattle.mst_forest.specs.RoleNumbers.{role_number}
+use Rattle.mst_roles.specs.RoleNumbers.{role_number}
 
 -- of a bridge in a tree, where it is there and has the tree. One that is off has no vector
 abbrev pub vector_in : Net → Outcome → ℕ → List ℕ → Option VectorOrRole

@@ -5,9 +5,9 @@ ghost use Rattle.mst_changes.specs.Told.{told_role, told_vector};
 
 use crate::subject::{Item, Subject};
 use crate::value::{VectorOrRole, is_same};
-use mst_forest::Role;
 use mst_ids::{Name, PortName, Tree};
 use mst_kinds::{ChangeLine, Kind};
+use mst_roles::Role;
 use mst_rows::{Rows, Value, Vector, put};
 use std::alloc::AllocError;
 

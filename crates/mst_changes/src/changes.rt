@@ -1,9 +1,9 @@
 ghost use Rattle.std.specs.Prelude.{◌≡◌, ◌<◌, ◌++◌, List, OnOk};
 ghost use Rattle.mst_rows.specs.Rows.{Row};
 ghost use Rattle.mst_tables.specs.Tables.{Net};
-ghost use Rattle.mst_forest.specs.InUse.{AreInUse};
-ghost use Rattle.mst_forest.specs.Outcome.{Outcome};
-ghost use Rattle.mst_forest.specs.Settled.{outcome_of};
+ghost use Rattle.mst_roles.specs.forest.InUse.{AreInUse};
+ghost use Rattle.mst_roles.specs.forest.Outcome.{Outcome};
+ghost use Rattle.mst_roles.specs.forest.Settled.{outcome_of};
 ghost use Rattle.mst_changes.specs.Kept.{AreEntries};
 ghost use Rattle.mst_changes.specs.ChangesText.{all_changes};
 ghost use Rattle.mst_changes.specs.TreeChanges.{tree_changes};
@@ -11,8 +11,8 @@ ghost use Rattle.mst_changes.specs.TreeChanges.{tree_changes};
 use crate::entries::Entries;
 use crate::merge::put_merged;
 use crate::rows::push_tree;
-use mst_forest::{Settled, trees_in_use};
 use mst_ids::Tree;
+use mst_roles::{Settled, trees_in_use};
 use mst_rows::Rows;
 use std::alloc::{AllocError, Global};
 

@@ -1,13 +1,13 @@
 ghost use Rattle.std.specs.Prelude.{◌≡◌, ◌++◌, ◌==◌, IfOk, OnOk, filter};
-ghost use Rattle.mst_forest.specs.InUse.{AreInUse};
-ghost use Rattle.mst_forest.specs.Settled.{outcome_of};
+ghost use Rattle.mst_roles.specs.forest.InUse.{AreInUse};
+ghost use Rattle.mst_roles.specs.forest.Settled.{outcome_of};
 ghost use Rattle.mst_changes.specs.Kept.{AreEntries, entries_in};
 ghost use Rattle.mst_changes.specs.Stored.{kept_of, kept_entries};
 
 use crate::kept::{TreeEntries, bridge_names, port_names, push_kept, tree_entries};
 use crate::subject::Entry;
-use mst_forest::{Settled, is_had, trees_in_use};
 use mst_ids::{Name, PortName, Tree};
+use mst_roles::{Settled, is_had, trees_in_use};
 use std::alloc::{AllocError, Global};
 
 /// What is kept of a network's outcome, by names: the root priority vectors of bridges and the roles of logical ports in

@@ -1,14 +1,14 @@
 ghost use Rattle.std.specs.Prelude.{◌≡◌, ◌++◌, map, IfOk, OnOk, filter_map};
 ghost use Rattle.std.specs.List.{zip};
-ghost use Rattle.mst_forest.specs.SeenRoles.{seen_role};
+ghost use Rattle.mst_roles.specs.SeenRoles.{seen_role};
 ghost use Rattle.mst_changes.specs.Seen.{seen_vector, seen_bridge_entry, seen_port_entry};
 ghost use Rattle.mst_changes.specs.Stored.{bridge_entry, port_entry, kept_in};
 
 use crate::rows::vector;
 use crate::subject::{Entry, Item};
 use crate::value::VectorOrRole;
-use mst_forest::{Forest, Role, port_role};
 use mst_ids::{Name, PortName, Tree};
+use mst_roles::{Forest, Role, port_role};
 use mst_view::View;
 use std::alloc::{AllocError, Global};
 

@@ -1,11 +1,11 @@
 //! Laws of the rows of changes. Their functions do nothing: a caller has their clauses.
 ghost use Rattle.std.specs.Prelude.{◌≡◌, []};
 ghost use Rattle.mst_tables.specs.Tables.{Net, IsNetwork};
-ghost use Rattle.mst_forest.specs.Outcome.{Outcome, IsOutcome};
+ghost use Rattle.mst_roles.specs.forest.Outcome.{Outcome, IsOutcome};
 ghost use Rattle.mst_changes.specs.ChangesText.{all_changes};
 ghost use Rattle.mst_changes.specs.Kept.{entries_of};
 
-use mst_forest::laws::one_outcome;
+use mst_roles::forest_laws::one_outcome;
 
 /// Two networks have one list of rows, whichever settled outcomes they are made by.
 pub fn one_list()

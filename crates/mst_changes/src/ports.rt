@@ -1,12 +1,12 @@
 ghost use Rattle.std.specs.Prelude.{◌≡◌, ◌++◌, List, IfOk};
 ghost use Rattle.mst_rows.specs.Rows.{Row};
-ghost use Rattle.mst_forest.specs.Settled.{outcome_of};
+ghost use Rattle.mst_roles.specs.forest.Settled.{outcome_of};
 ghost use Rattle.mst_changes.specs.PortChanges.{counted, port_change_rows};
 
 use crate::merge::put_merged;
 use crate::rows::push_ports;
-use mst_forest::Settled;
 use mst_ids::Tree;
+use mst_roles::Settled;
 use mst_rows::Rows;
 use std::alloc::{AllocError, Global};
 

@@ -1,14 +1,14 @@
 //! The entries of a network's outcome.
 ghost use Rattle.std.specs.Prelude.{◌≡◌, ◌++◌, OnOk, filter_map};
-ghost use Rattle.mst_forest.specs.InUse.{AreInUse};
-ghost use Rattle.mst_forest.specs.Settled.{outcome_of};
+ghost use Rattle.mst_roles.specs.forest.InUse.{AreInUse};
+ghost use Rattle.mst_roles.specs.forest.Settled.{outcome_of};
 ghost use Rattle.mst_changes.specs.Kept.{entries_in};
 ghost use Rattle.mst_changes.specs.Seen.{seen_vector, seen_bridge_entry, seen_port_entry};
 
 use crate::subject::{Entry, Item};
 use crate::value::VectorOrRole;
-use mst_forest::{Forest, Settled, is_had, port_role};
 use mst_ids::{BridgeNo, Tree};
+use mst_roles::{Forest, Settled, is_had, port_role};
 use mst_view::{BridgeInView, PortInView, View};
 use std::alloc::AllocError;
 

@@ -1,7 +1,7 @@
 ghost use Rattle.std.specs.Prelude.{◌≡◌};
 ghost use Rattle.mst_changes.specs.Values.{same_side};
 
-use mst_forest::Role;
+use mst_roles::Role;
 use mst_vector::{CistVector, MstiVector};
 
 /// What an outcome has of a bridge or a logical port in a tree: the bridge's root priority vector, in the CIST or in an

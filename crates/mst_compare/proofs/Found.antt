@@ -4,7 +4,7 @@ use Rattle.std.specs.List.{find, filter_map, cons_option}
 use Rattle.std.specs.Option.{option_map}
 use Rattle.std.proofs.lemmas.List.{take_more}
 use Rattle.std.proofs.lemmas.List.Elements.{filter_map-append}
-use Rattle.mst_forest.proofs.Lists.{some_is, no_some}
+use Rattle.mst_roles.proofs.forest_lemmas.Lists.{some_is, no_some}
 
 -- the first of a changed list
 pub find_changed : {A B : Type 0} (test : B → Bool) (f : A → B) (xs : List A) → find test (map f xs) ≡ option_map f (find (λ x. test (f x)) xs)

@@ -17,21 +17,21 @@ use Rattle.mst_view.specs.View.{LogicalPort, view_ports}
 use Rattle.mst_view.specs.Viewed.{Viewed, named_port}
 use Rattle.mst_view.specs.declared.in_view.BridgeInView.{BridgeInView}
 use Rattle.mst_view.proofs.Placing.{pair_found}
-use Rattle.mst_forest.specs.config.Regions.{region_of}
-use Rattle.mst_forest.specs.Sight.{named_bridge as bridge_in_sight}
-use Rattle.mst_forest.specs.Cist.{cist_bridge, cist_sight}
-use Rattle.mst_forest.specs.Outcome.{Outcome, IsOutcome}
-use Rattle.mst_forest.specs.Agrees.{AreOf}
-use Rattle.mst_forest.specs.Seen.{trees_at}
-use Rattle.mst_forest.specs.Forest.{IsForest, Forest}
-use Rattle.mst_forest.specs.Settled.{SettledNet, IsSettledNet, outcome_of}
-use Rattle.mst_forest.proofs.Lists.{some_is, kept_in, all_contained}
-use Rattle.mst_forest.proofs.Views.{IsPort, IsOn, ports_are, row_on, entry_there}
-use Rattle.mst_forest.proofs.Seen.{SeenBridge, SeenPort, bridge_seen, port_seen, port_of_net}
-use Rattle.mst_forest.proofs.Looking.{IsFirst, first_found}
-use Rattle.mst_forest.specs.Roles.{cist_role, role_in, role_of}
-use Rattle.mst_forest.specs.SeenRoles.{seen_role}
-use Rattle.mst_forest.proofs.Named.{own_role, port_same}
+use Rattle.mst_roles.specs.forest.config.Regions.{region_of}
+use Rattle.mst_roles.specs.forest.Sight.{named_bridge as bridge_in_sight}
+use Rattle.mst_roles.specs.forest.Cist.{cist_bridge, cist_sight}
+use Rattle.mst_roles.specs.forest.Outcome.{Outcome, IsOutcome}
+use Rattle.mst_roles.specs.forest.Agrees.{AreOf}
+use Rattle.mst_roles.specs.forest.Seen.{trees_at}
+use Rattle.mst_roles.specs.forest.Forest.{IsForest, Forest}
+use Rattle.mst_roles.specs.forest.Settled.{SettledNet, IsSettledNet, outcome_of}
+use Rattle.mst_roles.proofs.forest_lemmas.Lists.{some_is, kept_in, all_contained}
+use Rattle.mst_roles.proofs.forest_lemmas.Views.{IsPort, IsOn, ports_are, row_on, entry_there}
+use Rattle.mst_roles.proofs.forest_lemmas.Seen.{SeenBridge, SeenPort, bridge_seen, port_seen, port_of_net}
+use Rattle.mst_roles.proofs.forest_lemmas.Looking.{IsFirst, first_found}
+use Rattle.mst_roles.specs.Roles.{cist_role, role_in, role_of}
+use Rattle.mst_roles.specs.SeenRoles.{seen_role}
+use Rattle.mst_roles.proofs.Named.{own_role, port_same}
 use Rattle.mst_bpdu.specs.Differences.{differences_of}
 use Rattle.mst_bpdu.specs.declared.bpdu.Bpdu.{Bpdu}
 use Rattle.mst_bpdu.specs.declared.difference.Difference.{Difference}

@@ -15,8 +15,8 @@ use Rattle.mst_view.specs.View.{LogicalPort, view_ports}
 use Rattle.mst_view.specs.Viewed.{Viewed, IsView, named_bridge, named_port}
 use Rattle.mst_view.specs.declared.in_view.BridgeInView.{BridgeInView}
 use Rattle.mst_view.specs.declared.in_view.PortInView.{PortInView}
-use Rattle.mst_forest.proofs.Lists.{some_is, no_some}
-use Rattle.mst_forest.proofs.Named.{found_in}
+use Rattle.mst_roles.proofs.forest_lemmas.Lists.{some_is, no_some}
+use Rattle.mst_roles.proofs.Named.{found_in}
 use Rattle.mst_bpdu.specs.Sender.{bridge_of, port_of}
 use Rattle.mst_bpdu.specs.declared.bpdu.Bpdu.{Bpdu}
 use Rattle.mst_compare.specs.Sender.{sends, has_mac, is_port, sender_at, sender_of}

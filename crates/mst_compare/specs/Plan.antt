@@ -11,11 +11,11 @@ use Rattle.mst_tables.specs.Tables.{Net, BridgeRow}
 use Rattle.mst_tables.specs.ByTree.{ByTree, by_tree, priority_in, port_priority_in}
 use Rattle.mst_tables.specs.After.{table_of}
 use Rattle.mst_view.specs.Trees.{mstis_of}
-use Rattle.mst_forest.specs.config.Digest.{digest_of}
-use Rattle.mst_forest.specs.Outcome.{Outcome}
-use Rattle.mst_forest.specs.Roles.{role_of, forwards as is_forwarding}
-use Rattle.mst_forest.specs.declared.kind.Role.{Role}
-use Rattle.mst_forest.specs.declared.kind.Role.TheVariants.{Root, Designated, Alternate, Backup, Master, Disabled}
+use Rattle.mst_roles.specs.forest.config.Digest.{digest_of}
+use Rattle.mst_roles.specs.forest.Outcome.{Outcome}
+use Rattle.mst_roles.specs.Roles.{role_of, forwards as is_forwarding}
+use Rattle.mst_roles.specs.declared.kind.Role.{Role}
+use Rattle.mst_roles.specs.declared.kind.Role.TheVariants.{Root, Designated, Alternate, Backup, Master, Disabled}
 use Rattle.mst_bpdu.specs.declared.flags.RoleCode.{RoleCode}
 use Rattle.mst_bpdu.specs.declared.flags.RoleCode.TheVariants as coded
 use Rattle.mst_bpdu.specs.declared.bpdu.ConfigurationId.{ConfigurationId}

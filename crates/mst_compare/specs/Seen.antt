@@ -3,16 +3,16 @@ use Rattle.std.specs.Prelude.{ℕ, ◌==◌, Option, None, filter_map, if◌then
 use Rattle.std.specs.List.{find}
 use Rattle.std.specs.Option.{option_map, option_and_then}
 use Rattle.mst_ids.specs.Identifiers.{mac_of, port_number_of}
-use Rattle.mst_forest.specs.outcome.Assignment.{vector_of}
+use Rattle.mst_roles.specs.forest.outcome.Assignment.{vector_of}
 use Rattle.mst_tables.specs.Tables.{BridgeRow}
 use Rattle.mst_tables.specs.ByTree.{table_in}
 use Rattle.mst_tables.specs.Seen.{bridge_row}
 use Rattle.mst_view.specs.Viewed.{Viewed, named_port}
 use Rattle.mst_view.specs.declared.in_view.BridgeInView.{BridgeInView}
 use Rattle.mst_view.specs.declared.in_view.PortInView.{PortInView}
-use Rattle.mst_forest.specs.Seen.{trees_at}
-use Rattle.mst_forest.specs.Forest.{msti_vector, Forest}
-use Rattle.mst_forest.specs.SeenRoles.{seen_role}
+use Rattle.mst_roles.specs.forest.Seen.{trees_at}
+use Rattle.mst_roles.specs.forest.Forest.{msti_vector, Forest}
+use Rattle.mst_roles.specs.SeenRoles.{seen_role}
 use Rattle.mst_bpdu.specs.Sender.{bridge_of, port_of}
 use Rattle.mst_bpdu.specs.declared.bpdu.Bpdu.{Bpdu}
 use Rattle.mst_bpdu.specs.declared.planned.Planned.{Planned}

@@ -10,7 +10,7 @@ use crate::digests::Digests;
 use crate::planned::planned;
 use crate::senders::{Origin, sender_in};
 use mst_bpdu::{Bpdu, BpduFault, Difference, differences};
-use mst_forest::{Forest, Settled};
+use mst_roles::{Forest, Settled};
 use mst_tables::Contents;
 use mst_view::View;
 use std::alloc::{AllocError, Global};

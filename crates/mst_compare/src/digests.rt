@@ -1,8 +1,8 @@
 //! Configuration Digests that are kept from one BPDU to the next.
 ghost use Rattle.std.specs.Prelude.{◌≡◌, ◌↔◌, [], IsTrue};
-ghost use Rattle.mst_forest.specs.config.Digest.{digest_of};
+ghost use Rattle.mst_roles.specs.forest.config.Digest.{digest_of};
 
-use mst_forest::digest;
+use mst_roles::digest;
 use mst_tables::Table;
 use std::alloc::Global;
 use std::marker::Model;
@@ -20,7 +20,7 @@ struct Digested {
 impl Model for Digested {
     ghost use Rattle.std.specs.Prelude.{◌≡◌, ℕ, List};
     ghost use Rattle.std.specs.Coded.{coded_ℕ, coded_list};
-    ghost use Rattle.mst_forest.specs.config.Digest.{digest_of};
+    ghost use Rattle.mst_roles.specs.forest.config.Digest.{digest_of};
 
     ghost Value = { List ℕ };
 

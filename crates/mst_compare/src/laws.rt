@@ -2,14 +2,14 @@
 ghost use Rattle.std.specs.Prelude.{◌≡◌, ℕ, List, Some};
 ghost use Rattle.mst_ids.specs.declared.name.PortName.{PortName as PortOf};
 ghost use Rattle.mst_tables.specs.Tables.{Net, BridgeRow, IsNetwork};
-ghost use Rattle.mst_forest.specs.config.Digest.{identifier};
+ghost use Rattle.mst_roles.specs.forest.config.Digest.{identifier};
 ghost use Rattle.mst_bpdu.specs.declared.bpdu.Bpdu.{Bpdu};
 ghost use Rattle.mst_bpdu.specs.declared.difference.Difference.{Difference};
 ghost use Rattle.mst_compare.specs.Plan.{configuration_of, octets_of};
 ghost use Rattle.mst_compare.specs.Sender.{sender_of};
 ghost use Rattle.mst_compare.specs.Comparison.{AreDifferences};
 
-use mst_forest::laws::{has_outcome, one_outcome};
+use mst_roles::forest_laws::{has_outcome, one_outcome};
 
 /// A BPDU that has a sender has a list of differences from the plan of a network: the network has an outcome, and each
 /// bridge that is on has a root priority vector in its CIST.
@@ -26,7 +26,7 @@ pub fn one_list()
     one_outcome();
 }
 
-/// The MST Configuration Identifier that a plan has of a bridge has just the octets of `mst_forest::mcid`, of its name, its
+/// The MST Configuration Identifier that a plan has of a bridge has just the octets of `mst_roles::mcid`, of its name, its
 /// revision and its table (802.1Q-2022, 13.8).
 pub fn configuration()
     ensures { (row : BridgeRow) (table : List ℕ) → octets_of (configuration_of row table) ≡ identifier row.conf_name row.revision table }

@@ -3,15 +3,15 @@ ghost use Rattle.std.specs.Prelude.{◌≡◌, ◌++◌, [], filter_map, IfOk, O
 ghost use Rattle.std.specs.List.{cons_option};
 ghost use Rattle.mst_tables.specs.ByTree.{table_in};
 ghost use Rattle.mst_tables.specs.Seen.{bridge_row};
-ghost use Rattle.mst_forest.specs.Seen.{trees_at};
+ghost use Rattle.mst_roles.specs.forest.Seen.{trees_at};
 ghost use Rattle.mst_compare.specs.Plan.{code_of, configuration_of, planned_cist, planned_msti};
 ghost use Rattle.mst_compare.specs.Seen.{seen_cist, seen_msti, seen_planned};
 
 use crate::digests::Digests;
 use crate::senders::Origin;
 use mst_bpdu::{ConfigurationId, Planned, PlannedCist, PlannedMsti, PlannedMstis, RoleCode};
-use mst_forest::{Forest, Role, port_role};
 use mst_ids::{BridgeId, PortId, PortName, Tree, padded};
+use mst_roles::{Forest, Role, port_role};
 use mst_tables::{Bridge, TreeSettings};
 use mst_vector::{CistVector, MstiVector};
 use mst_view::{PortInView, View};

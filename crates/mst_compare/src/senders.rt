@@ -9,9 +9,9 @@ ghost use Rattle.mst_compare.specs.Sender.{sends as is_sent_by, is_port, sender_
 ghost use Rattle.mst_compare.specs.Seen.{seen_sender};
 
 use mst_bpdu::Bpdu;
-use mst_forest::Settled;
 use mst_ids::{Mac, Name, PortName};
 use mst_lang::Kind;
+use mst_roles::Settled;
 use mst_view::{BridgeInView, PortInView, View};
 
 /// Who sent a BPDU: a bridge of the view, and a logical port of that bridge.

@@ -25,9 +25,9 @@ use Rattle.mst_vlan.specs.forest.Outcome.{Outcome}
 use Rattle.mst_vlan.proofs.forest_lemmas.Entries.{all_weaker, entries_found}
 use Rattle.mst_vlan.proofs.forest_lemmas.Lists.{all_contained, all_kept, all_there, some_is, no_some}
 use Rattle.mst_vlan.proofs.forest_lemmas.Views.{entry_there}
-use Rattle.mst_vlan.specs.forest.Roles.{role_in, role_of}
-use Rattle.mst_vlan.specs.forest.declared.kind.Role.{Role}
-use Rattle.mst_vlan.specs.forest.declared.kind.Role.TheVariants.{Root, Designated, Alternate, Backup, Master, Disabled}
+use Rattle.mst_vlan.specs.roles.Roles.{role_in, role_of}
+use Rattle.mst_vlan.specs.roles.declared.kind.Role.{Role}
+use Rattle.mst_vlan.specs.roles.declared.kind.Role.TheVariants.{Root, Designated, Alternate, Backup, Master, Disabled}
 use Rattle.mst_vlan.specs.classes.AllVids.{all_vids}
 use Rattle.mst_vlan.proofs.classes_lemmas.VidPlaces.{place_of_vid}
 use Rattle.mst_vlan.proofs.classes_lemmas.VidPlaces.{is_vid_there}
@@ -36,7 +36,7 @@ use Rattle.mst_vlan.specs.forest.AllTrees.{all_trees}
 use Rattle.mst_changes.specs.Subjects.{port_in, names_of_either}
 use Rattle.mst_changes.specs.PortChanges.{counted, port_change_rows}
 use Rattle.mst_changes.specs.Values.{value_at, same_side}
-use Rattle.mst_vlan.specs.forest.RoleNumbers.{role_number}
+use Rattle.mst_vlan.specs.roles.RoleNumbers.{role_number}
 use Rattle.mst_changes.specs.ChangesText.{item_row, change_rows}
 use Rattle.mst_rows.specs.Rows.{Row}
 use Rattle.mst_diff.specs.declared.diff.Differing.{Differing}

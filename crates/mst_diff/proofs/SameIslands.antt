@@ -16,14 +16,15 @@ use Rattle.mst_vlan.specs.forest.Settled.{SettledNet, outcome_of, IsSettledNet}
 use Rattle.mst_vlan.proofs.forest_lemmas.Lists.{filter_mapped, mapped_twice}
 use Rattle.mst_vlan.proofs.forest_lemmas.Seen.{ports_seen}
 use Rattle.mst_vlan.proofs.forest_lemmas.SettledNet.{forest_of}
-use Rattle.mst_vlan.proofs.forest_lemmas.Forwarded.{each_forwards}
+use Rattle.mst_vlan.proofs.roles_lemmas.Forwarded.{each_forwards}
 use Rattle.mst_vlan.proofs.forest_lemmas.Entries.{all_weaker}
 use Rattle.mst_vlan.proofs.forest_lemmas.Looking.{filter_alike}
-use Rattle.mst_vlan.specs.forest.Roles.{forwards_for}
-use Rattle.mst_vlan.specs.forest.SeenRoles.{seen_forwards}
-use Rattle.mst_vlan.specs.Active.{active_ports}
+use Rattle.mst_vlan.specs.roles.Roles.{forwards_for}
+use Rattle.mst_vlan.specs.roles.SeenRoles.{seen_forwards}
+use Rattle.mst_vlan.specs.roles.Active.{active_ports}
 use Rattle.mst_vlan.specs.Reach.{AreIslandsOf, bridges_on, is_member, lans_up, link_of, vid_links}
-use Rattle.mst_vlan.specs.Seen.{seen_active, seen_member}
+use Rattle.mst_vlan.specs.roles.SeenActive.{seen_active}
+use Rattle.mst_vlan.specs.Seen.{seen_member}
 use Rattle.mst_vlan.specs.Carried.{CarryAlike, names_of, seen_carried, with_trees}
 use Rattle.mst_diff.specs.Reach.{island_bridges, no_sides}
 use Rattle.mst_diff.specs.Seen.{seen_names_on, seen_names_up, AreSidesOf, HaveSameEnds}

@@ -23,8 +23,8 @@ use Rattle.mst_vlan.specs.forest.Outcome.{Outcome}
 use Rattle.mst_vlan.proofs.forest_lemmas.Entries.{all_weaker, entries_found}
 use Rattle.mst_vlan.proofs.forest_lemmas.Lists.{apart_mapped}
 use Rattle.mst_vlan.proofs.forest_lemmas.Views.{bridges_rise}
-use Rattle.mst_vlan.specs.forest.Roles.{role_of}
-use Rattle.mst_vlan.specs.forest.declared.kind.Role.{Role}
+use Rattle.mst_vlan.specs.roles.Roles.{role_of}
+use Rattle.mst_vlan.specs.roles.declared.kind.Role.{Role}
 use Rattle.mst_vlan.specs.classes.AllVids.{all_vids}
 use Rattle.mst_vlan.proofs.classes_lemmas.VidPlaces.{is_vid_there}
 use Rattle.mst_changes.specs.declared.value.VectorOrRole.TheVariants.{HasRole}
@@ -33,7 +33,7 @@ use Rattle.mst_view.specs.View.{bridge_names, port_names}
 use Rattle.mst_changes.specs.Subjects.{port_in, names_of_either}
 use Rattle.mst_changes.specs.PortChanges.{port_change_rows}
 use Rattle.mst_changes.specs.Values.{value_at, same_side}
-use Rattle.mst_vlan.specs.forest.RoleNumbers.{role_number}
+use Rattle.mst_vlan.specs.roles.RoleNumbers.{role_number}
 use Rattle.mst_changes.specs.ChangesText.{role_cell, change_rows}
 use Rattle.mst_changes.proofs.Names.{kept_left, kept_right}
 use Rattle.mst_kinds.specs.declared.change_line.ChangeLine.TheVariants as change_line

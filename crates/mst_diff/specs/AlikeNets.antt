@@ -8,7 +8,7 @@ use Rattle.mst_graph.specs.Islands.{Island}
 use Rattle.mst_tables.specs.Tables.{Net, BridgeRow}
 use Rattle.mst_vlan.specs.forest.config.Regions.{first_of_region}
 use Rattle.mst_vlan.specs.forest.Outcome.{Outcome}
-use Rattle.mst_vlan.specs.forest.Roles.{role_of}
+use Rattle.mst_vlan.specs.roles.Roles.{role_of}
 use Rattle.mst_vlan.specs.Reach.{AreIslandsOf}
 use Rattle.mst_facts.specs.Told.{same_told}
 use Rattle.mst_facts.specs.Roots.{root_name}

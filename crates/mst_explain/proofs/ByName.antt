@@ -5,17 +5,17 @@ use Rattle.std.specs.List.{Contains}
 use Rattle.std.specs.Ordering.{is_gt}
 use Rattle.mst_ids.specs.declared.name.PortName.{PortName}
 use Rattle.mst_vector.specs.Rules.{Rules, IsMetric}
-use Rattle.mst_forest.specs.topology.Topology.{TreePort, Topology, IsTopology, HasBridge, HasPort}
-use Rattle.mst_forest.specs.topology.Settled.{IsDesignatedVector, IsDesignated}
-use Rattle.mst_forest.proofs.topology_lemmas.Below.{one_speaker}
-use Rattle.mst_forest.proofs.topology_lemmas.Orders.{both}
+use Rattle.mst_roles.specs.forest.topology.Topology.{TreePort, Topology, IsTopology, HasBridge, HasPort}
+use Rattle.mst_roles.specs.forest.topology.Settled.{IsDesignatedVector, IsDesignated}
+use Rattle.mst_roles.proofs.forest_lemmas.topology_lemmas.Below.{one_speaker}
+use Rattle.mst_roles.proofs.forest_lemmas.topology_lemmas.Orders.{both}
 use Rattle.mst_tables.specs.Tables.{Net, IsNetwork}
 use Rattle.mst_view.specs.View.{LogicalPort, view_ports}
-use Rattle.mst_forest.specs.Sight.{Sight, tree_port, tree_of}
-use Rattle.mst_forest.specs.Outcome.{TreeOutcome, IsTreeOutcome}
-use Rattle.mst_forest.proofs.Lists.{no_some, all_contained}
-use Rattle.mst_forest.proofs.Views.{IsPort, ports_are}
-use Rattle.mst_forest.proofs.Sights.{IsSight, bridge_in, port_in, port_from, is_topology}
+use Rattle.mst_roles.specs.forest.Sight.{Sight, tree_port, tree_of}
+use Rattle.mst_roles.specs.forest.Outcome.{TreeOutcome, IsTreeOutcome}
+use Rattle.mst_roles.proofs.forest_lemmas.Lists.{no_some, all_contained}
+use Rattle.mst_roles.proofs.forest_lemmas.Views.{IsPort, ports_are}
+use Rattle.mst_roles.proofs.forest_lemmas.Sights.{IsSight, bridge_in, port_in, port_from, is_topology}
 use Rattle.mst_rows.specs.Rows.{Row}
 use Rattle.mst_explain.specs.declared.claims.Claim.{Claim}
 use Rattle.mst_explain.specs.Claims.{told_rows}

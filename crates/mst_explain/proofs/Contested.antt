@@ -6,17 +6,17 @@ use Rattle.std.specs.FinMap as fin
 use Rattle.std.specs.FinMap.{len-entries}
 use Rattle.mst_ids.specs.declared.name.PortName.{PortName}
 use Rattle.mst_vector.specs.Rules.{Rules, IsMetric}
-use Rattle.mst_forest.specs.topology.Topology.{Topology, IsTopology}
-use Rattle.mst_forest.specs.topology.Settled.{Settled}
+use Rattle.mst_roles.specs.forest.topology.Topology.{Topology, IsTopology}
+use Rattle.mst_roles.specs.forest.topology.Settled.{Settled}
 use Rattle.mst_tables.specs.Tables.{Net, Numbers}
 use Rattle.mst_view.specs.View.{LogicalPort, view_ports}
 use Rattle.mst_view.specs.Viewed.{Viewed, named_port}
 use Rattle.mst_view.specs.declared.in_view.PortInView.{PortInView}
-use Rattle.mst_forest.specs.Sight.{Sight, tree_of, named_bridge}
-use Rattle.mst_forest.specs.Outcome.{TreeOutcome, IsTreeOutcome}
-use Rattle.mst_forest.specs.Agrees.{AreOf}
-use Rattle.mst_forest.proofs.Sights.{IsSight}
-use Rattle.mst_forest.proofs.Seen.{port_seen, port_of_net}
+use Rattle.mst_roles.specs.forest.Sight.{Sight, tree_of, named_bridge}
+use Rattle.mst_roles.specs.forest.Outcome.{TreeOutcome, IsTreeOutcome}
+use Rattle.mst_roles.specs.forest.Agrees.{AreOf}
+use Rattle.mst_roles.proofs.forest_lemmas.Sights.{IsSight}
+use Rattle.mst_roles.proofs.forest_lemmas.Seen.{port_seen, port_of_net}
 use Rattle.mst_rows.specs.Rows.{Row}
 use Rattle.mst_explain.specs.Explained.{TellsRoot, TellsContest}
 use Rattle.mst_explain.specs.Fields.{Field}

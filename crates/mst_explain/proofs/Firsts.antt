@@ -9,9 +9,9 @@ use Rattle.std.specs.Cmp.{IsTotalOrder}
 use Rattle.std.proofs.lemmas.Cmp.{tied_itself, upto}
 use Rattle.mst_ids.specs.declared.name.PortName.{PortName}
 use Rattle.mst_vector.specs.Rules.{Rules}
-use Rattle.mst_forest.proofs.topology_lemmas.Orders.{not_less, less_is_upto}
-use Rattle.mst_forest.proofs.Lists.{some_is, no_some, all_contained, there_first, there_later}
-use Rattle.mst_forest.proofs.Named.{port_is, port_same}
+use Rattle.mst_roles.proofs.forest_lemmas.topology_lemmas.Orders.{not_less, less_is_upto}
+use Rattle.mst_roles.proofs.forest_lemmas.Lists.{some_is, no_some, all_contained, there_first, there_later}
+use Rattle.mst_roles.proofs.Named.{port_is, port_same}
 use Rattle.mst_explain.specs.declared.lines.Contest.{Contest}
 use Rattle.mst_explain.specs.declared.claims.Claim.{Claim}
 use Rattle.mst_explain.specs.declared.claims.Among.{Among}

@@ -8,19 +8,19 @@ use Rattle.std.proofs.lemmas.Bool.{eqb-true}
 use Rattle.std.proofs.lemmas.List.Elements.{Contains-append_left, Contains-append_right, Contains-append_cases}
 use Rattle.mst_ids.specs.declared.name.PortName.{PortName}
 use Rattle.mst_vector.specs.Rules.{Rules, IsMetric}
-use Rattle.mst_forest.specs.topology.Topology.{TreePort, Topology, IsTopology, HasBridge, HasPort}
-use Rattle.mst_forest.specs.topology.Settled.{Designates, IsRootPathVector, IsDesignated}
-use Rattle.mst_forest.proofs.topology_lemmas.Below.{one_designated}
+use Rattle.mst_roles.specs.forest.topology.Topology.{TreePort, Topology, IsTopology, HasBridge, HasPort}
+use Rattle.mst_roles.specs.forest.topology.Settled.{Designates, IsRootPathVector, IsDesignated}
+use Rattle.mst_roles.proofs.forest_lemmas.topology_lemmas.Below.{one_designated}
 use Rattle.mst_tables.specs.Tables.{Net, Numbers}
 use Rattle.mst_view.specs.Viewed.{Viewed, named_port}
 use Rattle.mst_view.specs.declared.in_view.PortInView.{PortInView}
-use Rattle.mst_forest.specs.Sight.{Sight, tree_port, tree_of}
-use Rattle.mst_forest.specs.Outcome.{TreeOutcome, IsTreeOutcome}
-use Rattle.mst_forest.specs.Agrees.{IsNameOf, AreOf}
-use Rattle.mst_forest.proofs.Lists.{some_is, no_some, kept_in, kept_from, there_first}
-use Rattle.mst_forest.proofs.Sights.{IsSight, changed_from, port_in}
-use Rattle.mst_forest.proofs.Seen.{port_seen, port_of_net}
-use Rattle.mst_forest.proofs.Looking.{first_found}
+use Rattle.mst_roles.specs.forest.Sight.{Sight, tree_port, tree_of}
+use Rattle.mst_roles.specs.forest.Outcome.{TreeOutcome, IsTreeOutcome}
+use Rattle.mst_roles.specs.forest.Agrees.{IsNameOf, AreOf}
+use Rattle.mst_roles.proofs.forest_lemmas.Lists.{some_is, no_some, kept_in, kept_from, there_first}
+use Rattle.mst_roles.proofs.forest_lemmas.Sights.{IsSight, changed_from, port_in}
+use Rattle.mst_roles.proofs.forest_lemmas.Seen.{port_seen, port_of_net}
+use Rattle.mst_roles.proofs.forest_lemmas.Looking.{first_found}
 use Rattle.mst_explain.specs.declared.claims.Claim.{Claim}
 use Rattle.mst_explain.specs.Contest.{Gives}
 use Rattle.mst_explain.specs.Seen.{TreeSeen, designated_vector, designated_on, root_path_vector_from, heard, given, claim_of, own_claims, bridge_claim, bridge_claims}

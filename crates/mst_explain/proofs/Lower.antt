@@ -15,12 +15,12 @@ use Rattle.mst_vector.specs.declared.cist.CistBridge.{CistBridge}
 use Rattle.mst_vector.specs.declared.msti.MstiVector.{MstiVector}
 use Rattle.mst_vector.specs.declared.msti.MstiBridge.{MstiBridge}
 use Rattle.mst_tables.specs.Tables.{Net, IsNetwork}
-use Rattle.mst_forest.specs.Cist.{cist_sight, cist_of}
-use Rattle.mst_forest.specs.Msti.{msti_sight, msti_of}
-use Rattle.mst_forest.specs.Outcome.{Outcome}
-use Rattle.mst_forest.proofs.Sights.{has_port_ids}
-use Rattle.mst_forest.proofs.CistTopology.{cist_is_sight, cist_topology}
-use Rattle.mst_forest.proofs.MstiTopology.{msti_is_sight, msti_topology}
+use Rattle.mst_roles.specs.forest.Cist.{cist_sight, cist_of}
+use Rattle.mst_roles.specs.forest.Msti.{msti_sight, msti_of}
+use Rattle.mst_roles.specs.forest.Outcome.{Outcome}
+use Rattle.mst_roles.proofs.forest_lemmas.Sights.{has_port_ids}
+use Rattle.mst_roles.proofs.forest_lemmas.CistTopology.{cist_is_sight, cist_topology}
+use Rattle.mst_roles.proofs.forest_lemmas.MstiTopology.{msti_is_sight, msti_topology}
 use Rattle.mst_explain.specs.Contest.{IsDesignatedVectorOn, Gives}
 use Rattle.mst_explain.specs.AsTold.{TellsLowerFirst}
 use Rattle.mst_explain.specs.Fields.{Field, cist_fields, msti_fields, decided, TellsLower}

@@ -12,20 +12,20 @@ use Rattle.mst_vector.specs.MstiLaws.{msti_lawful}
 use Rattle.mst_vector.specs.declared.cist.CistVector.{CistVector}
 use Rattle.mst_vector.specs.declared.cist.CistBridge.{CistBridge}
 use Rattle.mst_vector.specs.declared.cist.CistPort.{CistPort}
-use Rattle.mst_forest.specs.topology.Topology.{TreePort, Topology, IsTopology, HasBridge, HasPort}
-use Rattle.mst_forest.specs.topology.Settled.{IsDesignatedVector, Designates, IsRootPathVector}
-use Rattle.mst_forest.proofs.topology_lemmas.Below.{one_message, one_speaker, one_designated}
-use Rattle.mst_forest.proofs.topology_lemmas.Orders.{both}
+use Rattle.mst_roles.specs.forest.topology.Topology.{TreePort, Topology, IsTopology, HasBridge, HasPort}
+use Rattle.mst_roles.specs.forest.topology.Settled.{IsDesignatedVector, Designates, IsRootPathVector}
+use Rattle.mst_roles.proofs.forest_lemmas.topology_lemmas.Below.{one_message, one_speaker, one_designated}
+use Rattle.mst_roles.proofs.forest_lemmas.topology_lemmas.Orders.{both}
 use Rattle.mst_tables.specs.Tables.{Net, IsNetwork}
 use Rattle.mst_view.specs.View.{LogicalPort}
-use Rattle.mst_forest.specs.Cist.{cist_sight, cist_of}
-use Rattle.mst_forest.specs.Msti.{msti_sight, msti_of, is_internal}
-use Rattle.mst_forest.specs.Outcome.{TreeOutcome, Outcome}
-use Rattle.mst_forest.proofs.Lists.{some_is}
-use Rattle.mst_forest.proofs.Sights.{has_port_ids}
-use Rattle.mst_forest.proofs.CistTopology.{cist_is_sight, cist_topology}
-use Rattle.mst_forest.proofs.MstiTopology.{msti_is_sight, msti_topology}
-use Rattle.mst_forest.specs.Roles.{cist_role}
+use Rattle.mst_roles.specs.forest.Cist.{cist_sight, cist_of}
+use Rattle.mst_roles.specs.forest.Msti.{msti_sight, msti_of, is_internal}
+use Rattle.mst_roles.specs.forest.Outcome.{TreeOutcome, Outcome}
+use Rattle.mst_roles.proofs.forest_lemmas.Lists.{some_is}
+use Rattle.mst_roles.proofs.forest_lemmas.Sights.{has_port_ids}
+use Rattle.mst_roles.proofs.forest_lemmas.CistTopology.{cist_is_sight, cist_topology}
+use Rattle.mst_roles.proofs.forest_lemmas.MstiTopology.{msti_is_sight, msti_topology}
+use Rattle.mst_roles.specs.Roles.{cist_role}
 use Rattle.mst_rows.specs.Rows.{Row}
 use Rattle.mst_explain.specs.declared.lines.Contest.{Contest}
 use Rattle.mst_explain.specs.Contest.{IsFirst, IsRival, IsAlone, IsDesignatedVectorOn, Gives}

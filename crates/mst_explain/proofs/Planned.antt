@@ -12,24 +12,24 @@ use Rattle.mst_vector.specs.declared.cist.CistBridge.{CistBridge}
 use Rattle.mst_vector.specs.declared.msti.MstiBridge.{MstiBridge}
 use Rattle.mst_vector.specs.declared.msti.MstiPort.{MstiPort}
 use Rattle.mst_vector.specs.declared.msti.MstiVector.{MstiVector}
-use Rattle.mst_forest.specs.outcome.Assignment.{vector_of, designated_of}
+use Rattle.mst_roles.specs.forest.outcome.Assignment.{vector_of, designated_of}
 use Rattle.mst_tables.specs.Tables.{BridgeRow}
 use Rattle.mst_tables.specs.ByTree.{by_tree}
 use Rattle.mst_tables.specs.Seen.{bridge_row}
 use Rattle.mst_view.specs.Viewed.{named_port}
 use Rattle.mst_view.specs.declared.in_view.BridgeInView.{BridgeInView}
 use Rattle.mst_view.specs.declared.in_view.PortInView.{PortInView}
-use Rattle.mst_forest.specs.Cist.{cist_bridge, cist_port, cist_sight, cist_of}
-use Rattle.mst_forest.specs.Msti.{msti_bridge, msti_port, msti_sight, msti_of, has_msti, is_internal}
-use Rattle.mst_forest.specs.Outcome.{Outcome}
-use Rattle.mst_forest.specs.Agrees.{Agrees}
-use Rattle.mst_forest.specs.Seen.{seen_internal}
-use Rattle.mst_forest.specs.Forest.{msti_vector, msti_designated}
-use Rattle.mst_forest.specs.Settled.{SettledNet, outcome_of, IsSettledNet}
-use Rattle.mst_forest.proofs.CistTopology.{cist_is_sight}
-use Rattle.mst_forest.proofs.MstiTopology.{msti_is_sight}
-use Rattle.mst_forest.proofs.Seen.{SeenBridge, SeenPort, bridge_seen, port_seen}
-use Rattle.mst_forest.proofs.Looking.{internal_same, has_tree_at}
+use Rattle.mst_roles.specs.forest.Cist.{cist_bridge, cist_port, cist_sight, cist_of}
+use Rattle.mst_roles.specs.forest.Msti.{msti_bridge, msti_port, msti_sight, msti_of, has_msti, is_internal}
+use Rattle.mst_roles.specs.forest.Outcome.{Outcome}
+use Rattle.mst_roles.specs.forest.Agrees.{Agrees}
+use Rattle.mst_roles.specs.forest.Seen.{seen_internal}
+use Rattle.mst_roles.specs.forest.Forest.{msti_vector, msti_designated}
+use Rattle.mst_roles.specs.forest.Settled.{SettledNet, outcome_of, IsSettledNet}
+use Rattle.mst_roles.proofs.forest_lemmas.CistTopology.{cist_is_sight}
+use Rattle.mst_roles.proofs.forest_lemmas.MstiTopology.{msti_is_sight}
+use Rattle.mst_roles.proofs.forest_lemmas.Seen.{SeenBridge, SeenPort, bridge_seen, port_seen}
+use Rattle.mst_roles.proofs.forest_lemmas.Looking.{internal_same, has_tree_at}
 use Rattle.mst_explain.specs.Fields.{cist_fields, msti_fields}
 use Rattle.mst_explain.specs.Explained.{TellsContest}
 use Rattle.mst_explain.specs.Seen.{TreeSeen, CanStep, contest_rows}

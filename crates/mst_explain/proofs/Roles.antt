@@ -12,27 +12,27 @@ use Rattle.mst_vector.specs.Cist.{cist_rules}
 use Rattle.mst_vector.specs.CistLaws.{cist_lawful}
 use Rattle.mst_vector.specs.Msti.{msti_rules}
 use Rattle.mst_vector.specs.MstiLaws.{msti_lawful}
-use Rattle.mst_forest.specs.topology.Topology.{TreePort, Topology, IsTopology, HasBridge, HasPort}
-use Rattle.mst_forest.specs.topology.Settled.{IsDesignatedVector, Designates, IsDesignated, IsVectorOf}
-use Rattle.mst_forest.proofs.topology_lemmas.Below.{one_speaker, one_designated}
-use Rattle.mst_forest.proofs.topology_lemmas.Orders.{both}
+use Rattle.mst_roles.specs.forest.topology.Topology.{TreePort, Topology, IsTopology, HasBridge, HasPort}
+use Rattle.mst_roles.specs.forest.topology.Settled.{IsDesignatedVector, Designates, IsDesignated, IsVectorOf}
+use Rattle.mst_roles.proofs.forest_lemmas.topology_lemmas.Below.{one_speaker, one_designated}
+use Rattle.mst_roles.proofs.forest_lemmas.topology_lemmas.Orders.{both}
 use Rattle.mst_tables.specs.Tables.{Net, IsNetwork, port_eq}
 use Rattle.mst_tables.specs.ByTree.{by_tree}
 use Rattle.mst_view.specs.Aggregation.{same_name}
 use Rattle.mst_view.specs.View.{LogicalPort, view_ports}
-use Rattle.mst_forest.specs.Sight.{Sight, tree_port, tree_of}
-use Rattle.mst_forest.specs.Cist.{cist_port, cist_sight, cist_of}
-use Rattle.mst_forest.specs.Msti.{msti_port, msti_sight, msti_of, has_msti, is_internal}
-use Rattle.mst_forest.specs.Outcome.{TreeOutcome, IsTreeOutcome, Outcome, IsOutcome}
-use Rattle.mst_forest.proofs.Lists.{some_is, no_some, all_contained}
-use Rattle.mst_forest.proofs.Views.{IsPort, ports_are}
-use Rattle.mst_forest.proofs.Sights.{IsSight, bridge_in, port_in, port_from, is_topology, has_port_ids}
-use Rattle.mst_forest.proofs.CistTopology.{cist_is_sight}
-use Rattle.mst_forest.proofs.MstiTopology.{msti_is_sight}
-use Rattle.mst_forest.specs.Roles.{beside, role_by, outside, cist_role, msti_role}
-use Rattle.mst_forest.specs.declared.kind.Role.{Role}
-use Rattle.mst_forest.specs.declared.kind.Role.TheVariants.{Root, Designated, Alternate, Backup, Master, Disabled}
-use Rattle.mst_forest.proofs.Named.{port_is, port_same}
+use Rattle.mst_roles.specs.forest.Sight.{Sight, tree_port, tree_of}
+use Rattle.mst_roles.specs.forest.Cist.{cist_port, cist_sight, cist_of}
+use Rattle.mst_roles.specs.forest.Msti.{msti_port, msti_sight, msti_of, has_msti, is_internal}
+use Rattle.mst_roles.specs.forest.Outcome.{TreeOutcome, IsTreeOutcome, Outcome, IsOutcome}
+use Rattle.mst_roles.proofs.forest_lemmas.Lists.{some_is, no_some, all_contained}
+use Rattle.mst_roles.proofs.forest_lemmas.Views.{IsPort, ports_are}
+use Rattle.mst_roles.proofs.forest_lemmas.Sights.{IsSight, bridge_in, port_in, port_from, is_topology, has_port_ids}
+use Rattle.mst_roles.proofs.forest_lemmas.CistTopology.{cist_is_sight}
+use Rattle.mst_roles.proofs.forest_lemmas.MstiTopology.{msti_is_sight}
+use Rattle.mst_roles.specs.Roles.{beside, role_by, outside, cist_role, msti_role}
+use Rattle.mst_roles.specs.declared.kind.Role.{Role}
+use Rattle.mst_roles.specs.declared.kind.Role.TheVariants.{Root, Designated, Alternate, Backup, Master, Disabled}
+use Rattle.mst_roles.proofs.Named.{port_is, port_same}
 use Rattle.mst_explain.specs.Contest.{IsFirst, IsDesignatedVectorOn, Gives}
 use Rattle.mst_explain.specs.AsTold.{IsDesignatedOn, GivesRoot, IsAsTold}
 use Rattle.mst_explain.proofs.OneText.{TellsReceiver, receiver_of, cist_tells, msti_tells}

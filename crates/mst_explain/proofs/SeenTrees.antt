@@ -7,23 +7,23 @@ use Rattle.std.specs.FinMap as fin
 use Rattle.std.proofs.lemmas.Bool.{eqb-true}
 use Rattle.mst_ids.specs.declared.name.PortName.{PortName}
 use Rattle.mst_vector.specs.Rules.{Rules, IsMetric}
-use Rattle.mst_forest.specs.topology.Topology.{TreePort, Topology, IsTopology, HasBridge, HasPort}
-use Rattle.mst_forest.specs.topology.Settled.{IsDesignatedVector}
+use Rattle.mst_roles.specs.forest.topology.Topology.{TreePort, Topology, IsTopology, HasBridge, HasPort}
+use Rattle.mst_roles.specs.forest.topology.Settled.{IsDesignatedVector}
 use Rattle.mst_tables.specs.Tables.{Net, Numbers, BridgeRow}
 use Rattle.mst_tables.specs.Seen.{bridge_row}
 use Rattle.mst_view.specs.View.{LogicalPort}
 use Rattle.mst_view.specs.Viewed.{Viewed, named_port}
 use Rattle.mst_view.specs.declared.in_view.BridgeInView.{BridgeInView}
 use Rattle.mst_view.specs.declared.in_view.PortInView.{PortInView}
-use Rattle.mst_forest.specs.Sight.{Sight, tree_port, tree_of}
-use Rattle.mst_forest.specs.Outcome.{TreeOutcome, IsTreeOutcome}
-use Rattle.mst_forest.specs.Agrees.{Agrees, AreOf}
-use Rattle.mst_forest.proofs.Lists.{some_is, no_some, apart_cases, kept_in, kept_from}
-use Rattle.mst_forest.proofs.Views.{port_names_differ}
-use Rattle.mst_forest.proofs.Sights.{IsSight, changed_from, bridge_from, bridge_in, port_from, port_in, is_topology}
-use Rattle.mst_forest.proofs.Seen.{PortsRise, bridge_seen, port_seen, ports_apart, bridge_there, port_there, port_of_net}
-use Rattle.mst_forest.proofs.Looking.{first_found}
-use Rattle.mst_forest.proofs.Named.{found_in}
+use Rattle.mst_roles.specs.forest.Sight.{Sight, tree_port, tree_of}
+use Rattle.mst_roles.specs.forest.Outcome.{TreeOutcome, IsTreeOutcome}
+use Rattle.mst_roles.specs.forest.Agrees.{Agrees, AreOf}
+use Rattle.mst_roles.proofs.forest_lemmas.Lists.{some_is, no_some, apart_cases, kept_in, kept_from}
+use Rattle.mst_roles.proofs.forest_lemmas.Views.{port_names_differ}
+use Rattle.mst_roles.proofs.forest_lemmas.Sights.{IsSight, changed_from, bridge_from, bridge_in, port_from, port_in, is_topology}
+use Rattle.mst_roles.proofs.forest_lemmas.Seen.{PortsRise, bridge_seen, port_seen, ports_apart, bridge_there, port_there, port_of_net}
+use Rattle.mst_roles.proofs.forest_lemmas.Looking.{first_found}
+use Rattle.mst_roles.proofs.Named.{found_in}
 use Rattle.mst_explain.specs.declared.claims.Claim.{Claim}
 use Rattle.mst_explain.specs.Contest.{IsDesignatedVectorOn}
 use Rattle.mst_explain.specs.Seen.{TreeSeen, designated_vector, designated_on, claim_of, lan_claim, lan_claims}

@@ -5,12 +5,12 @@ use Rattle.std.specs.List.{AllByRecursion, Contains}
 use Rattle.std.specs.Cmp.Lexicographic.{pointwise, bytes_decides}
 use Rattle.mst_ids.specs.declared.name.PortName.{PortName}
 use Rattle.mst_vector.specs.Rules.{Rules, IsMetric}
-use Rattle.mst_forest.specs.topology.Topology.{TreePort, Topology, IsTopology, HasPort}
-use Rattle.mst_forest.specs.topology.Settled.{IsDesignatedVector, Designates, IsRootPathVector, IsDesignated}
-use Rattle.mst_forest.proofs.topology_lemmas.Below.{one_message, one_designated}
-use Rattle.mst_forest.specs.Outcome.{TreeOutcome, IsTreeOutcome}
-use Rattle.mst_forest.proofs.Entries.{all_weaker}
-use Rattle.mst_forest.proofs.Lists.{all_there, there_first, there_later}
+use Rattle.mst_roles.specs.forest.topology.Topology.{TreePort, Topology, IsTopology, HasPort}
+use Rattle.mst_roles.specs.forest.topology.Settled.{IsDesignatedVector, Designates, IsRootPathVector, IsDesignated}
+use Rattle.mst_roles.proofs.forest_lemmas.topology_lemmas.Below.{one_message, one_designated}
+use Rattle.mst_roles.specs.forest.Outcome.{TreeOutcome, IsTreeOutcome}
+use Rattle.mst_roles.proofs.forest_lemmas.Entries.{all_weaker}
+use Rattle.mst_roles.proofs.forest_lemmas.Lists.{all_there, there_first, there_later}
 use Rattle.mst_explain.specs.declared.claims.Claim.{Claim}
 use Rattle.mst_explain.specs.Contest.{IsDesignatedVectorOn, Gives}
 use Rattle.mst_explain.proofs.Firsts.{Hold}

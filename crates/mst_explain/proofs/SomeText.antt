@@ -9,19 +9,19 @@ use Rattle.mst_vector.specs.Cist.{cist_rules}
 use Rattle.mst_vector.specs.CistLaws.{cist_lawful}
 use Rattle.mst_vector.specs.Msti.{msti_rules}
 use Rattle.mst_vector.specs.MstiLaws.{msti_lawful}
-use Rattle.mst_forest.specs.topology.Topology.{Topology}
+use Rattle.mst_roles.specs.forest.topology.Topology.{Topology}
 use Rattle.mst_tables.specs.Tables.{Net, IsNetwork}
 use Rattle.mst_tables.specs.ByTree.{by_tree}
 use Rattle.mst_view.specs.View.{LogicalPort, view_ports, is_on, is_up}
-use Rattle.mst_forest.specs.Sight.{Sight, tree_of}
-use Rattle.mst_forest.specs.Cist.{cist_port, cist_sight, cist_of}
-use Rattle.mst_forest.specs.Msti.{msti_port, msti_sight, msti_of, has_msti, is_internal}
-use Rattle.mst_forest.specs.Outcome.{TreeOutcome, IsTreeOutcome, Outcome, IsOutcome}
-use Rattle.mst_forest.proofs.Sights.{IsSight, is_topology, has_port_ids}
-use Rattle.mst_forest.proofs.CistTopology.{cist_is_sight}
-use Rattle.mst_forest.proofs.MstiTopology.{msti_is_sight}
-use Rattle.mst_forest.specs.Roles.{cist_role, msti_role, role_in}
-use Rattle.mst_forest.specs.declared.kind.Role.{Role}
+use Rattle.mst_roles.specs.forest.Sight.{Sight, tree_of}
+use Rattle.mst_roles.specs.forest.Cist.{cist_port, cist_sight, cist_of}
+use Rattle.mst_roles.specs.forest.Msti.{msti_port, msti_sight, msti_of, has_msti, is_internal}
+use Rattle.mst_roles.specs.forest.Outcome.{TreeOutcome, IsTreeOutcome, Outcome, IsOutcome}
+use Rattle.mst_roles.proofs.forest_lemmas.Sights.{IsSight, is_topology, has_port_ids}
+use Rattle.mst_roles.proofs.forest_lemmas.CistTopology.{cist_is_sight}
+use Rattle.mst_roles.proofs.forest_lemmas.MstiTopology.{msti_is_sight}
+use Rattle.mst_roles.specs.Roles.{cist_role, msti_role, role_in}
+use Rattle.mst_roles.specs.declared.kind.Role.{Role}
 use Rattle.mst_rows.specs.Rows.{Row}
 use Rattle.mst_explain.specs.declared.claims.Claim.{Claim}
 use Rattle.mst_explain.specs.Claims.{told_rows}

@@ -8,7 +8,7 @@ use Rattle.std.specs.FinMap as fin
 use Rattle.mst_vector.specs.Cist.{cist_rules}
 use Rattle.mst_vector.specs.Msti.{msti_rules}
 use Rattle.mst_vector.specs.CistLaws.{cist_lawful}
-use Rattle.mst_forest.specs.outcome.Assignment.{designated_of}
+use Rattle.mst_roles.specs.forest.outcome.Assignment.{designated_of}
 use Rattle.mst_tables.specs.Tables.{Net, BridgeRow, LanRow}
 use Rattle.mst_tables.specs.Seen.{bridge_row}
 use Rattle.mst_view.specs.Aggregation.{same_name}
@@ -19,17 +19,17 @@ use Rattle.mst_view.specs.declared.in_view.BridgeInView.{BridgeInView}
 use Rattle.mst_view.specs.declared.in_view.PortInView.{PortInView}
 use Rattle.mst_view.specs.declared.in_view.MemberLan.{MemberLan}
 use Rattle.mst_view.proofs.Placing.{pair_found}
-use Rattle.mst_forest.specs.Cist.{cist_sight}
-use Rattle.mst_forest.specs.Msti.{has_msti, is_internal}
-use Rattle.mst_forest.specs.Outcome.{Outcome}
-use Rattle.mst_forest.specs.Seen.{seen_internal, trees_at}
-use Rattle.mst_forest.specs.Settled.{SettledNet, outcome_of, IsSettledNet}
-use Rattle.mst_forest.proofs.Entries.{all_weaker}
-use Rattle.mst_forest.proofs.Lists.{all_contained, all_there}
-use Rattle.mst_forest.proofs.CistTopology.{cist_is_sight}
-use Rattle.mst_forest.proofs.Seen.{SeenPort, port_seen}
-use Rattle.mst_forest.specs.Roles.{cist_role, msti_role, role_in}
-use Rattle.mst_forest.specs.declared.kind.Role.{Role}
+use Rattle.mst_roles.specs.forest.Cist.{cist_sight}
+use Rattle.mst_roles.specs.forest.Msti.{has_msti, is_internal}
+use Rattle.mst_roles.specs.forest.Outcome.{Outcome}
+use Rattle.mst_roles.specs.forest.Seen.{seen_internal, trees_at}
+use Rattle.mst_roles.specs.forest.Settled.{SettledNet, outcome_of, IsSettledNet}
+use Rattle.mst_roles.proofs.forest_lemmas.Entries.{all_weaker}
+use Rattle.mst_roles.proofs.forest_lemmas.Lists.{all_contained, all_there}
+use Rattle.mst_roles.proofs.forest_lemmas.CistTopology.{cist_is_sight}
+use Rattle.mst_roles.proofs.forest_lemmas.Seen.{SeenPort, port_seen}
+use Rattle.mst_roles.specs.Roles.{cist_role, msti_role, role_in}
+use Rattle.mst_roles.specs.declared.kind.Role.{Role}
 use Rattle.mst_rows.specs.Rows.{Row}
 use Rattle.mst_explain.specs.Fields.{cist_fields, msti_fields}
 use Rattle.mst_explain.specs.Lines.{explain_rows, boundary_rows, disabled_rows}

@@ -2,11 +2,11 @@
 use Rattle.std.specs.Prelude.{◌≡◌, ◌≢◌, ◌↔◌, ℕ, List, Option, Some}
 use Rattle.mst_ids.specs.declared.name.PortName.{PortName}
 use Rattle.mst_vector.specs.Rules.{Rules}
-use Rattle.mst_forest.specs.topology.Topology.{Topology, HasBridge}
+use Rattle.mst_roles.specs.forest.topology.Topology.{Topology, HasBridge}
 use Rattle.mst_view.specs.View.{LogicalPort}
-use Rattle.mst_forest.specs.Outcome.{TreeOutcome}
-use Rattle.mst_forest.specs.declared.kind.Role.{Role}
-use Rattle.mst_forest.specs.declared.kind.Role.TheVariants.{Root, Designated, Alternate, Backup}
+use Rattle.mst_roles.specs.forest.Outcome.{TreeOutcome}
+use Rattle.mst_roles.specs.declared.kind.Role.{Role}
+use Rattle.mst_roles.specs.declared.kind.Role.TheVariants.{Root, Designated, Alternate, Backup}
 use Rattle.mst_explain.specs.Contest.{IsFirst, IsRival, IsDesignatedVectorOn, Gives}
 use Rattle.mst_explain.specs.Fields.{Field, decided, TellsLower}
 

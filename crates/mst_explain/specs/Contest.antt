@@ -2,8 +2,8 @@
 use Rattle.std.specs.Prelude.{◌≡◌, ◌≢◌, Option, None, Some, false}
 use Rattle.std.specs.Ordering.{is_gt}
 use Rattle.mst_vector.specs.Rules.{Rules}
-use Rattle.mst_forest.specs.topology.Topology.{TreePort, Topology}
-use Rattle.mst_forest.specs.topology.Settled.{IsDesignatedVector, IsRootPathVector}
+use Rattle.mst_roles.specs.forest.topology.Topology.{TreePort, Topology}
+use Rattle.mst_roles.specs.forest.topology.Settled.{IsDesignatedVector, IsRootPathVector}
 
 module _ {K B P V : Type 0} (m : Rules B P V) (Has : K → V → Type 0) where
   -- c has the vector x, and none has a lower one

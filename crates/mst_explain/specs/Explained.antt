@@ -6,15 +6,15 @@ use Rattle.mst_ids.specs.declared.name.PortName.{PortName}
 use Rattle.mst_vector.specs.Rules.{Rules}
 use Rattle.mst_vector.specs.Cist.{cist_rules}
 use Rattle.mst_vector.specs.Msti.{msti_rules}
-use Rattle.mst_forest.specs.topology.Topology.{Topology, HasBridge}
+use Rattle.mst_roles.specs.forest.topology.Topology.{Topology, HasBridge}
 use Rattle.mst_tables.specs.Tables.{Net}
 use Rattle.mst_view.specs.Trees.{mstis_of}
 use Rattle.mst_view.specs.View.{LogicalPort, is_on, is_up}
-use Rattle.mst_forest.specs.Cist.{cist_of}
-use Rattle.mst_forest.specs.Msti.{msti_of, is_internal}
-use Rattle.mst_forest.specs.Outcome.{Outcome, TreeOutcome}
-use Rattle.mst_forest.specs.Roles.{cist_role, role_in}
-use Rattle.mst_forest.specs.declared.kind.Role.{Role}
+use Rattle.mst_roles.specs.forest.Cist.{cist_of}
+use Rattle.mst_roles.specs.forest.Msti.{msti_of, is_internal}
+use Rattle.mst_roles.specs.forest.Outcome.{Outcome, TreeOutcome}
+use Rattle.mst_roles.specs.Roles.{cist_role, role_in}
+use Rattle.mst_roles.specs.declared.kind.Role.{Role}
 use Rattle.mst_rows.specs.Rows.{Row}
 use Rattle.mst_explain.specs.Contest.{IsFirst, IsRival, IsAlone, IsDesignatedVectorOn, Gives}
 use Rattle.mst_explain.specs.Fields.{Field, cist_fields, msti_fields, decided}

@@ -4,8 +4,8 @@ use Rattle.mst_ids.specs.declared.name.PortName.{PortName}
 use Rattle.mst_kinds.specs.declared.contest_line.ContestLine.TheVariants as contest_line
 use Rattle.mst_kinds.specs.declared.explain_line.ExplainLine.TheVariants as explain_line
 use Rattle.mst_kinds.specs.declared.kind.Kind.TheVariants as kind
-use Rattle.mst_forest.specs.Names.{role_text}
-use Rattle.mst_forest.specs.declared.kind.Role.{Role}
+use Rattle.mst_roles.specs.Names.{role_text}
+use Rattle.mst_roles.specs.declared.kind.Role.{Role}
 use Rattle.mst_rows.specs.Cells.{word, number, port}
 use Rattle.mst_rows.specs.Rows.{Row, giver, row_of}
 use Rattle.mst_explain.specs.Fields.{Field}

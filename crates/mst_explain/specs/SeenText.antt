@@ -4,15 +4,15 @@ use Rattle.std.specs.List.{find, list_any}
 use Rattle.std.specs.Option.{option_map_or, option_and_then}
 use Rattle.mst_vector.specs.Cist.{cist_rules}
 use Rattle.mst_vector.specs.Msti.{msti_rules}
-use Rattle.mst_forest.specs.outcome.Assignment.{designated_of}
+use Rattle.mst_roles.specs.forest.outcome.Assignment.{designated_of}
 use Rattle.mst_tables.specs.Seen.{bridge_row}
 use Rattle.mst_view.specs.Aggregation.{same_name}
 use Rattle.mst_view.specs.Viewed.{Viewed, named_port}
 use Rattle.mst_view.specs.declared.in_view.PortInView.{PortInView}
-use Rattle.mst_forest.specs.Seen.{seen_internal}
-use Rattle.mst_forest.specs.Forest.{designated_in}
-use Rattle.mst_forest.specs.Settled.{SettledNet, outcome_of}
-use Rattle.mst_forest.specs.Roles.{role_in}
+use Rattle.mst_roles.specs.forest.Seen.{seen_internal}
+use Rattle.mst_roles.specs.forest.Forest.{designated_in}
+use Rattle.mst_roles.specs.forest.Settled.{SettledNet, outcome_of}
+use Rattle.mst_roles.specs.Roles.{role_in}
 use Rattle.mst_rows.specs.Rows.{Row}
 use Rattle.mst_explain.specs.Fields.{cist_fields, msti_fields}
 use Rattle.mst_explain.specs.Lines.{explain_rows, boundary_rows, disabled_rows}

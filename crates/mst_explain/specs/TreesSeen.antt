@@ -9,18 +9,18 @@ use Rattle.mst_vector.specs.declared.cist.CistVector.{CistVector}
 use Rattle.mst_vector.specs.declared.msti.MstiBridge.{MstiBridge}
 use Rattle.mst_vector.specs.declared.msti.MstiPort.{MstiPort}
 use Rattle.mst_vector.specs.declared.msti.MstiVector.{MstiVector}
-use Rattle.mst_forest.specs.outcome.Assignment.{vector_of, designated_of}
+use Rattle.mst_roles.specs.forest.outcome.Assignment.{vector_of, designated_of}
 use Rattle.mst_tables.specs.ByTree.{by_tree}
 use Rattle.mst_tables.specs.Seen.{bridge_row}
 use Rattle.mst_view.specs.Trees.{is_among}
 use Rattle.mst_view.specs.Viewed.{Viewed, named_port}
 use Rattle.mst_view.specs.declared.in_view.BridgeInView.{BridgeInView}
 use Rattle.mst_view.specs.declared.in_view.PortInView.{PortInView}
-use Rattle.mst_forest.specs.Cist.{cist_bridge, cist_port}
-use Rattle.mst_forest.specs.Msti.{msti_bridge, msti_port}
-use Rattle.mst_forest.specs.Seen.{trees_at, seen_internal}
-use Rattle.mst_forest.specs.Forest.{msti_vector, designated_in}
-use Rattle.mst_forest.specs.Settled.{SettledNet}
+use Rattle.mst_roles.specs.forest.Cist.{cist_bridge, cist_port}
+use Rattle.mst_roles.specs.forest.Msti.{msti_bridge, msti_port}
+use Rattle.mst_roles.specs.forest.Seen.{trees_at, seen_internal}
+use Rattle.mst_roles.specs.forest.Forest.{msti_vector, designated_in}
+use Rattle.mst_roles.specs.forest.Settled.{SettledNet}
 use Rattle.mst_explain.specs.Seen.{TreeSeen}
 
 abbrev pub bridge_found : Viewed → ℕ → Option BridgeInView

@@ -4,8 +4,8 @@ ghost use Rattle.mst_explain.specs.Seen.{designated_vector as seen_designated_ve
 
 use crate::claims::Claim;
 use crate::in_tree::InTree;
-use mst_forest::Settled;
 use mst_ids::{BridgeNo, LanNo, Tree};
+use mst_roles::Settled;
 use mst_view::PortInView;
 use std::alloc::{AllocError, Global};
 

@@ -10,8 +10,8 @@ use crate::in_tree::InTree;
 use crate::lines::{
     Contest, designated_contest, put_alone, put_over, put_restricted, root_contest,
 };
-use mst_forest::Settled;
 use mst_ids::Tree;
+use mst_roles::Settled;
 use mst_rows::Rows;
 use mst_view::PortInView;
 use std::alloc::{AllocError, Global};

@@ -1,7 +1,7 @@
 ghost use Rattle.std.specs.Prelude.{◌≡◌, ◌++◌, List, OnOk};
 ghost use Rattle.std.specs.List.{Contains, flat_map};
 ghost use Rattle.mst_view.specs.Viewed.{named_port};
-ghost use Rattle.mst_forest.specs.Settled.{outcome_of};
+ghost use Rattle.mst_roles.specs.forest.Settled.{outcome_of};
 ghost use Rattle.mst_rows.specs.Rows.{Row};
 ghost use Rattle.mst_explain.specs.Explained.{IsExplained, AreExplained, trees_of_bridge};
 ghost use Rattle.mst_explain.specs.SeenText.{bridge_is_on as is_on_in, lan_is_up as is_up_in, off_rows, outside_rows, msti_rows, enabled_rows, reason_rows, explanation_rows};
@@ -9,8 +9,8 @@ ghost use Rattle.mst_explain.specs.SeenText.{bridge_is_on as is_on_in, lan_is_up
 use crate::contest::put_contest;
 use crate::in_tree::designated_port;
 use crate::lines::{put_boundary, put_disabled, put_heading};
-use mst_forest::{Settled, role_of};
 use mst_ids::{BridgeNo, Name, Tree};
+use mst_roles::{Settled, role_of};
 use mst_rows::Rows;
 use mst_vector::{CistMetric, MstiMetric};
 use mst_view::{PortInView, View};

@@ -1,7 +1,7 @@
 ghost use Rattle.std.specs.Prelude.{◌≡◌, ℕ, List};
 ghost use Rattle.std.specs.Option.{option_and_then, option_copied};
-ghost use Rattle.mst_forest.specs.Forest.{designated_in};
-ghost use Rattle.mst_forest.specs.Settled.{SettledNet};
+ghost use Rattle.mst_roles.specs.forest.Forest.{designated_in};
+ghost use Rattle.mst_roles.specs.forest.Settled.{SettledNet};
 ghost use Rattle.mst_explain.specs.Fields.{Field, cist_fields, msti_fields, decided};
 ghost use Rattle.mst_explain.specs.Seen.{CanStep, TreeSeen, designated_on as seen_designated};
 ghost use Rattle.mst_explain.specs.SeenText.{port_found};
@@ -10,9 +10,9 @@ ghost use Rattle.mst_explain.specs.TreesSeen.{cist_seen, msti_seen};
 
 use crate::field::{Difference, cist_difference, msti_difference};
 use crate::settings::{cist_bridge, cist_port, msti_bridge, msti_port};
-use mst_forest::Settled;
-use mst_forest::outcome_laws::costs_bounded;
 use mst_ids::{BridgeNo, LanNo, Name, PortName, Tree};
+use mst_roles::Settled;
+use mst_roles::outcome_laws::costs_bounded;
 use mst_vector::{CistMetric, Metric, MstiMetric};
 use mst_view::PortInView;
 

@@ -10,17 +10,17 @@ ghost use Rattle.mst_vector.specs.declared.msti.MstiBridge.{MstiBridge};
 ghost use Rattle.mst_vector.specs.declared.msti.MstiVector.{MstiVector as Msti};
 ghost use Rattle.mst_tables.specs.Tables.{Net, IsNetwork};
 ghost use Rattle.mst_view.specs.View.{LogicalPort, view_ports};
-ghost use Rattle.mst_forest.specs.Outcome.{Outcome, IsOutcome};
-ghost use Rattle.mst_forest.specs.Cist.{cist_of};
-ghost use Rattle.mst_forest.specs.Msti.{msti_of, has_msti, is_internal};
-ghost use Rattle.mst_forest.specs.Roles.{cist_role, msti_role};
+ghost use Rattle.mst_roles.specs.forest.Outcome.{Outcome, IsOutcome};
+ghost use Rattle.mst_roles.specs.forest.Cist.{cist_of};
+ghost use Rattle.mst_roles.specs.forest.Msti.{msti_of, has_msti, is_internal};
+ghost use Rattle.mst_roles.specs.Roles.{cist_role, msti_role};
 ghost use Rattle.mst_rows.specs.Rows.{Row};
 ghost use Rattle.mst_explain.specs.AsTold.{IsAsTold, TellsLowerFirst};
 ghost use Rattle.mst_explain.specs.Contest.{IsDesignatedVectorOn, Gives};
 ghost use Rattle.mst_explain.specs.Explained.{IsExplained, AreExplained};
 ghost use Rattle.mst_explain.specs.Fields.{cist_fields, msti_fields, decided, TellsLower};
 
-use mst_forest::laws::one_outcome;
+use mst_roles::forest_laws::one_outcome;
 
 /// A port has one explanation in a tree, and one in any list of trees, whichever settled outcome it is made by.
 pub fn one_explained()

@@ -6,9 +6,9 @@ ghost use Rattle.mst_explain.specs.Lines.{explain_rows, designated_contest as de
 ghost use Rattle.mst_explain.specs.Told.{fields_of};
 
 use crate::field::{Difference, Values};
-use mst_forest::Role;
 use mst_ids::{Name, PortName, Tree};
 use mst_kinds::{ContestLine, ExplainLine, Kind};
+use mst_roles::Role;
 use mst_rows::{Rows, Value, put};
 use std::alloc::AllocError;
 

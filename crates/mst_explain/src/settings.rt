@@ -1,8 +1,8 @@
 ghost use Rattle.std.specs.Prelude.{◌≡◌};
 ghost use Rattle.mst_explain.specs.TreesSeen.{cist_bridge_in, cist_port_in, msti_bridge_in, msti_port_in};
 
-use mst_forest::Settled;
 use mst_ids::Tree;
+use mst_roles::Settled;
 use mst_vector::{CistBridge, CistPort, MstiBridge, MstiPort};
 use mst_view::{BridgeInView, PortInView};
 
@@ -11,7 +11,7 @@ pub(crate) fn cist_bridge(plan: &Settled, bridge: &BridgeInView) -> Option<CistB
     ensures { result ≡ cist_bridge_in plan.now bridge.now }
 {
     let forest = plan.forest();
-    let (_, settings) = mst_forest::cist_bridge(plan.settings(), forest.regions(), bridge)?;
+    let (_, settings) = mst_roles::cist_bridge(plan.settings(), forest.regions(), bridge)?;
     Some(settings)
 }
 
@@ -22,14 +22,14 @@ pub(crate) fn cist_port(plan: &Settled, port: &PortInView) -> Option<CistPort>
     if !port.is_enabled {
         return None;
     }
-    Some(mst_forest::cist_port(plan.settings(), port))
+    Some(mst_roles::cist_port(plan.settings(), port))
 }
 
 /// What an MSTI has of a bridge that is on and has it: its identifier in the tree.
 pub(crate) fn msti_bridge(plan: &Settled, tree: Tree, bridge: &BridgeInView) -> Option<MstiBridge>
     ensures { result ≡ msti_bridge_in plan.now tree bridge.now }
 {
-    let (_, settings) = mst_forest::msti_bridge(plan.view(), tree, bridge)?;
+    let (_, settings) = mst_roles::msti_bridge(plan.view(), tree, bridge)?;
     Some(settings)
 }
 
@@ -42,5 +42,5 @@ pub(crate) fn msti_port(plan: &Settled, tree: Tree, port: &PortInView) -> Option
     if !forest.is_internal(view, port) || !view.has_tree(port.bridge, tree) {
         return None;
     }
-    Some(mst_forest::msti_port(plan.settings(), tree, port))
+    Some(mst_roles::msti_port(plan.settings(), tree, port))
 }

@@ -9,13 +9,9 @@ pub mod Cist
 pub mod Forest
 pub mod InUse
 pub mod Msti
-pub mod Names
 pub mod Numbered
 pub mod Outcome
-pub mod RoleNumbers
-pub mod Roles
 pub mod Seen
-pub mod SeenRoles
 pub mod Settled
 pub mod Sight
 pub mod Mstis

@@ -13,8 +13,8 @@ use Rattle.mst_graph.proofs.Members.{from_map}
 use Rattle.mst_view.specs.declared.in_view.BridgeInView.{BridgeInView}
 use Rattle.mst_tables.specs.Contents.{IsNumbered}
 use Rattle.mst_tables.specs.Tables.{Net, Numbers}
-use Rattle.mst_forest.specs.Outcome.{Outcome}
-use Rattle.mst_forest.proofs.Lists.{some_is}
+use Rattle.mst_roles.specs.forest.Outcome.{Outcome}
+use Rattle.mst_roles.proofs.forest_lemmas.Lists.{some_is}
 use Rattle.mst_reasons.specs.sweep.Baseline.{AreHomes}
 use Rattle.mst_reasons.specs.sweep.Parts.{home}
 use Rattle.mst_reasons.proofs.sweep_lemmas.Joined.{has_home, home_on, home_joined, joined_home}

@@ -7,10 +7,10 @@ use Rattle.std.proofs.lemmas.List.{get_or_default}
 use Rattle.mst_reasons.specs.sweep.vlan.Carried.{ViewWithTrees}
 use Rattle.mst_view.specs.Viewed.{Viewed}
 use Rattle.mst_tables.specs.Tables.{Net, Numbers}
-use Rattle.mst_forest.specs.Agrees.{AreOf, Known}
-use Rattle.mst_forest.specs.Forest.{Forest, IsForest}
-use Rattle.mst_forest.specs.Settled.{SettledNet, IsSettledNet, outcome_of}
-use Rattle.mst_forest.proofs.SettledNet.{forest_of}
+use Rattle.mst_roles.specs.forest.Agrees.{AreOf, Known}
+use Rattle.mst_roles.specs.forest.Forest.{Forest, IsForest}
+use Rattle.mst_roles.specs.forest.Settled.{SettledNet, IsSettledNet, outcome_of}
+use Rattle.mst_roles.proofs.forest_lemmas.SettledNet.{forest_of}
 use Rattle.mst_reasons.proofs.sweep_lemmas.vlan_lemmas.classes_lemmas.VidPlaces.{zip_at}
 use Rattle.mst_reasons.specs.sweep.Baseline.{AreHomes}
 use Rattle.mst_judged.specs.Islands.{AreMade, HasHomesBy, IsOfPlan}

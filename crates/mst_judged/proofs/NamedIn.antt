@@ -13,10 +13,10 @@ use Rattle.mst_policy.specs.Items as policy
 use Rattle.mst_policy.specs.declared.item.NameItem.{NameItem}
 use Rattle.mst_policy.specs.declared.item.PortItem.{PortItem}
 use Rattle.mst_tables.specs.Tables.{Net, Numbers, port_eq}
-use Rattle.mst_forest.proofs.Lists.{all_there, filter_mapped}
-use Rattle.mst_forest.proofs.Entries.{all_weaker}
-use Rattle.mst_forest.proofs.Looking.{filter_alike}
-use Rattle.mst_forest.proofs.Seen.{bridge_seen}
+use Rattle.mst_roles.proofs.forest_lemmas.Lists.{all_there, filter_mapped}
+use Rattle.mst_roles.proofs.forest_lemmas.Entries.{all_weaker}
+use Rattle.mst_roles.proofs.forest_lemmas.Looking.{filter_alike}
+use Rattle.mst_roles.proofs.forest_lemmas.Seen.{bridge_seen}
 use Rattle.mst_reasons.specs.Seen.{names_in}
 use Rattle.mst_judged.specs.Islands.{HaveNumbers}
 use Rattle.mst_reasons.specs.Named.{Gone, is_enabled, is_named, is_port_named, named, ports_named, stopped}

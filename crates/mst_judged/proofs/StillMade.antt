@@ -4,9 +4,9 @@ use Rattle.std.specs.HashMap.{HashMap}
 use Rattle.std.specs.Option.{option_map}
 use Rattle.std.proofs.lemmas.List.{get_or_default}
 use Rattle.mst_reasons.specs.sweep.vlan.Carried.{ViewWithTrees, AreFlags, CarryAlike}
-use Rattle.mst_forest.specs.Settled.{SettledNet, IsSettledNet, outcome_of}
+use Rattle.mst_roles.specs.forest.Settled.{SettledNet, IsSettledNet, outcome_of}
 use Rattle.mst_reasons.proofs.sweep_lemmas.vlan_lemmas.classes_lemmas.VidPlaces.{zip_at}
-use Rattle.mst_forest.proofs.Lists.{some_is}
+use Rattle.mst_roles.proofs.forest_lemmas.Lists.{some_is}
 use Rattle.mst_reasons.specs.sweep.Baseline.{AreHomes}
 use Rattle.mst_judged.specs.Islands.{AreAlike, AreMade, AreStill, HasIslandsOf, IsOfPlan}
 use Rattle.mst_judged.specs.declared.before.Before.{Before}

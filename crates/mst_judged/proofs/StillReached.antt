@@ -14,16 +14,17 @@ use Rattle.mst_view.specs.Viewed.{Viewed, named_port}
 use Rattle.mst_view.specs.declared.in_view.PortInView.{PortInView}
 use Rattle.mst_tables.specs.ByTree.{vlans_in}
 use Rattle.mst_tables.specs.Tables.{IsNetwork, Net, Numbers}
-use Rattle.mst_forest.specs.Agrees.{AreOf}
-use Rattle.mst_forest.specs.Forest.{Forest, IsForest}
-use Rattle.mst_forest.specs.Outcome.{Outcome}
-use Rattle.mst_forest.specs.Settled.{SettledNet, IsSettledNet, outcome_of}
-use Rattle.mst_forest.proofs.Lists.{filter_mapped}
-use Rattle.mst_forest.proofs.SettledNet.{forest_of}
-use Rattle.mst_reasons.specs.sweep.vlan.Active.{active_ports}
+use Rattle.mst_roles.specs.forest.Agrees.{AreOf}
+use Rattle.mst_roles.specs.forest.Forest.{Forest, IsForest}
+use Rattle.mst_roles.specs.forest.Outcome.{Outcome}
+use Rattle.mst_roles.specs.forest.Settled.{SettledNet, IsSettledNet, outcome_of}
+use Rattle.mst_roles.proofs.forest_lemmas.Lists.{filter_mapped}
+use Rattle.mst_roles.proofs.forest_lemmas.SettledNet.{forest_of}
+use Rattle.mst_roles.specs.Active.{active_ports}
 use Rattle.mst_reasons.specs.sweep.vlan.Reach.{bridges_on, lans_up, is_member, link_of, vid_links}
-use Rattle.mst_reasons.specs.sweep.vlan.Seen.{seen_active, seen_member}
-use Rattle.mst_reasons.proofs.sweep_lemmas.vlan_lemmas.Listed.{active_listed}
+use Rattle.mst_roles.specs.SeenActive.{seen_active}
+use Rattle.mst_reasons.specs.sweep.vlan.Seen.{seen_member}
+use Rattle.mst_roles.proofs.ActiveListed.{active_listed}
 use Rattle.mst_reasons.proofs.sweep_lemmas.vlan_lemmas.Reached.{links_have}
 use Rattle.mst_reasons.specs.Holds.{IsReached}
 use Rattle.mst_judged.specs.Islands.{TellReached}

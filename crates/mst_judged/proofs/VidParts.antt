@@ -10,8 +10,8 @@ use Rattle.mst_view.specs.Viewed.{Viewed}
 use Rattle.mst_tables.specs.Tables.{Net}
 use Rattle.mst_reasons.specs.sweep.vlan.classes.Alike.{AreAlike}
 use Rattle.mst_reasons.specs.sweep.vlan.classes.AllVids.{NumberEach, all_vids}
-use Rattle.mst_forest.specs.Outcome.{Outcome}
-use Rattle.mst_forest.specs.Settled.{SettledNet, IsSettledNet, outcome_of}
+use Rattle.mst_roles.specs.forest.Outcome.{Outcome}
+use Rattle.mst_roles.specs.forest.Settled.{SettledNet, IsSettledNet, outcome_of}
 use Rattle.mst_reasons.specs.sweep.vlan.classes.Classes.{AreClasses}
 use Rattle.mst_reasons.specs.sweep.vlan.classes.Flags.{flag_at}
 use Rattle.mst_reasons.proofs.sweep_lemmas.vlan_lemmas.LinksAlike.{links_shared}

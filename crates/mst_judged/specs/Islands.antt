@@ -9,8 +9,8 @@ use Rattle.mst_reasons.specs.sweep.vlan.Carried.{ViewWithTrees, CarryAlike}
 use Rattle.mst_graph.specs.Groups.{AreGroups}
 use Rattle.mst_view.specs.declared.in_view.BridgeInView.{BridgeInView}
 use Rattle.mst_tables.specs.Tables.{Net, Numbers}
-use Rattle.mst_forest.specs.Outcome.{Outcome}
-use Rattle.mst_forest.specs.Settled.{SettledNet, IsSettledNet, outcome_of}
+use Rattle.mst_roles.specs.forest.Outcome.{Outcome}
+use Rattle.mst_roles.specs.forest.Settled.{SettledNet, IsSettledNet, outcome_of}
 use Rattle.mst_policy.specs.declared.item.NameItem.{NameItem}
 use Rattle.mst_reasons.specs.sweep.Baseline.{AreHomes}
 use Rattle.mst_reasons.specs.sweep.Parts.{ArePartsOf}

@@ -10,10 +10,10 @@ ghost use Rattle.mst_judged.specs.Seen.{IsBefore};
 use crate::homes::made_at;
 use crate::vids::classes_asked;
 use indexmap::{IndexMap, IndexSet};
-use mst_forest::Settled;
 use mst_graph::Numbering;
 use mst_ids::{BridgeNo, PortName, VidSet};
 use mst_reasons::{Carriage, classes_of_vids};
+use mst_roles::Settled;
 use mst_view::View;
 use std::alloc::{AllocError, Global};
 

@@ -4,10 +4,10 @@ ghost use Rattle.mst_judged.specs.Islands.{AreBeside, IsOfPlan};
 use crate::homes::{made_at, with_both};
 use crate::vids::classes_asked;
 use indexmap::IndexMap;
-use mst_forest::Settled;
 use mst_graph::Numbering;
 use mst_ids::{BridgeNo, VidSet};
 use mst_reasons::{Carriage, classes_of_both, differing};
+use mst_roles::Settled;
 use std::alloc::{AllocError, Global};
 
 /// What is kept of two networks of which the one came from the other: classes of VIDs that nothing tells apart in either, and the islands of some

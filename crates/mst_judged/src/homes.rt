@@ -1,6 +1,6 @@
 ghost use Rattle.std.specs.Prelude.{◌≡◌, ◌<◌, ◌+◌, IfOk, MatchOption, [], length, ⊤};
 ghost use Rattle.std.specs.List.{All};
-ghost use Rattle.mst_forest.specs.Settled.{outcome_of, SettledNet};
+ghost use Rattle.mst_roles.specs.forest.Settled.{outcome_of, SettledNet};
 ghost use Rattle.mst_reasons.specs.sweep.vlan.classes.Classes.{AreClasses};
 ghost use Rattle.mst_reasons.specs.sweep.Baseline.{AreHomes};
 ghost use Rattle.mst_judged.specs.Islands.{AreAlike, AreKept, AreMade, AreMadeBy, HasHomesBy, HasIslandsOf};
@@ -8,9 +8,9 @@ ghost use Rattle.mst_judged.specs.Islands.{AreAlike, AreKept, AreMade, AreMadeBy
 use crate::before::Before;
 use crate::vids::classes_asked;
 use indexmap::IndexMap;
-use mst_forest::Settled;
 use mst_ids::{BridgeNo, Vid, VidSet};
 use mst_reasons::{Carriage, Planned, differing, homes_by, homes_of};
+use mst_roles::Settled;
 use std::alloc::{AllocError, Global};
 
 /// The islands of some classes of VIDs in a network, made once for all expectations that ask for them.

@@ -1,8 +1,8 @@
 use crate::before::Before;
 use crate::homes::Homes;
 use crate::prior::Prior;
-use mst_forest::Settled;
 use mst_ids::Name;
+use mst_roles::Settled;
 
 /// A network that is judged, with what is kept of the one before all failures, and of the one that is prior to it, if there is one: of that
 /// without the failure, or of another one that it came from.

@@ -6,10 +6,10 @@ use crate::before::Before;
 use crate::beside::Beside;
 use crate::homes::Homes;
 use indexmap::IndexMap;
-use mst_forest::Settled;
 use mst_graph::Numbering;
 use mst_ids::BridgeNo;
 use mst_reasons::Carriage;
+use mst_roles::Settled;
 
 /// What is kept of the network that is prior to the one which is judged: what carries its VIDs, the classes of VIDs that nothing tells apart in
 /// either network, and islands of both.

@@ -2,8 +2,8 @@
 use Rattle.std.proofs.Common.{◌≡◌, refl, sym, ap, subst, ◌∙◌, ℕ, zero, suc, ◌<◌, false, List, [], ◌∷◌, length, get_or, Option, Some, None, arith}
 use Rattle.std.specs.Option.{option_map}
 use Rattle.std.proofs.lemmas.List.{length-map}
-use Rattle.mst_forest.specs.topology.Topology.{KeyTests}
-use Rattle.mst_forest.specs.nested.Trees.{Trees, IsSettled}
+use Rattle.mst_roles.specs.forest.topology.Topology.{KeyTests}
+use Rattle.mst_roles.specs.forest.nested.Trees.{Trees, IsSettled}
 use Rattle.mst_note_text.specs.Chains.{InternalChain, top, up}
 use Rattle.mst_note_text.specs.Children.{HasSteps}
 use Rattle.mst_note_text.specs.Depths.{ParentIn}

@@ -1,8 +1,8 @@
 -- Where the chain of parents within a region ends in one settled tree.
 use Rattle.std.proofs.Common.{◌≡◌, ◌⊎◌, inl, inr, refl, sym, ◌∙◌, subst, ℕ, zero, suc, ◌<◌, Bool, true, false, IsTrue, arith}
-use Rattle.mst_forest.proofs.nested_lemmas.Settled.{SettledTree}
-use Rattle.mst_forest.proofs.nested_lemmas.Ports.{Placed, sender}
-use Rattle.mst_forest.proofs.nested_lemmas.Origins.{Took, took, near_step}
+use Rattle.mst_roles.proofs.forest_lemmas.nested_lemmas.Settled.{SettledTree}
+use Rattle.mst_roles.proofs.forest_lemmas.nested_lemmas.Ports.{Placed, sender}
+use Rattle.mst_roles.proofs.forest_lemmas.nested_lemmas.Origins.{Took, took, near_step}
 use Rattle.mst_note_text.specs.Chains.{InternalChain, top, up}
 use Rattle.mst_note_text.proofs.Chains.{IsOne}
 use Rattle.mst_note_text.proofs.ParentLaws.{Parent, one_parent, took_parent, own_alone}

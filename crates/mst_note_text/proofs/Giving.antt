@@ -3,8 +3,8 @@ use Rattle.std.proofs.Common.{◌≡◌, ◌≢◌, ℕ, ◌+◌, ◌<◌, List,
 use Rattle.std.specs.List.{AllByRecursion, Contains}
 use Rattle.std.proofs.lemmas.Bool.{cases_eq, cases_lt}
 use Rattle.std.proofs.lemmas.List.{take_more, length-replicate, length-set, get_or-replicate, get_or_past, get_or-set_same, get_or-set_other}
-use Rattle.mst_forest.proofs.Lists.{some_is, no_some}
-use Rattle.mst_forest.proofs.Entries.{all_weaker}
+use Rattle.mst_roles.proofs.forest_lemmas.Lists.{some_is, no_some}
+use Rattle.mst_roles.proofs.forest_lemmas.Entries.{all_weaker}
 use Rattle.mst_view.proofs.Lists.{all_pushed}
 use Rattle.mst_note_text.specs.Places.{IsParent}
 use Rattle.mst_note_text.specs.declared.parent.Parent.{Parent}

@@ -4,20 +4,20 @@ use Rattle.std.specs.List.{Contains, find}
 use Rattle.std.specs.FinMap as fin
 use Rattle.mst_ids.specs.declared.name.PortName.{PortName}
 use Rattle.mst_vector.specs.Rules.{Rules, IsMetric}
-use Rattle.mst_forest.specs.topology.Topology.{TreePort}
-use Rattle.mst_forest.specs.topology.Settled.{IsDesignated, Designates}
-use Rattle.mst_forest.proofs.topology_lemmas.Below.{one_designated}
+use Rattle.mst_roles.specs.forest.topology.Topology.{TreePort}
+use Rattle.mst_roles.specs.forest.topology.Settled.{IsDesignated, Designates}
+use Rattle.mst_roles.proofs.forest_lemmas.topology_lemmas.Below.{one_designated}
 use Rattle.mst_tables.specs.Tables.{Net, Numbers}
 use Rattle.mst_view.specs.View.{LogicalPort}
 use Rattle.mst_view.specs.Viewed.{Viewed, named_port}
 use Rattle.mst_view.specs.declared.in_view.PortInView.{PortInView}
-use Rattle.mst_forest.specs.Sight.{Sight, tree_of, tree_port}
-use Rattle.mst_forest.specs.Outcome.{TreeOutcome, IsTreeOutcome}
-use Rattle.mst_forest.specs.Agrees.{Agrees, IsNameOf, AreOf}
-use Rattle.mst_forest.proofs.Lists.{some_is, no_some}
-use Rattle.mst_forest.proofs.Sights.{IsSight, PortOf, port_from, port_in, is_topology}
-use Rattle.mst_forest.proofs.Seen.{SeenPort, port_seen, port_there, port_of_net}
-use Rattle.mst_forest.proofs.Looking.{IsThere, is_there}
+use Rattle.mst_roles.specs.forest.Sight.{Sight, tree_of, tree_port}
+use Rattle.mst_roles.specs.forest.Outcome.{TreeOutcome, IsTreeOutcome}
+use Rattle.mst_roles.specs.forest.Agrees.{Agrees, IsNameOf, AreOf}
+use Rattle.mst_roles.proofs.forest_lemmas.Lists.{some_is, no_some}
+use Rattle.mst_roles.proofs.forest_lemmas.Sights.{IsSight, PortOf, port_from, port_in, is_topology}
+use Rattle.mst_roles.proofs.forest_lemmas.Seen.{SeenPort, port_seen, port_there, port_of_net}
+use Rattle.mst_roles.proofs.forest_lemmas.Looking.{IsThere, is_there}
 use Rattle.mst_note_text.specs.Depths.{HasParent}
 
 module _ {B P V : Type 0} (net : Net) (numbers : Numbers) (v : Viewed) (region_ids : List (ℕ × ℕ)) (of : AreOf net numbers v region_ids) (m : Rules B P V) (law : IsMetric m) (s : Sight B P) (sight : IsSight net m s)

@@ -2,12 +2,12 @@
 use Rattle.std.proofs.Common.{◌≡◌, inl, inr, refl, sym, ◌∙◌, ap, subst, ℕ, zero, suc, ◌<◌, Option, Some, None, arith}
 use Rattle.mst_vector.specs.declared.cist.CistVector.{CistVector}
 use Rattle.mst_vector.specs.declared.msti.MstiVector.{MstiVector}
-use Rattle.mst_forest.specs.topology.Topology.{KeyTests}
-use Rattle.mst_forest.specs.nested.Trees.{Trees, IsSettled}
-use Rattle.mst_forest.proofs.nested_lemmas.Settled.{cist_tree, msti_tree}
-use Rattle.mst_forest.proofs.nested_lemmas.Origins.{near_step}
-use Rattle.mst_forest.proofs.nested_lemmas.Mstis.{InTree}
-use Rattle.mst_forest.proofs.nested_lemmas.Facts.{at}
+use Rattle.mst_roles.specs.forest.topology.Topology.{KeyTests}
+use Rattle.mst_roles.specs.forest.nested.Trees.{Trees, IsSettled}
+use Rattle.mst_roles.proofs.forest_lemmas.nested_lemmas.Settled.{cist_tree, msti_tree}
+use Rattle.mst_roles.proofs.forest_lemmas.nested_lemmas.Origins.{near_step}
+use Rattle.mst_roles.proofs.forest_lemmas.nested_lemmas.Mstis.{InTree}
+use Rattle.mst_roles.proofs.forest_lemmas.nested_lemmas.Facts.{at}
 use Rattle.mst_note_text.specs.Chains.{ExternalChain, last, within, across}
 use Rattle.mst_note_text.specs.Depths.{ParentIn, ParentWithin, ParentBetween}
 use Rattle.mst_note_text.proofs.Chains.{AreSides}

@@ -13,27 +13,27 @@ use Rattle.mst_vector.specs.Msti.{msti_rules}
 use Rattle.mst_vector.specs.MstiLaws.{msti_lawful}
 use Rattle.mst_vector.specs.declared.cist.CistVector.{CistVector}
 use Rattle.mst_vector.specs.declared.msti.MstiVector.{MstiVector}
-use Rattle.mst_forest.specs.topology.Topology.{HasBridge}
-use Rattle.mst_forest.specs.outcome.Assignment.{vector_of, designated_of}
+use Rattle.mst_roles.specs.forest.topology.Topology.{HasBridge}
+use Rattle.mst_roles.specs.forest.outcome.Assignment.{vector_of, designated_of}
 use Rattle.mst_tables.specs.Tables.{Net, Numbers, BridgeRow}
 use Rattle.mst_tables.specs.ByTree.{ByTree, by_tree, port_priority_in}
 use Rattle.mst_view.specs.Trees.{is_among}
 use Rattle.mst_view.specs.Viewed.{Viewed, named_port}
 use Rattle.mst_view.specs.declared.in_view.BridgeInView.{BridgeInView}
 use Rattle.mst_view.specs.declared.in_view.PortInView.{PortInView}
-use Rattle.mst_forest.specs.Sight.{Sight, tree_of}
-use Rattle.mst_forest.specs.Cist.{cist_port, cist_sight}
-use Rattle.mst_forest.specs.Msti.{msti_bridge, msti_port, msti_sight, has_msti, is_internal}
-use Rattle.mst_forest.specs.Seen.{seen_internal, trees_at}
-use Rattle.mst_forest.specs.Outcome.{TreeOutcome, IsTreeOutcome, Outcome, trees_of}
-use Rattle.mst_forest.specs.Agrees.{Agrees, AreOf}
-use Rattle.mst_forest.specs.Forest.{IsForest, msti_vector, msti_designated, designated_in, Forest}
-use Rattle.mst_forest.proofs.Seen.{bridge_seen, port_seen, bridge_there}
-use Rattle.mst_forest.proofs.Sights.{IsSight, bridge_from}
-use Rattle.mst_forest.proofs.Looking.{internal_same, has_tree_at}
-use Rattle.mst_forest.proofs.CistTopology.{given, cist_is_sight}
-use Rattle.mst_forest.proofs.MstiTopology.{msti_is_sight, msti_port_is}
-use Rattle.mst_forest.specs.nested.Trees.{IsSettled}
+use Rattle.mst_roles.specs.forest.Sight.{Sight, tree_of}
+use Rattle.mst_roles.specs.forest.Cist.{cist_port, cist_sight}
+use Rattle.mst_roles.specs.forest.Msti.{msti_bridge, msti_port, msti_sight, has_msti, is_internal}
+use Rattle.mst_roles.specs.forest.Seen.{seen_internal, trees_at}
+use Rattle.mst_roles.specs.forest.Outcome.{TreeOutcome, IsTreeOutcome, Outcome, trees_of}
+use Rattle.mst_roles.specs.forest.Agrees.{Agrees, AreOf}
+use Rattle.mst_roles.specs.forest.Forest.{IsForest, msti_vector, msti_designated, designated_in, Forest}
+use Rattle.mst_roles.proofs.forest_lemmas.Seen.{bridge_seen, port_seen, bridge_there}
+use Rattle.mst_roles.proofs.forest_lemmas.Sights.{IsSight, bridge_from}
+use Rattle.mst_roles.proofs.forest_lemmas.Looking.{internal_same, has_tree_at}
+use Rattle.mst_roles.proofs.forest_lemmas.CistTopology.{given, cist_is_sight}
+use Rattle.mst_roles.proofs.forest_lemmas.MstiTopology.{msti_is_sight, msti_port_is}
+use Rattle.mst_roles.specs.forest.nested.Trees.{IsSettled}
 use Rattle.mst_note_text.specs.Depths.{HasParent}
 use Rattle.mst_note_text.specs.declared.member.Member.{Member}
 use Rattle.mst_note_text.specs.SeenTree.{cist_member, msti_member, seen_member, is_root_port}

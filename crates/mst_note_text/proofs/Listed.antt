@@ -1,7 +1,7 @@
 -- The depths that follow in a list of parents are those of the bridges in the tree.
 use Rattle.std.proofs.Common.{refl, subst, ℕ, ◌<◌, List, length, Option, Bool, true, false}
-use Rattle.mst_forest.specs.topology.Topology.{KeyTests}
-use Rattle.mst_forest.specs.nested.Trees.{Trees, IsSettled, SameRegion}
+use Rattle.mst_roles.specs.forest.topology.Topology.{KeyTests}
+use Rattle.mst_roles.specs.forest.nested.Trees.{Trees, IsSettled, SameRegion}
 use Rattle.mst_note_text.specs.Chains.{InternalChain, top, up, ExternalChain, last, within, across}
 use Rattle.mst_note_text.specs.Depths.{ParentWithin, ParentBetween, InternalDepth, ExternalDepth}
 use Rattle.mst_note_text.specs.Places.{IsParent, WithinAt, BetweenAt, IsForest, HasDepths}

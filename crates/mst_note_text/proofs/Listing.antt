@@ -13,22 +13,22 @@ use Rattle.mst_tables.specs.ByTree.{by_tree}
 use Rattle.mst_view.specs.Viewed.{Viewed}
 use Rattle.mst_view.specs.declared.in_view.BridgeInView.{BridgeInView}
 use Rattle.mst_view.specs.declared.in_view.PortInView.{PortInView}
-use Rattle.mst_forest.specs.config.Shared.{same_in}
-use Rattle.mst_forest.specs.config.Regions.{region_of}
-use Rattle.mst_forest.proofs.config_lemmas.SameRegion.{told}
+use Rattle.mst_roles.specs.forest.config.Shared.{same_in}
+use Rattle.mst_roles.specs.forest.config.Regions.{region_of}
+use Rattle.mst_roles.proofs.forest_lemmas.config_lemmas.SameRegion.{told}
 use Rattle.mst_vector.specs.Cist.{cist_rules}
 use Rattle.mst_vector.specs.declared.cist.CistBridge.{CistBridge}
-use Rattle.mst_forest.specs.topology.Topology.{HasBridge}
-use Rattle.mst_forest.specs.nested.Trees.{HasTree, SameRegion}
-use Rattle.mst_forest.specs.Apart.{Apart}
-use Rattle.mst_forest.specs.Cist.{cist_sight, cist_of, cist_bridge}
-use Rattle.mst_forest.specs.Agrees.{AreOf}
-use Rattle.mst_forest.specs.Forest.{designated_in, Forest}
-use Rattle.mst_forest.specs.Outcome.{Outcome, trees_of}
-use Rattle.mst_forest.proofs.Lists.{some_is, all_contained, apart_kept, kept_from, kept_in}
-use Rattle.mst_forest.proofs.Seen.{BridgesRise, bridge_seen, port_seen, bridges_apart}
-use Rattle.mst_forest.proofs.Sights.{bridge_from}
-use Rattle.mst_forest.proofs.CistTopology.{given, cist_is_sight}
+use Rattle.mst_roles.specs.forest.topology.Topology.{HasBridge}
+use Rattle.mst_roles.specs.forest.nested.Trees.{HasTree, SameRegion}
+use Rattle.mst_roles.specs.forest.Apart.{Apart}
+use Rattle.mst_roles.specs.forest.Cist.{cist_sight, cist_of, cist_bridge}
+use Rattle.mst_roles.specs.forest.Agrees.{AreOf}
+use Rattle.mst_roles.specs.forest.Forest.{designated_in, Forest}
+use Rattle.mst_roles.specs.forest.Outcome.{Outcome, trees_of}
+use Rattle.mst_roles.proofs.forest_lemmas.Lists.{some_is, all_contained, apart_kept, kept_from, kept_in}
+use Rattle.mst_roles.proofs.forest_lemmas.Seen.{BridgesRise, bridge_seen, port_seen, bridges_apart}
+use Rattle.mst_roles.proofs.forest_lemmas.Sights.{bridge_from}
+use Rattle.mst_roles.proofs.forest_lemmas.CistTopology.{given, cist_is_sight}
 use Rattle.mst_note_text.specs.Depths.{ParentIn}
 use Rattle.mst_note_text.specs.Places.{IsParent}
 use Rattle.mst_note_text.specs.Listed.{IsListed}

@@ -14,7 +14,7 @@ use Rattle.mst_vector.specs.declared.cist.CistVector.{CistVector}
 use Rattle.mst_vector.specs.declared.cist.CistBridge.{CistBridge}
 use Rattle.mst_vector.specs.declared.msti.MstiVector.{MstiVector}
 use Rattle.mst_vector.specs.declared.msti.MstiBridge.{MstiBridge}
-use Rattle.mst_forest.specs.outcome.Assignment.{vector_of}
+use Rattle.mst_roles.specs.forest.outcome.Assignment.{vector_of}
 use Rattle.mst_tables.specs.Tables.{Net, Numbers, BridgeRow}
 use Rattle.mst_tables.specs.ByTree.{by_tree}
 use Rattle.mst_tables.specs.Contents.{priority_of}
@@ -22,19 +22,19 @@ use Rattle.mst_tables.specs.Seen.{bridge_row}
 use Rattle.mst_view.specs.Viewed.{Viewed, named_bridge}
 use Rattle.mst_view.specs.declared.in_view.BridgeInView.{BridgeInView}
 use Rattle.mst_view.proofs.Lists.{mapped_twice}
-use Rattle.mst_forest.specs.config.Regions.{region_of}
-use Rattle.mst_forest.specs.Cist.{cist_bridge, cist_sight}
-use Rattle.mst_forest.specs.Msti.{msti_bridge, msti_sight, has_msti}
-use Rattle.mst_forest.specs.Agrees.{AreOf}
-use Rattle.mst_forest.specs.Forest.{IsForest, msti_vector, Forest}
-use Rattle.mst_forest.specs.Outcome.{Outcome, trees_of}
-use Rattle.mst_forest.proofs.Lists.{some_is, all_contained, all_there, kept_from}
-use Rattle.mst_forest.proofs.Entries.{all_weaker}
-use Rattle.mst_forest.proofs.Seen.{bridge_seen, bridge_there}
-use Rattle.mst_forest.proofs.Sights.{bridge_from}
-use Rattle.mst_forest.proofs.CistTopology.{given, cist_is_sight}
-use Rattle.mst_forest.proofs.MstiTopology.{msti_is_sight}
-use Rattle.mst_forest.specs.nested.Trees.{Trees, IsSettled, HasTree}
+use Rattle.mst_roles.specs.forest.config.Regions.{region_of}
+use Rattle.mst_roles.specs.forest.Cist.{cist_bridge, cist_sight}
+use Rattle.mst_roles.specs.forest.Msti.{msti_bridge, msti_sight, has_msti}
+use Rattle.mst_roles.specs.forest.Agrees.{AreOf}
+use Rattle.mst_roles.specs.forest.Forest.{IsForest, msti_vector, Forest}
+use Rattle.mst_roles.specs.forest.Outcome.{Outcome, trees_of}
+use Rattle.mst_roles.proofs.forest_lemmas.Lists.{some_is, all_contained, all_there, kept_from}
+use Rattle.mst_roles.proofs.forest_lemmas.Entries.{all_weaker}
+use Rattle.mst_roles.proofs.forest_lemmas.Seen.{bridge_seen, bridge_there}
+use Rattle.mst_roles.proofs.forest_lemmas.Sights.{bridge_from}
+use Rattle.mst_roles.proofs.forest_lemmas.CistTopology.{given, cist_is_sight}
+use Rattle.mst_roles.proofs.forest_lemmas.MstiTopology.{msti_is_sight}
+use Rattle.mst_roles.specs.forest.nested.Trees.{Trees, IsSettled, HasTree}
 use Rattle.mst_rows.specs.Rows.{Row}
 use Rattle.mst_note_text.specs.Depths.{InternalDepth, ExternalDepth}
 use Rattle.mst_note_text.specs.Places.{depths_at}

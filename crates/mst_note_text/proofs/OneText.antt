@@ -8,15 +8,15 @@ use Rattle.mst_ids.specs.declared.name.PortName.{PortName}
 use Rattle.mst_vector.specs.declared.cist.CistVector.{CistVector}
 use Rattle.mst_vector.specs.declared.msti.MstiVector.{MstiVector}
 use Rattle.mst_tables.specs.Tables.{Net, BridgeRow}
-use Rattle.mst_forest.specs.Outcome.{Outcome, trees_of}
-use Rattle.mst_forest.specs.nested.Trees.{Trees, IsSettled, HasTree}
+use Rattle.mst_roles.specs.forest.Outcome.{Outcome, trees_of}
+use Rattle.mst_roles.specs.forest.nested.Trees.{Trees, IsSettled, HasTree}
 use Rattle.mst_rows.specs.Rows.{Row}
 use Rattle.mst_note_text.specs.Chains.{InternalChain, ExternalChain}
 use Rattle.mst_note_text.specs.Depths.{ParentWithin, ParentBetween}
 use Rattle.mst_note_text.proofs.Chains.{one_internal, one_external}
 use Rattle.mst_note_text.proofs.Regions.{one_within, cist_sides}
 use Rattle.mst_note_text.proofs.Tops.{internal_depth, external_depth}
-use Rattle.mst_forest.proofs.Lists.{no_some}
+use Rattle.mst_roles.proofs.forest_lemmas.Lists.{no_some}
 use Rattle.mst_note_text.specs.AreDepths.{TreeDepths, AreDepths}
 use Rattle.mst_note_text.specs.NotesText.{hops_note, age_note, external_note, internal_note, hops_notes, age_notes, cist_notes, msti_notes, bridge_notes, tree_notes, trees_notes, restricted_notes, notes_rows, AreNoteRows}
 use Rattle.mst_note_text.proofs.Names.{name_tests}

@@ -1,11 +1,11 @@
 -- Parents in one settled tree: a bridge's vector is a step from its parent, or its own where it has none.
 use Rattle.std.proofs.Common.{◌≡◌, inl, inr, refl, sym, ◌∙◌, ap, ℕ, Option, Some}
 use Rattle.mst_vector.specs.Rules.{Rules}
-use Rattle.mst_forest.specs.topology.Topology.{TreePort, Topology}
-use Rattle.mst_forest.proofs.topology_lemmas.Below.{one_designated}
-use Rattle.mst_forest.proofs.nested_lemmas.Settled.{SettledTree}
-use Rattle.mst_forest.proofs.nested_lemmas.Ports.{Placed, Heard, some_is}
-use Rattle.mst_forest.proofs.nested_lemmas.Origins.{Took, took, names_port, on_same_lan}
+use Rattle.mst_roles.specs.forest.topology.Topology.{TreePort, Topology}
+use Rattle.mst_roles.proofs.forest_lemmas.topology_lemmas.Below.{one_designated}
+use Rattle.mst_roles.proofs.forest_lemmas.nested_lemmas.Settled.{SettledTree}
+use Rattle.mst_roles.proofs.forest_lemmas.nested_lemmas.Ports.{Placed, Heard, some_is}
+use Rattle.mst_roles.proofs.forest_lemmas.nested_lemmas.Origins.{Took, took, names_port, on_same_lan}
 use Rattle.mst_note_text.specs.Depths.{HasParent}
 
 -- the vector that names the root port is the bridge's

@@ -3,8 +3,8 @@ use Rattle.std.proofs.Common.{◌≡◌, ℕ, ◌+◌, ◌<◌, Bool, true, fals
 use Rattle.std.specs.Map.{lookup}
 use Rattle.std.proofs.lemmas.Bool.{eqb-true}
 use Rattle.std.proofs.lemmas.List.{take_more, length-take-le, get_or_append_left, get_or_push}
-use Rattle.mst_forest.proofs.Lists.{some_is, no_some}
-use Rattle.mst_forest.proofs.Entries.{all_weaker}
+use Rattle.mst_roles.proofs.forest_lemmas.Lists.{some_is, no_some}
+use Rattle.mst_roles.proofs.forest_lemmas.Entries.{all_weaker}
 use Rattle.mst_view.proofs.Lists.{all_pushed}
 use Rattle.mst_note_text.specs.Placed.{ArePlaces}
 

@@ -2,15 +2,15 @@
 use Rattle.std.proofs.Common.{◌≡◌, ◌⊎◌, inl, inr, refl, sym, ◌∙◌, ap, ℕ, zero, suc, Bool, true, false, eqb-true, eq-eqb}
 use Rattle.std.proofs.lemmas.Bool.{eqb-false}
 use Rattle.mst_vector.specs.declared.cist.CistBridge.{CistBridge}
-use Rattle.mst_forest.specs.topology.Topology.{KeyTests}
+use Rattle.mst_roles.specs.forest.topology.Topology.{KeyTests}
 use Rattle.mst_graph.specs.Walks.{bridge_at, lan_at, Walk, stay, along}
-use Rattle.mst_forest.specs.nested.Ports.{port_ends}
-use Rattle.mst_forest.specs.nested.Trees.{Trees, TakesPart, IsSettled, HasTree, SameRegion}
-use Rattle.mst_forest.proofs.nested_lemmas.Settled.{cist_tree, msti_tree}
-use Rattle.mst_forest.proofs.nested_lemmas.Origins.{Took}
-use Rattle.mst_forest.proofs.nested_lemmas.Parts.{At}
-use Rattle.mst_forest.proofs.nested_lemmas.Mstis.{same_part}
-use Rattle.mst_forest.proofs.nested_lemmas.Facts.{one_region}
+use Rattle.mst_roles.specs.forest.nested.Ports.{port_ends}
+use Rattle.mst_roles.specs.forest.nested.Trees.{Trees, TakesPart, IsSettled, HasTree, SameRegion}
+use Rattle.mst_roles.proofs.forest_lemmas.nested_lemmas.Settled.{cist_tree, msti_tree}
+use Rattle.mst_roles.proofs.forest_lemmas.nested_lemmas.Origins.{Took}
+use Rattle.mst_roles.proofs.forest_lemmas.nested_lemmas.Parts.{At}
+use Rattle.mst_roles.proofs.forest_lemmas.nested_lemmas.Mstis.{same_part}
+use Rattle.mst_roles.proofs.forest_lemmas.nested_lemmas.Facts.{one_region}
 use Rattle.mst_note_text.specs.Depths.{ParentIn, ParentWithin, ParentBetween}
 use Rattle.mst_note_text.proofs.Chains.{IsOne, AreSides}
 use Rattle.mst_note_text.proofs.ParentLaws.{one_parent, took_parent, TookFrom, took_from, parent_vector}

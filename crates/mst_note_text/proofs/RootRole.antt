@@ -5,18 +5,18 @@ use Rattle.std.specs.List.{find}
 use Rattle.std.specs.Option.{option_map, option_map_or}
 use Rattle.mst_vector.specs.declared.cist.CistVector.{CistVector}
 use Rattle.mst_vector.specs.declared.msti.MstiVector.{MstiVector}
-use Rattle.mst_forest.specs.outcome.Assignment.{vector_of, designated_of}
+use Rattle.mst_roles.specs.forest.outcome.Assignment.{vector_of, designated_of}
 use Rattle.mst_view.specs.Trees.{is_among}
 use Rattle.mst_view.specs.Viewed.{Viewed, named_port}
 use Rattle.mst_view.specs.declared.in_view.PortInView.{PortInView}
-use Rattle.mst_forest.specs.Cist.{cist_port}
-use Rattle.mst_forest.specs.Msti.{msti_port}
-use Rattle.mst_forest.specs.Seen.{trees_at, seen_internal}
-use Rattle.mst_forest.specs.Forest.{Forest, msti_vector, designated_in}
-use Rattle.mst_forest.specs.Roles.{outside}
-use Rattle.mst_forest.specs.SeenRoles.{seen_beside, seen_role_by, seen_cist_role, seen_msti_role, seen_role}
-use Rattle.mst_forest.specs.declared.kind.Role.{Role}
-use Rattle.mst_forest.specs.declared.kind.Role.TheVariants.{Root, Designated, Alternate, Backup, Master, Disabled}
+use Rattle.mst_roles.specs.forest.Cist.{cist_port}
+use Rattle.mst_roles.specs.forest.Msti.{msti_port}
+use Rattle.mst_roles.specs.forest.Seen.{trees_at, seen_internal}
+use Rattle.mst_roles.specs.forest.Forest.{Forest, msti_vector, designated_in}
+use Rattle.mst_roles.specs.Roles.{outside}
+use Rattle.mst_roles.specs.SeenRoles.{seen_beside, seen_role_by, seen_cist_role, seen_msti_role, seen_role}
+use Rattle.mst_roles.specs.declared.kind.Role.{Role}
+use Rattle.mst_roles.specs.declared.kind.Role.TheVariants.{Root, Designated, Alternate, Backup, Master, Disabled}
 use Rattle.mst_note_text.specs.SeenTree.{is_root}
 
 -- a vector came by the port of this identifier

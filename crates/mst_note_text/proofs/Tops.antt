@@ -5,13 +5,13 @@ use Rattle.mst_vector.specs.declared.cist.CistVector.{CistVector}
 use Rattle.mst_vector.specs.declared.cist.CistBridge.{CistBridge}
 use Rattle.mst_vector.specs.declared.msti.MstiVector.{MstiVector}
 use Rattle.mst_vector.specs.declared.msti.MstiBridge.{MstiBridge}
-use Rattle.mst_forest.specs.topology.Topology.{HasBridge, KeyTests}
-use Rattle.mst_forest.specs.nested.Trees.{Trees, IsSettled, HasTree}
-use Rattle.mst_forest.proofs.nested_lemmas.Settled.{cist_tree, msti_tree}
-use Rattle.mst_forest.proofs.nested_lemmas.Within.{cist_root, cist_far_regional, cist_far_external, cist_external, msti_within}
-use Rattle.mst_forest.proofs.nested_lemmas.Parts.{At}
-use Rattle.mst_forest.proofs.nested_lemmas.Roots.{same_roots, TookFar, sends}
-use Rattle.mst_forest.proofs.nested_lemmas.Mstis.{InTree, in_tree}
+use Rattle.mst_roles.specs.forest.topology.Topology.{HasBridge, KeyTests}
+use Rattle.mst_roles.specs.forest.nested.Trees.{Trees, IsSettled, HasTree}
+use Rattle.mst_roles.proofs.forest_lemmas.nested_lemmas.Settled.{cist_tree, msti_tree}
+use Rattle.mst_roles.proofs.forest_lemmas.nested_lemmas.Within.{cist_root, cist_far_regional, cist_far_external, cist_external, msti_within}
+use Rattle.mst_roles.proofs.forest_lemmas.nested_lemmas.Parts.{At}
+use Rattle.mst_roles.proofs.forest_lemmas.nested_lemmas.Roots.{same_roots, TookFar, sends}
+use Rattle.mst_roles.proofs.forest_lemmas.nested_lemmas.Mstis.{InTree, in_tree}
 use Rattle.mst_note_text.specs.Chains.{ExternalChain, last, across}
 use Rattle.mst_note_text.specs.Depths.{ParentWithin, ParentBetween, InternalDepth, ExternalDepth}
 use Rattle.mst_note_text.proofs.Chains.{one_internal, one_external, above}

@@ -8,11 +8,11 @@ use Rattle.mst_graph.specs.Groups.{IsThinned, nothing, kept, left_out}
 use Rattle.mst_tables.specs.Tables.{Net, Numbers, BridgeRow}
 use Rattle.mst_view.specs.Viewed.{Viewed, named_bridge}
 use Rattle.mst_view.specs.declared.in_view.BridgeInView.{BridgeInView}
-use Rattle.mst_forest.specs.nested.Trees.{IsSettled}
-use Rattle.mst_forest.specs.Agrees.{AreOf}
-use Rattle.mst_forest.specs.Forest.{Forest, IsForest}
-use Rattle.mst_forest.specs.Outcome.{trees_of}
-use Rattle.mst_forest.proofs.Lists.{contains_mapped, kept_in, mapped_twice}
+use Rattle.mst_roles.specs.forest.nested.Trees.{IsSettled}
+use Rattle.mst_roles.specs.forest.Agrees.{AreOf}
+use Rattle.mst_roles.specs.forest.Forest.{Forest, IsForest}
+use Rattle.mst_roles.specs.forest.Outcome.{trees_of}
+use Rattle.mst_roles.proofs.forest_lemmas.Lists.{contains_mapped, kept_in, mapped_twice}
 use Rattle.mst_note_text.specs.Children.{AreChildren, IsChild}
 use Rattle.mst_note_text.specs.Depths.{ParentIn}
 use Rattle.mst_note_text.specs.Listed.{IsListed}

@@ -8,11 +8,11 @@ use Rattle.std.proofs.lemmas.Bool.{cases_lt}
 use Rattle.mst_ids.specs.Names.{name_cmp}
 use Rattle.mst_view.specs.Viewed.{Viewed}
 use Rattle.mst_view.specs.declared.in_view.PortInView.{PortInView}
-use Rattle.mst_forest.specs.config.Shared.{same_in}
-use Rattle.mst_forest.specs.Apart.{Apart}
-use Rattle.mst_forest.specs.Forest.{designated_in, Forest}
-use Rattle.mst_forest.proofs.Lists.{some_is, no_some, all_at}
-use Rattle.mst_forest.proofs.Views.{names_differ}
+use Rattle.mst_roles.specs.forest.config.Shared.{same_in}
+use Rattle.mst_roles.specs.forest.Apart.{Apart}
+use Rattle.mst_roles.specs.forest.Forest.{designated_in, Forest}
+use Rattle.mst_roles.proofs.forest_lemmas.Lists.{some_is, no_some, all_at}
+use Rattle.mst_roles.proofs.forest_lemmas.Views.{names_differ}
 use Rattle.mst_note_text.specs.declared.parent.Parent.{Parent}
 use Rattle.mst_note_text.specs.SeenTree.{is_root_port, designated_at, parent_by, members_in, name_at}
 use Rattle.mst_note_text.specs.SeenTree as seen_tree

@@ -9,14 +9,14 @@ use Rattle.mst_vector.specs.declared.msti.MstiVector.{MstiVector}
 use Rattle.mst_view.specs.Trees.{is_among}
 use Rattle.mst_view.specs.Viewed.{Viewed}
 use Rattle.mst_view.specs.declared.in_view.BridgeInView.{BridgeInView}
-use Rattle.mst_forest.specs.Agrees.{AreOf}
-use Rattle.mst_forest.specs.Forest.{IsForest, Forest}
-use Rattle.mst_forest.specs.InUse.{is_in_use}
-use Rattle.mst_forest.specs.Seen.{trees_at}
-use Rattle.mst_forest.specs.Outcome.{Outcome, trees_of}
-use Rattle.mst_forest.proofs.Seen.{bridge_seen}
-use Rattle.mst_forest.proofs.Looking.{has_tree_at}
-use Rattle.mst_forest.specs.nested.Trees.{IsSettled}
+use Rattle.mst_roles.specs.forest.Agrees.{AreOf}
+use Rattle.mst_roles.specs.forest.Forest.{IsForest, Forest}
+use Rattle.mst_roles.specs.forest.InUse.{is_in_use}
+use Rattle.mst_roles.specs.forest.Seen.{trees_at}
+use Rattle.mst_roles.specs.forest.Outcome.{Outcome, trees_of}
+use Rattle.mst_roles.proofs.forest_lemmas.Seen.{bridge_seen}
+use Rattle.mst_roles.proofs.forest_lemmas.Looking.{has_tree_at}
+use Rattle.mst_roles.specs.forest.nested.Trees.{IsSettled}
 use Rattle.mst_rows.specs.Rows.{Row}
 use Rattle.mst_note_text.specs.AreDepths.{TreeDepths}
 use Rattle.mst_note_text.specs.NotesText.{cist_notes, msti_notes, bridge_notes, tree_notes, trees_notes}

@@ -1,7 +1,7 @@
 -- How deep the bridges of a network lie in its trees, and below which bridges.
 use Rattle.std.specs.Prelude.{ℕ, List}
 use Rattle.mst_ids.specs.declared.name.PortName.{PortName}
-use Rattle.mst_forest.specs.nested.Trees.{Trees, HasTree}
+use Rattle.mst_roles.specs.forest.nested.Trees.{Trees, HasTree}
 use Rattle.mst_note_text.specs.Chains.{InternalChain, ExternalChain}
 use Rattle.mst_note_text.specs.Depths.{ParentWithin, ParentBetween}
 

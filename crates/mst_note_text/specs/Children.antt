@@ -3,7 +3,7 @@ use Rattle.std.specs.Prelude.{ℕ, List, map, MatchOption}
 use Rattle.std.specs.List.{AllByRecursion, Contains}
 use Rattle.mst_ids.specs.declared.name.PortName.{PortName}
 use Rattle.mst_graph.specs.Groups.{IsThinned}
-use Rattle.mst_forest.specs.nested.Trees.{Trees, HasTree}
+use Rattle.mst_roles.specs.forest.nested.Trees.{Trees, HasTree}
 use Rattle.mst_note_text.specs.Chains.{InternalChain}
 use Rattle.mst_note_text.specs.Depths.{ParentIn}
 use Rattle.mst_note_text.specs.declared.children.Child.{Child}

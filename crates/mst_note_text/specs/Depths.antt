@@ -4,10 +4,10 @@ use Rattle.mst_vector.specs.Rules.{Rules}
 use Rattle.mst_vector.specs.Cist.{cist_rules}
 use Rattle.mst_vector.specs.Msti.{msti_rules}
 use Rattle.mst_vector.specs.declared.cist.CistBridge.{CistBridge}
-use Rattle.mst_forest.specs.topology.Topology.{TreePort, Topology, HasBridge}
-use Rattle.mst_forest.specs.topology.Settled.{Designates}
-use Rattle.mst_forest.specs.nested.Trees.{Trees, HasTree, SameRegion}
-use Rattle.mst_forest.specs.nested.Roles.{IsRootPort}
+use Rattle.mst_roles.specs.forest.topology.Topology.{TreePort, Topology, HasBridge}
+use Rattle.mst_roles.specs.forest.topology.Settled.{Designates}
+use Rattle.mst_roles.specs.forest.nested.Trees.{Trees, HasTree, SameRegion}
+use Rattle.mst_roles.specs.forest.nested.Roles.{IsRootPort}
 use Rattle.mst_note_text.specs.Chains.{InternalChain, ExternalChain}
 
 -- the parent of bridge n is bridge k: the designated bridge of the LAN of n's root port, which is the port

@@ -1,6 +1,6 @@
 -- The parents of a tree's bridges, listed by places.
 use Rattle.std.specs.Prelude.{◌≡◌, ℕ, ◌<◌, List, length, Option, true, false}
-use Rattle.mst_forest.specs.nested.Trees.{Trees, HasTree, SameRegion}
+use Rattle.mst_roles.specs.forest.nested.Trees.{Trees, HasTree, SameRegion}
 use Rattle.mst_note_text.specs.Depths.{ParentIn}
 use Rattle.mst_note_text.specs.Places.{IsParent}
 use Rattle.mst_note_text.specs.declared.parent.Parent.{Parent}

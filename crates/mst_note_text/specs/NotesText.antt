@@ -13,7 +13,7 @@ use Rattle.mst_tables.specs.Tables.{Net}
 use Rattle.mst_rows.specs.Cells.{word, number}
 use Rattle.mst_rows.specs.Rows.{Row, row_of}
 use Rattle.mst_view.specs.View.{LogicalPort, view_ports}
-use Rattle.mst_forest.specs.Outcome.{Outcome, trees_of}
+use Rattle.mst_roles.specs.forest.Outcome.{Outcome, trees_of}
 use Rattle.mst_note_text.specs.AreDepths.{TreeDepths, AreDepths}
 
 -- hops bind where a bridge is at least as deep as the Max Hops of its regional root

@@ -6,7 +6,7 @@ use Rattle.std.specs.Map.{lookup}
 use Rattle.mst_ids.specs.Identifiers.{mac_of}
 use Rattle.mst_view.specs.Viewed.{Viewed}
 use Rattle.mst_view.specs.declared.in_view.BridgeInView.{BridgeInView}
-use Rattle.mst_forest.specs.InUse.{is_in_use}
+use Rattle.mst_roles.specs.forest.InUse.{is_in_use}
 use Rattle.mst_rows.specs.Rows.{Row}
 use Rattle.mst_note_text.specs.Places.{depths_at}
 use Rattle.mst_note_text.specs.declared.parent.Depths.{Depths}

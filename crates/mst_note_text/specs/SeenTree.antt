@@ -6,15 +6,15 @@ use Rattle.std.specs.Option.{option_map, option_map_or, option_and_then}
 use Rattle.std.specs.Map.{lookup}
 use Rattle.mst_vector.specs.declared.cist.CistVector.{CistVector}
 use Rattle.mst_vector.specs.declared.msti.MstiVector.{MstiVector}
-use Rattle.mst_forest.specs.outcome.Assignment.{vector_of}
+use Rattle.mst_roles.specs.forest.outcome.Assignment.{vector_of}
 use Rattle.mst_view.specs.Viewed.{Viewed}
 use Rattle.mst_view.specs.declared.in_view.BridgeInView.{BridgeInView}
 use Rattle.mst_view.specs.declared.in_view.PortInView.{PortInView}
-use Rattle.mst_forest.specs.config.Shared.{same_in}
-use Rattle.mst_forest.specs.Forest.{msti_vector, designated_in, Forest}
-use Rattle.mst_forest.specs.SeenRoles.{seen_role}
-use Rattle.mst_forest.specs.declared.kind.Role.{Role}
-use Rattle.mst_forest.specs.declared.kind.Role.TheVariants.{Root}
+use Rattle.mst_roles.specs.forest.config.Shared.{same_in}
+use Rattle.mst_roles.specs.forest.Forest.{msti_vector, designated_in, Forest}
+use Rattle.mst_roles.specs.SeenRoles.{seen_role}
+use Rattle.mst_roles.specs.declared.kind.Role.{Role}
+use Rattle.mst_roles.specs.declared.kind.Role.TheVariants.{Root}
 use Rattle.mst_note_text.specs.declared.children.Child.{Child}
 use Rattle.mst_note_text.specs.declared.parent.Depths.{Depths}
 use Rattle.mst_note_text.specs.declared.parent.Parent.{Parent}

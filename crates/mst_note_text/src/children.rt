@@ -2,8 +2,8 @@ ghost use Rattle.std.specs.Prelude.{◌≡◌, IfOk, length, map};
 ghost use Rattle.std.specs.FinMap as fin;
 ghost use Rattle.std.specs.List.{range_with_len};
 ghost use Rattle.std.specs.Option.{option_map};
-ghost use Rattle.mst_forest.specs.Outcome.{trees_of};
-ghost use Rattle.mst_forest.specs.Settled.{outcome_of};
+ghost use Rattle.mst_roles.specs.forest.Outcome.{trees_of};
+ghost use Rattle.mst_roles.specs.forest.Settled.{outcome_of};
 ghost use Rattle.mst_note_text.specs.Children.{AreChildren};
 ghost use Rattle.mst_note_text.specs.SeenTree.{all_within as all_within_of, as_within, child_at, parent_name};
 
@@ -12,9 +12,9 @@ use crate::member::{Member, members_of};
 use crate::parent::{Depths, Parent};
 use crate::parents::parents_of;
 use crate::places::places_of;
-use mst_forest::Settled;
-use mst_forest::laws::nested;
 use mst_ids::{Name, Tree};
+use mst_roles::Settled;
+use mst_roles::forest_laws::nested;
 use std::alloc::{AllocError, Global};
 
 /// A bridge of a tree, its parent there, and how many steps to parents there are from it, whatever regions they go through.

@@ -1,6 +1,6 @@
 ghost use Rattle.std.specs.Prelude.{◌≡◌, ◌<◌, ℕ, length, IfOk};
-ghost use Rattle.mst_forest.specs.Outcome.{trees_of};
-ghost use Rattle.mst_forest.specs.Settled.{outcome_of};
+ghost use Rattle.mst_roles.specs.forest.Outcome.{trees_of};
+ghost use Rattle.mst_roles.specs.forest.Settled.{outcome_of};
 ghost use Rattle.mst_note_text.specs.Depths.{InternalDepth, ExternalDepth};
 ghost use Rattle.mst_note_text.specs.Places.{depths_at};
 ghost use Rattle.mst_note_text.specs.SeenTree.{members_in, name_at};
@@ -10,9 +10,9 @@ use crate::member::Member;
 use crate::parent::Depths;
 use crate::parents::parents_of;
 use crate::places::places_of;
-use mst_forest::Settled;
-use mst_forest::laws::nested;
 use mst_ids::Tree;
+use mst_roles::Settled;
+use mst_roles::forest_laws::nested;
 use std::alloc::{AllocError, Global};
 
 /// The depths of the bridges of a tree.

@@ -1,8 +1,8 @@
 ghost use Rattle.std.specs.Prelude.{◌≡◌, IfOk};
 ghost use Rattle.mst_note_text.specs.SeenTree.{cist_member as cist_member_of, msti_member as msti_member_of, seen_member, members_in};
 
-use mst_forest::Forest;
 use mst_ids::{BridgeId, BridgeNo, Name, Tree};
+use mst_roles::Forest;
 use mst_vector::{CistVector, MstiVector};
 use mst_view::{BridgeInView, View};
 use std::alloc::{AllocError, Global};

@@ -7,8 +7,8 @@ ghost use Rattle.mst_note_text.specs.SeenTree.{is_root_port as is_root_port_in, 
 use crate::member::Member;
 use crate::parent::Parent;
 use crate::places::Places;
-use mst_forest::{Forest, Role, port_role};
 use mst_ids::Tree;
+use mst_roles::{Forest, Role, port_role};
 use mst_view::{PortInView, View};
 use std::alloc::{AllocError, Global};
 

@@ -1,7 +1,7 @@
 ghost use Rattle.std.specs.Prelude.{◌++◌, List, OnOk};
 ghost use Rattle.mst_view.specs.declared.in_view.BridgeInView.{BridgeInView as BridgeOf};
-ghost use Rattle.mst_forest.specs.Outcome.{trees_of};
-ghost use Rattle.mst_forest.specs.Settled.{outcome_of};
+ghost use Rattle.mst_roles.specs.forest.Outcome.{trees_of};
+ghost use Rattle.mst_roles.specs.forest.Settled.{outcome_of};
 ghost use Rattle.mst_rows.specs.Rows.{Row};
 ghost use Rattle.mst_note_text.specs.AreDepths.{TreeDepths, AreDepths};
 ghost use Rattle.mst_note_text.specs.NotesText.{tree_notes};
@@ -11,9 +11,9 @@ use crate::bridge::put_members;
 use crate::depths::depths_in;
 use crate::member::members_of;
 use crate::places::Macs;
-use mst_forest::Settled;
-use mst_forest::laws::nested;
 use mst_ids::Tree;
+use mst_roles::Settled;
+use mst_roles::forest_laws::nested;
 use mst_rows::Rows;
 use std::alloc::{AllocError, Global};
 

@@ -13,13 +13,13 @@ use Rattle.mst_tables.specs.Seen.{bridge_row}
 use Rattle.mst_tables.specs.Table.{tree_in}
 use Rattle.mst_tables.specs.Tables.{BridgeRow}
 use Rattle.mst_graph.specs.Lists.{has_any}
-use Rattle.mst_forest.specs.Roles.{tree_of_vid}
-use Rattle.mst_forest.specs.SeenRoles.{seen_tree}
-use Rattle.mst_forest.specs.Outcome.{Outcome}
-use Rattle.mst_forest.specs.Settled.{SettledNet, outcome_of, IsSettledNet}
-use Rattle.mst_forest.proofs.Lists.{some_is}
-use Rattle.mst_forest.proofs.Looking.{first_found}
-use Rattle.mst_forest.proofs.Seen.{bridge_there, bridge_seen, port_seen}
+use Rattle.mst_roles.specs.Roles.{tree_of_vid}
+use Rattle.mst_roles.specs.SeenRoles.{seen_tree}
+use Rattle.mst_roles.specs.forest.Outcome.{Outcome}
+use Rattle.mst_roles.specs.forest.Settled.{SettledNet, outcome_of, IsSettledNet}
+use Rattle.mst_roles.proofs.forest_lemmas.Lists.{some_is}
+use Rattle.mst_roles.proofs.forest_lemmas.Looking.{first_found}
+use Rattle.mst_roles.proofs.forest_lemmas.Seen.{bridge_there, bridge_seen, port_seen}
 use Rattle.mst_graph.specs.Islands.{Island}
 use Rattle.mst_summary.specs.vlan.declared.island.Island.{Island as IslandNos}
 use Rattle.mst_picture.specs.Bridges.{is_root}

@@ -7,9 +7,9 @@ use Rattle.mst_view.specs.Aggregation.{same_name}
 use Rattle.mst_view.specs.View.{LogicalLan, LogicalPort}
 use Rattle.mst_view.specs.Viewed.{Viewed, named_bridge, named_lan, named_port}
 use Rattle.mst_view.specs.declared.in_view.PortInView.{PortInView}
-use Rattle.mst_forest.specs.Outcome.{Outcome}
-use Rattle.mst_forest.specs.Settled.{SettledNet, outcome_of, IsSettledNet}
-use Rattle.mst_forest.proofs.Lists.{all_contained, all_passing, all_there, filter_mapped, mapped_twice}
+use Rattle.mst_roles.specs.forest.Outcome.{Outcome}
+use Rattle.mst_roles.specs.forest.Settled.{SettledNet, outcome_of, IsSettledNet}
+use Rattle.mst_roles.proofs.forest_lemmas.Lists.{all_contained, all_passing, all_there, filter_mapped, mapped_twice}
 use Rattle.mst_summary.specs.Seen.{seen_on}
 use Rattle.mst_graph.specs.Islands.{Island}
 use Rattle.mst_picture.specs.Bridges.{bridge_text, off_text}

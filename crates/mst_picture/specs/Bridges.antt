@@ -3,9 +3,9 @@ use Rattle.std.specs.Prelude.{ℕ, ◌==◌, Bool, false, not, List, [], ◌∷�
 use Rattle.std.specs.Option.{option_map_or}
 use Rattle.mst_tables.specs.Tables.{Net, BridgeRow}
 use Rattle.mst_tables.specs.ByTree.{by_tree}
-use Rattle.mst_forest.specs.InUse.{id_in}
-use Rattle.mst_forest.specs.Outcome.{Outcome}
-use Rattle.mst_forest.specs.Msti.{has_tree}
+use Rattle.mst_roles.specs.forest.InUse.{id_in}
+use Rattle.mst_roles.specs.forest.Outcome.{Outcome}
+use Rattle.mst_roles.specs.forest.Msti.{has_tree}
 use Rattle.mst_summary.specs.facts.Roots.{root_of}
 use Rattle.mst_picture.specs.Pieces.{joined}
 

@@ -8,9 +8,9 @@ use Rattle.mst_view.specs.declared.in_view.LanInView.{LanInView}
 use Rattle.mst_view.specs.declared.in_view.PortInView.{PortInView}
 use Rattle.mst_tables.specs.Seen.{bridge_row}
 use Rattle.mst_graph.specs.Lists.{has_any}
-use Rattle.mst_forest.specs.SeenRoles.{seen_tree}
-use Rattle.mst_forest.specs.Msti.{has_tree}
-use Rattle.mst_forest.specs.Settled.{SettledNet, outcome_of}
+use Rattle.mst_roles.specs.SeenRoles.{seen_tree}
+use Rattle.mst_roles.specs.forest.Msti.{has_tree}
+use Rattle.mst_roles.specs.forest.Settled.{SettledNet, outcome_of}
 use Rattle.mst_summary.specs.vlan.declared.island.Island.{Island}
 use Rattle.mst_picture.specs.Bridges.{bridge_line, is_root, off_text, style}
 use Rattle.mst_picture.specs.Lans.{end_of, end_in_tree, end_in_vlan, ends_on, lan_text}

@@ -4,10 +4,10 @@ use Rattle.std.specs.List.{flat_map}
 use Rattle.std.specs.Option.{option_map_or}
 use Rattle.mst_tables.specs.Tables.{Net}
 use Rattle.mst_view.specs.View.{LogicalPort, view_lans}
-use Rattle.mst_forest.specs.Outcome.{Outcome}
-use Rattle.mst_forest.specs.Roles.{role_in, role_of, tree_of_vid, forwards}
-use Rattle.mst_forest.specs.declared.kind.Role.{Role}
-use Rattle.mst_forest.specs.declared.kind.Role.TheVariants.{Root, Designated, Alternate, Backup, Master, Disabled}
+use Rattle.mst_roles.specs.forest.Outcome.{Outcome}
+use Rattle.mst_roles.specs.Roles.{role_in, role_of, tree_of_vid, forwards}
+use Rattle.mst_roles.specs.declared.kind.Role.{Role}
+use Rattle.mst_roles.specs.declared.kind.Role.TheVariants.{Root, Designated, Alternate, Backup, Master, Disabled}
 use Rattle.mst_summary.specs.Carries.{carries, ports_on}
 use Rattle.mst_picture.specs.Pieces.{joined}
 use Rattle.mst_picture.specs.declared.ends.Drawn.{Drawn}

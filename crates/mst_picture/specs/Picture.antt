@@ -3,7 +3,7 @@ use Rattle.std.specs.Prelude.{ℕ, List, [], ◌∷◌, ◌++◌, codes, decimal
 use Rattle.std.specs.List.{flat_map}
 use Rattle.std.specs.FinMap as fin
 use Rattle.mst_tables.specs.Tables.{Net}
-use Rattle.mst_forest.specs.Outcome.{Outcome}
+use Rattle.mst_roles.specs.forest.Outcome.{Outcome}
 use Rattle.mst_picture.specs.Bridges.{bridge_text}
 use Rattle.mst_picture.specs.Lans.{lans_text}
 use Rattle.mst_picture.specs.Pieces.{joined}

@@ -5,8 +5,8 @@ use Rattle.std.specs.Option.{option_map_or}
 use Rattle.std.specs.FinMap as fin
 use Rattle.mst_tables.specs.Tables.{Net}
 use Rattle.mst_graph.specs.Lists.{has_any}
-use Rattle.mst_forest.specs.Roles.{tree_of_vid}
-use Rattle.mst_forest.specs.Outcome.{Outcome}
+use Rattle.mst_roles.specs.Roles.{tree_of_vid}
+use Rattle.mst_roles.specs.forest.Outcome.{Outcome}
 use Rattle.mst_graph.specs.Islands.{Island}
 use Rattle.mst_summary.specs.vlan.Reach.{AreIslandsOf}
 use Rattle.mst_picture.specs.Bridges.{is_root, off_text}

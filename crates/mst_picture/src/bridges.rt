@@ -2,14 +2,14 @@ ghost use Rattle.std.specs.Prelude.{◌≡◌, ◌++◌, OnOk};
 ghost use Rattle.std.specs.List.{Contains, flat_map};
 ghost use Rattle.mst_view.specs.Viewed.{named_bridge};
 ghost use Rattle.mst_tables.specs.Seen.{bridge_row};
-ghost use Rattle.mst_forest.specs.Settled.{outcome_of};
+ghost use Rattle.mst_roles.specs.forest.Settled.{outcome_of};
 ghost use Rattle.mst_picture.specs.Bridges.{bridge_line, is_root as is_root_in, style as style_by};
 ghost use Rattle.mst_picture.specs.InView.{style_of as style_in, bridge_of, off_of};
 
 use crate::pieces::push_pieces;
-use mst_forest::{Settled, bridge_id};
 use mst_ids::Tree;
 use mst_lang::Power;
+use mst_roles::{Settled, bridge_id};
 use mst_summary::root_of;
 use mst_view::BridgeInView;
 use std::alloc::AllocError;

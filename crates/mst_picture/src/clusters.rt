@@ -1,6 +1,6 @@
 ghost use Rattle.std.specs.Prelude.{◌≡◌, ℕ, ◌++◌, List, OnOk};
 ghost use Rattle.std.specs.List.{Contains, flat_map};
-ghost use Rattle.mst_forest.specs.Settled.{outcome_of};
+ghost use Rattle.mst_roles.specs.forest.Settled.{outcome_of};
 ghost use Rattle.mst_graph.specs.Islands.{Island as NamedIsland};
 ghost use Rattle.mst_summary.specs.vlan.Reach.{AreIslandsOf};
 ghost use Rattle.mst_picture.specs.VlanPicture.{node_line, node_end as node_end_by, cluster_opening, clusters};
@@ -9,9 +9,9 @@ ghost use Rattle.mst_picture.specs.InView.{node_of, node_at, cluster_of, cluster
 use crate::bridges::is_root;
 use crate::pieces::push_pieces;
 use itoa::Buffer;
-use mst_forest::{Settled, vid_tree};
 use mst_ids::{BridgeNo, Name, Tree, Vid, push_bytes};
-use mst_summary::{Island, active_ports, has_bridge, reach_from};
+use mst_roles::{Settled, active_ports, vid_tree};
+use mst_summary::{Island, has_bridge, reach_from};
 use mst_view::BridgeInView;
 use std::alloc::{AllocError, Global};
 

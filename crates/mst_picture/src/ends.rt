@@ -1,13 +1,13 @@
 ghost use Rattle.std.specs.Prelude.{◌≡◌, ◌&&◌, ◌++◌, false, OnOk};
 ghost use Rattle.std.specs.List.{Contains};
 ghost use Rattle.std.specs.Option.{option_map_or};
-ghost use Rattle.mst_forest.specs.Roles.{forwards as forwards_by};
+ghost use Rattle.mst_roles.specs.Roles.{forwards as forwards_by};
 ghost use Rattle.mst_summary.specs.vlan.Seen.{seen_member};
 ghost use Rattle.mst_picture.specs.Lans.{letter as letter_of, role_letter as role_letter_of, label, designates as designates_of, line_end as line_end_by};
 ghost use Rattle.mst_picture.specs.InView.{end_at, tree_end_at, vlan_end_at};
 
-use mst_forest::{Role, Settled, role_of, vid_tree};
 use mst_ids::{PortName, Tree, Vid, push_bytes};
+use mst_roles::{Role, Settled, role_of, vid_tree};
 use mst_summary::{is_member, role};
 use mst_view::PortInView;
 use std::alloc::AllocError;

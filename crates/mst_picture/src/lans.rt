@@ -1,6 +1,6 @@
 ghost use Rattle.std.specs.Prelude.{◌≡◌, ◌++◌, ℕ, List, map, IfOk, OnOk};
 ghost use Rattle.std.specs.List.{flat_map};
-ghost use Rattle.mst_forest.specs.Settled.{outcome_of};
+ghost use Rattle.mst_roles.specs.forest.Settled.{outcome_of};
 ghost use Rattle.mst_summary.specs.slips.Kept.{kept_at};
 ghost use Rattle.mst_summary.specs.Seen.{seen_on};
 ghost use Rattle.mst_picture.specs.Lans.{link_line, link_text, box_line, down_line, up_line, end_line, box_text, ends_on, lan_text};
@@ -9,8 +9,8 @@ ghost use Rattle.mst_picture.specs.InView.{AreAmong, end_at, lan_of};
 use crate::ends::{Drawn, End, are_open, designates, end_of, line_end, push_label};
 use crate::pieces::push_pieces;
 use indexmap::IndexMap;
-use mst_forest::Settled;
 use mst_ids::{Name, push_bytes};
+use mst_roles::Settled;
 use mst_summary::{kept_for, ports_by_lan};
 use mst_view::{LanInView, PortInView};
 use std::alloc::{AllocError, Global};

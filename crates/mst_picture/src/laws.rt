@@ -1,11 +1,11 @@
 //! The laws of the pictures. Their functions do nothing: a caller has their clauses.
 ghost use Rattle.std.specs.Prelude.{◌≡◌, ℕ, List};
 ghost use Rattle.mst_tables.specs.Tables.{Net, IsNetwork};
-ghost use Rattle.mst_forest.specs.Outcome.{Outcome, IsOutcome};
+ghost use Rattle.mst_roles.specs.forest.Outcome.{Outcome, IsOutcome};
 ghost use Rattle.mst_picture.specs.Picture.{picture};
 ghost use Rattle.mst_picture.specs.VlanPicture.{IsVlanPicture};
 
-use mst_forest::laws::one_outcome;
+use mst_roles::forest_laws::one_outcome;
 use mst_summary::vlan_laws::islands_of_vid;
 
 /// A network has one picture with each tree, whichever settled outcome it is made by.

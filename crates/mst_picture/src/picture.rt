@@ -1,5 +1,5 @@
 ghost use Rattle.std.specs.Prelude.{◌≡◌, ◌++◌, OnOk};
-ghost use Rattle.mst_forest.specs.Settled.{outcome_of};
+ghost use Rattle.mst_roles.specs.forest.Settled.{outcome_of};
 ghost use Rattle.mst_picture.specs.Picture.{opening, picture};
 
 use crate::bridges::push_bridges;
@@ -7,8 +7,8 @@ use crate::ends::Drawn;
 use crate::lans::push_lans;
 use crate::pieces::push_pieces;
 use itoa::Buffer;
-use mst_forest::Settled;
 use mst_ids::{Tree, push_bytes};
+use mst_roles::Settled;
 use std::alloc::{AllocError, Global};
 
 /// Appends the first lines, which name a tree or a VLAN by this word and this number.

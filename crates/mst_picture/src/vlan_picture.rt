@@ -1,5 +1,5 @@
 ghost use Rattle.std.specs.Prelude.{◌≡◌, ℕ, ◌++◌, List, OnOk};
-ghost use Rattle.mst_forest.specs.Settled.{outcome_of};
+ghost use Rattle.mst_roles.specs.forest.Settled.{outcome_of};
 ghost use Rattle.mst_picture.specs.VlanPicture.{IsVlanPicture};
 
 use crate::bridges::push_off;
@@ -7,8 +7,8 @@ use crate::clusters::push_islands;
 use crate::ends::Drawn;
 use crate::lans::push_lans;
 use crate::picture::push_opening;
-use mst_forest::Settled;
 use mst_ids::{Vid, push_bytes};
+use mst_roles::Settled;
 use std::alloc::{AllocError, Global};
 
 /// Appends the picture of a settled network with a VLAN: a text for Graphviz. Each island of the VID that has a bridge is a

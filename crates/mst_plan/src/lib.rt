@@ -8,7 +8,6 @@ mod plan;
 pub use kept::KeptPlan;
 pub use mst_lag::{renew_bridge, renew_lan, view};
 pub use mst_trees::{
-    Forest, Settler, forest_of, is_had, laws as forest_laws, port_role, repaired_forest,
-    trees_in_use,
+    Forest, Settler, forest_of, is_had, laws as forest_laws, repaired_forest, trees_in_use,
 };
 pub use plan::{Plan, plan_beside};

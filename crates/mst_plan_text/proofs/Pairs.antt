@@ -8,7 +8,7 @@ use Rattle.mst_ids.specs.declared.name.PortName.{PortName}
 use Rattle.mst_tables.specs.Tables.{port_eq}
 use Rattle.mst_view.proofs.Lists.{mapped_twice, map_itself}
 use Rattle.mst_rows.specs.declared.value.ActivePort.{ActivePort}
-use Rattle.mst_vlan.proofs.forest_lemmas.Named.{port_is, port_same}
+use Rattle.mst_vlan.proofs.roles_lemmas.Named.{port_is, port_same}
 use Rattle.mst_plan_text.specs.Bodies.{pair_of}
 
 abbrev same_pair : PortName × Bool → PortName × Bool → Bool

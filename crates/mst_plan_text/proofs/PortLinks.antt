@@ -13,8 +13,8 @@ use Rattle.mst_view.proofs.Lists.{some_is, no_some, all_filtered, all_kept}
 use Rattle.mst_view.proofs.Orders.{ports_total}
 use Rattle.mst_rows.specs.declared.value.ActivePort.{ActivePort}
 use Rattle.mst_vlan.specs.forest.Outcome.{Outcome}
-use Rattle.mst_vlan.specs.forest.Roles.{forwards_for}
-use Rattle.mst_text.specs.vlan.Active.{active_ports}
+use Rattle.mst_vlan.specs.roles.Roles.{forwards_for}
+use Rattle.mst_vlan.specs.roles.Active.{active_ports}
 use Rattle.mst_text.specs.vlan.Reach.{bridges_on, lans_up, is_member, link_of, vid_links, AreIslandsOf}
 use Rattle.mst_text.specs.VlanText.{active_port, ports_of_vid}
 use Rattle.mst_plan_text.specs.PlanText.{Islands, AreIslandsOfEach, HaveOneBody}

@@ -10,7 +10,7 @@ use Rattle.mst_view.specs.Viewed.{Viewed}
 use Rattle.mst_vlan.specs.forest.Agrees.{AreOf}
 use Rattle.mst_vlan.specs.forest.Outcome.{Outcome}
 use Rattle.mst_vlan.specs.forest.Forest.{Forest}
-use Rattle.mst_text.specs.vlan.Active.{active_ports}
+use Rattle.mst_vlan.specs.roles.Active.{active_ports}
 use Rattle.mst_text.specs.VlanText.{active_port, ports_of_vid}
 use Rattle.mst_text.proofs.vlan_lemmas.LinksAlike.{active_alike, member_alike}
 

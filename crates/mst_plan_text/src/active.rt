@@ -4,9 +4,9 @@ ghost use Rattle.mst_vlan.specs.forest.Settled.{outcome_of};
 ghost use Rattle.mst_plan_text.specs.Bodies.{pairs_of, seen_pair};
 
 use mst_ids::{PortName, Vid};
-use mst_text::{active_ports, is_member};
+use mst_text::is_member;
 use mst_view::{PortInView, View};
-use mst_vlan::Settled;
+use mst_vlan::{Settled, active_ports};
 use std::alloc::{AllocError, Global};
 
 /// The active ports of a VID, each with whether it is a member of the VLAN. They tell its body: its islands follow.

@@ -12,5 +12,5 @@ pub use mst_text::{
     laws as text_laws, put_configuration, put_lags, put_regions, put_tree, put_vlan,
 };
 pub use mst_view::View;
-pub use mst_vlan::{Forest, Settled, active, forest_laws};
+pub use mst_vlan::{Forest, Settled, forest_laws};
 pub use plan::put_plan;

@@ -30,7 +30,7 @@ use Rattle.mst_questions.specs.Explaining.{has_asked, logical_port_of, unexplain
 use Rattle.mst_questions.specs.Explaining as unexplained
 use Rattle.mst_questions.specs.declared.explaining.Unexplained.{Unexplained}
 use Rattle.mst_questions.specs.declared.explaining.Unexplained.TheVariants.{NoBridge, NoPort, NoTree}
-use Rattle.mst_forest.specs.Msti.{has_msti}
+use Rattle.mst_roles.specs.forest.Msti.{has_msti}
 use Rattle.mst_lang.specs.Faults as fault
 use Rattle.mst_tool.specs.engine.print.declared.form.Form.{Form}
 use Rattle.mst_questions.specs.Ask.{IsAnswer, Told, is_keyless, is_refused, not_given, unadvised_early, unadvised_in, undrawn_in, unexplained_early, unexplained_in}

@@ -13,17 +13,17 @@ use Rattle.mst_view.specs.Trees.{mstis_of, is_among}
 use Rattle.mst_view.specs.View.{LogicalPort, view_ports}
 use Rattle.mst_view.specs.Viewed.{Viewed, named_port}
 use Rattle.mst_view.specs.declared.in_view.PortInView.{PortInView}
-use Rattle.mst_forest.specs.Agrees.{AreOf}
-use Rattle.mst_forest.specs.InUse.{seen_has}
-use Rattle.mst_forest.specs.Msti.{has_msti}
-use Rattle.mst_forest.specs.Outcome.{Outcome, IsOutcome}
-use Rattle.mst_forest.specs.Settled.{SettledNet, outcome_of, IsSettledNet}
-use Rattle.mst_forest.proofs.Entries.{all_weaker}
-use Rattle.mst_forest.specs.Seen.{trees_at}
-use Rattle.mst_forest.proofs.Lists.{some_is, no_some, passed, all_there, there_first, there_later}
-use Rattle.mst_forest.proofs.Seen.{port_seen}
-use Rattle.mst_forest.proofs.Looking.{has_tree_at}
-use Rattle.mst_forest.proofs.Named.{port_is, port_found, found_in}
+use Rattle.mst_roles.specs.forest.Agrees.{AreOf}
+use Rattle.mst_roles.specs.forest.InUse.{seen_has}
+use Rattle.mst_roles.specs.forest.Msti.{has_msti}
+use Rattle.mst_roles.specs.forest.Outcome.{Outcome, IsOutcome}
+use Rattle.mst_roles.specs.forest.Settled.{SettledNet, outcome_of, IsSettledNet}
+use Rattle.mst_roles.proofs.forest_lemmas.Entries.{all_weaker}
+use Rattle.mst_roles.specs.forest.Seen.{trees_at}
+use Rattle.mst_roles.proofs.forest_lemmas.Lists.{some_is, no_some, passed, all_there, there_first, there_later}
+use Rattle.mst_roles.proofs.forest_lemmas.Seen.{port_seen}
+use Rattle.mst_roles.proofs.forest_lemmas.Looking.{has_tree_at}
+use Rattle.mst_roles.proofs.Named.{port_is, port_found, found_in}
 use Rattle.mst_advise.specs.explain.Explained.{IsExplained, AreExplained, trees_of_bridge}
 use Rattle.mst_advise.proofs.explain_lemmas.Texts.{tree_there as among_trees}
 use Rattle.mst_questions.specs.Unadvised.{unrooted_of}

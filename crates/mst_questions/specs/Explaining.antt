@@ -7,8 +7,8 @@ use Rattle.mst_net.specs.tables.After.{has_bridge}
 use Rattle.mst_net.specs.tables.Tables.{Net, port_eq}
 use Rattle.mst_rows.specs.Rows.{Row}
 use Rattle.mst_view.specs.View.{LogicalPort, view_ports}
-use Rattle.mst_forest.specs.Msti.{has_msti}
-use Rattle.mst_forest.specs.Outcome.{Outcome, IsOutcome}
+use Rattle.mst_roles.specs.forest.Msti.{has_msti}
+use Rattle.mst_roles.specs.forest.Outcome.{Outcome, IsOutcome}
 use Rattle.mst_advise.specs.explain.Explained.{AreExplained, trees_of_bridge}
 use Rattle.mst_questions.specs.declared.explaining.Unexplained.{Unexplained}
 use Rattle.mst_questions.specs.declared.explaining.Unexplained.TheVariants.{NoBridge, NoPort, NoTree}

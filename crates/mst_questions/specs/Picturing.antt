@@ -1,7 +1,7 @@
 -- The pictures of a network.
 use Rattle.std.specs.Prelude.{◌≡◌, ℕ, List}
 use Rattle.mst_net.specs.tables.Tables.{Net}
-use Rattle.mst_forest.specs.Outcome.{Outcome, IsOutcome}
+use Rattle.mst_roles.specs.forest.Outcome.{Outcome, IsOutcome}
 use Rattle.mst_picture.specs.Picture.{picture}
 use Rattle.mst_picture.specs.VlanPicture.{IsVlanPicture}
 

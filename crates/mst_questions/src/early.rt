@@ -1,7 +1,7 @@
 ghost use Rattle.std.specs.Prelude.{◌≡◌, ◌==◌, ◌&&◌, ◌≤◌, not, if◌then◌else◌, Some, None};
 ghost use Rattle.mst_questions.specs.Unadvised.{unrooted_of};
 ghost use Rattle.mst_questions.specs.Explaining.{has_asked, has_tree as has_tree_in};
-ghost use Rattle.mst_forest.specs.Msti.{has_msti as has_msti_in};
+ghost use Rattle.mst_roles.specs.forest.Msti.{has_msti as has_msti_in};
 ghost use Rattle.mst_questions.specs.Ask.{unadvised_early, unexplained_early};
 
 use crate::explaining::Unexplained;

@@ -6,9 +6,9 @@ ghost use Rattle.mst_questions.specs.Explaining.{Explains, has_tree as has_tree_
 
 use mst_advise::explain_laws::some_explained;
 use mst_advise::{port_named, put_explanation, put_explanations};
-use mst_forest::Settled;
 use mst_ids::{PortName, Tree};
 use mst_net::Contents;
+use mst_roles::Settled;
 use mst_rows::Rows;
 use mst_tool::Planner;
 use mst_view::PortInView;
@@ -112,7 +112,7 @@ fn has_tree(plan: &Settled, port: &PortInView, tree: Tree) -> bool
     ensures { result ≡ has_tree_in plan.now.net port.now.name.bridge tree }
 {
     plan.known();
-    mst_forest::has_tree(plan.view(), port.bridge, tree)
+    mst_roles::has_tree(plan.view(), port.bridge, tree)
 }
 
 /// Puts the rows of a port that is explained.

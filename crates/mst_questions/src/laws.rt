@@ -7,7 +7,7 @@ ghost use Rattle.mst_questions.specs.Picturing.{Depicts, DepictsVlan};
 ghost use Rattle.mst_questions.specs.Summarizing.{Summarizes};
 
 use mst_advise::explain_laws::{one_explained, some_explained};
-use mst_forest::laws::has_outcome;
+use mst_roles::forest_laws::has_outcome;
 
 /// A port that isn't refused has rows that explain it, in the tree that is asked or in each of its bridge, and these alone: the
 /// network settles it.

@@ -2,8 +2,8 @@ ghost use Rattle.std.specs.Prelude.{◌≡◌, ◌++◌, true, List, OnOk};
 ghost use Rattle.mst_rows.specs.Rows.{Row};
 ghost use Rattle.mst_questions.specs.Summarizing.{Summarizes};
 
-use mst_forest::Settled;
 use mst_picture::put_summary;
+use mst_roles::Settled;
 use mst_rows::Rows;
 use mst_tool::Planner;
 use std::alloc::AllocError;

@@ -27,7 +27,7 @@ fn unrooted(planner: &Planner, tree: Tree, name: &Name) -> Option<Unexplained>
     let view = &planner.plan().view;
     match planner.network().bridge(name) {
         None => Some(Unexplained::NoBridge),
-        Some(bridge) if !mst_forest::has_tree(view, bridge.number, tree) => {
+        Some(bridge) if !mst_roles::has_tree(view, bridge.number, tree) => {
             Some(Unexplained::NoTree)
         }
         Some(_) => None,

@@ -6,7 +6,7 @@ use Rattle.std.proofs.lemmas.Bool.{eqb-true}
 use Rattle.mst_graph.specs.Groups.{IsThinned, StandOnce, nothing, kept}
 use Rattle.mst_graph.proofs.Members.{here, there, cases, in_none, in_filter, from_filter}
 use Rattle.mst_graph.specs.Lists.{has_any}
-use Rattle.mst_forest.proofs.Lists.{kept_in, kept_from, no_some}
+use Rattle.mst_roles.proofs.forest_lemmas.Lists.{kept_in, kept_from, no_some}
 
 -- ---- there is something
 pub any_there : {A : Type 0} (xs : List A) → has_any xs ≡ true → (x : A) × Contains xs x

@@ -9,15 +9,15 @@ use Rattle.mst_rows.specs.Rows.{Row}
 use Rattle.mst_graph.specs.Islands.{AreJoined}
 use Rattle.mst_graph.specs.Walks.{bridge_at}
 use Rattle.mst_tables.specs.Tables.{Net}
-use Rattle.mst_forest.specs.config.Regions.{same_region}
+use Rattle.mst_roles.specs.forest.config.Regions.{same_region}
 use Rattle.mst_view.specs.View.{LogicalPort}
 use Rattle.mst_note_text.specs.Children.{HasSteps}
 use Rattle.mst_note_text.specs.Depths.{ParentIn}
 use Rattle.mst_note_text.specs.NotesText.{AreNoteRows}
-use Rattle.mst_forest.specs.Outcome.{Outcome, trees_of}
-use Rattle.mst_forest.specs.Roles.{role_in}
-use Rattle.mst_forest.specs.declared.kind.Role.{Role}
-use Rattle.mst_forest.specs.declared.kind.Role.TheVariants.{Root, Designated, Alternate, Backup, Master, Disabled}
+use Rattle.mst_roles.specs.forest.Outcome.{Outcome, trees_of}
+use Rattle.mst_roles.specs.Roles.{role_in}
+use Rattle.mst_roles.specs.declared.kind.Role.{Role}
+use Rattle.mst_roles.specs.declared.kind.Role.TheVariants.{Root, Designated, Alternate, Backup, Master, Disabled}
 use Rattle.mst_sweep.specs.vlan.Reach.{bridges_on, vid_links}
 use Rattle.mst_graph.specs.Lists.{has_any}
 use Rattle.mst_sweep.specs.facts.Roots.{root_name}

@@ -5,7 +5,7 @@ use Rattle.std.specs.Option.{option_map_or}
 use Rattle.std.specs.FinMap as fin
 use Rattle.mst_ids.specs.declared.name.PortName.{PortName}
 use Rattle.mst_tables.specs.Tables.{Net}
-use Rattle.mst_forest.specs.Msti.{is_had}
+use Rattle.mst_roles.specs.forest.Msti.{is_had}
 use Rattle.mst_view.specs.View.{port_names}
 use Rattle.mst_graph.specs.Lists.{has_any}
 use Rattle.mst_sweep.specs.Failures.{failures}

@@ -6,7 +6,7 @@ use Rattle.std.specs.FinMap as fin
 use Rattle.mst_ids.specs.Vids.{has}
 use Rattle.mst_ids.specs.declared.name.PortName.{PortName}
 use Rattle.mst_tables.specs.Tables.{IsNetwork, Net, port_eq}
-use Rattle.mst_forest.specs.Outcome.{Outcome}
+use Rattle.mst_roles.specs.forest.Outcome.{Outcome}
 use Rattle.mst_view.specs.Aggregation.{same_name}
 use Rattle.mst_view.specs.View.{LogicalPort, view_ports}
 use Rattle.mst_sweep.specs.vlan.classes.AllVids.{all_vids}

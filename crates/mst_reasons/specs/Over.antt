@@ -3,7 +3,7 @@ use Rattle.std.specs.Prelude.{◌≡◌, ℕ, Bool, true, not, List, filter, if�
 use Rattle.std.specs.FinMap as fin
 use Rattle.mst_tables.specs.Tables.{Net}
 use Rattle.mst_view.specs.View.{logical_lan}
-use Rattle.mst_forest.specs.Outcome.{Outcome}
+use Rattle.mst_roles.specs.forest.Outcome.{Outcome}
 use Rattle.mst_summary.specs.Carries as carries
 use Rattle.mst_policy.specs.declared.expectation.Expectation.{Expectation}
 use Rattle.mst_policy.specs.declared.expectation.Expectation.TheVariants as expect

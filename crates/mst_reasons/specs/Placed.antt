@@ -2,7 +2,7 @@
 use Rattle.std.specs.Prelude.{◌≡◌, List, Option, None, Some, Ok}
 use Rattle.mst_tables.specs.After.{after}
 use Rattle.mst_tables.specs.Tables.{Net}
-use Rattle.mst_forest.specs.Outcome.{Outcome, IsOutcome}
+use Rattle.mst_roles.specs.forest.Outcome.{Outcome, IsOutcome}
 use Rattle.mst_sweep.specs.Failures.{edit_of}
 use Rattle.mst_sweep.specs.declared.failure.Failure.{Failure}
 use Rattle.mst_policy.specs.declared.expectation.Expectation.{Expectation}

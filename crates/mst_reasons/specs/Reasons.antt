@@ -12,20 +12,20 @@ use Rattle.mst_rows.specs.Cells.{Cell, word, number}
 use Rattle.mst_rows.specs.Rows.{Row}
 use Rattle.mst_graph.specs.Groups.{AreGroups, IsThinned}
 use Rattle.mst_tables.specs.Tables.{Net}
-use Rattle.mst_forest.specs.config.Regions.{same_region}
+use Rattle.mst_roles.specs.forest.config.Regions.{same_region}
 use Rattle.mst_view.specs.Aggregation.{same_name}
 use Rattle.mst_view.specs.Trees.{is_among}
 use Rattle.mst_view.specs.View.{LogicalPort}
 use Rattle.mst_note_text.specs.Children.{HasSteps}
 use Rattle.mst_note_text.specs.Depths.{ParentIn}
 use Rattle.mst_note_text.specs.NotesText.{AreNoteRows}
-use Rattle.mst_forest.specs.Outcome.{Outcome, trees_of}
-use Rattle.mst_forest.specs.Roles.{role_in}
-use Rattle.mst_forest.specs.declared.kind.Role.{Role}
-use Rattle.mst_forest.specs.declared.kind.Role.TheVariants as a_role
+use Rattle.mst_roles.specs.forest.Outcome.{Outcome, trees_of}
+use Rattle.mst_roles.specs.Roles.{role_in}
+use Rattle.mst_roles.specs.declared.kind.Role.{Role}
+use Rattle.mst_roles.specs.declared.kind.Role.TheVariants as a_role
 use Rattle.mst_sweep.specs.vlan.Reach.{bridges_on}
 use Rattle.mst_sweep.specs.Parts.{ArePartsOf}
-use Rattle.mst_forest.specs.RoleNumbers.{role_number}
+use Rattle.mst_roles.specs.RoleNumbers.{role_number}
 use Rattle.mst_graph.specs.Lists.{has_any}
 use Rattle.mst_policy.specs.declared.expectation.Expectation.{Expectation}
 use Rattle.mst_policy.specs.declared.expectation.Expectation.TheVariants as expect

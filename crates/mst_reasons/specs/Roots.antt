@@ -5,10 +5,10 @@ use Rattle.std.specs.Option.{option_map_or}
 use Rattle.std.specs.FinMap as fin
 use Rattle.mst_tables.specs.ByTree.{by_tree}
 use Rattle.mst_tables.specs.Tables.{Net}
-use Rattle.mst_forest.specs.config.Regions.{same_region}
+use Rattle.mst_roles.specs.forest.config.Regions.{same_region}
 use Rattle.mst_view.specs.Aggregation.{same_name}
-use Rattle.mst_forest.specs.InUse.{id_in}
-use Rattle.mst_forest.specs.Outcome.{Outcome}
+use Rattle.mst_roles.specs.forest.InUse.{id_in}
+use Rattle.mst_roles.specs.forest.Outcome.{Outcome}
 use Rattle.mst_sweep.specs.facts.Roots.{root_of, root_name}
 
 -- a bridge has a root in the tree, and in a tree other than 0 it is of B's region. One that is off or hasn't the tree has no root

@@ -1,6 +1,6 @@
 use crate::lists::{BridgeNames, Parts, PortNames, Word};
-use mst_forest::Role;
 use mst_ids::{Name, Tree, VidSet};
+use mst_roles::Role;
 
 /// Why an expectation doesn't hold.
 #[derive(Drop)]

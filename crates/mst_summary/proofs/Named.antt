@@ -30,7 +30,7 @@ use Rattle.mst_vlan.proofs.forest_lemmas.Looking.{filter_alike, has_tree_at}
 use Rattle.mst_vlan.proofs.forest_lemmas.Seen.{SeenBridge, SeenPort, bridges_seen, ports_seen}
 use Rattle.mst_vlan.proofs.forest_lemmas.SettledNet.{forest_of}
 use Rattle.mst_vlan.specs.forest.Msti.{has_tree}
-use Rattle.mst_vlan.proofs.forest_lemmas.Forwarded.{each_forwards}
+use Rattle.mst_vlan.proofs.roles_lemmas.Forwarded.{each_forwards}
 use Rattle.mst_vlan.specs.Reach.{is_member, lans_up}
 use Rattle.mst_vlan.specs.Seen.{seen_member}
 use Rattle.mst_vlan.specs.forest.AllTrees.{all_trees}

@@ -10,7 +10,7 @@ use Rattle.mst_view.specs.Viewed.{Viewed, named_port}
 use Rattle.mst_view.specs.View.{LogicalPort}
 use Rattle.mst_view.specs.declared.in_view.PortInView.{PortInView}
 use Rattle.mst_vlan.specs.forest.Forest.{Forest}
-use Rattle.mst_vlan.specs.forest.SeenRoles.{seen_forwards}
+use Rattle.mst_vlan.specs.roles.SeenRoles.{seen_forwards}
 use Rattle.mst_vlan.specs.Seen.{seen_member}
 use Rattle.mst_vlan.specs.Carried.{seen_is_link}
 use Rattle.mst_vlan.proofs.forest_lemmas.Looking.{filter_alike}

@@ -26,8 +26,8 @@ use Rattle.mst_vlan.specs.forest.Settled.{SettledNet, outcome_of, IsSettledNet}
 use Rattle.mst_vlan.proofs.forest_lemmas.Entries.{all_weaker}
 use Rattle.mst_vlan.proofs.forest_lemmas.Lists.{all_contained, all_passing, all_there}
 use Rattle.mst_vlan.proofs.forest_lemmas.Looking.{filter_alike}
-use Rattle.mst_vlan.specs.forest.Roles.{forwards}
-use Rattle.mst_vlan.specs.forest.SeenRoles.{seen_role, seen_tree}
+use Rattle.mst_vlan.specs.roles.Roles.{forwards}
+use Rattle.mst_vlan.specs.roles.SeenRoles.{seen_role, seen_tree}
 use Rattle.mst_vlan.specs.Reach.{bridges_on, lans_up}
 use Rattle.mst_vlan.specs.Seen.{seen_member}
 use Rattle.mst_vlan.specs.declared.island.Island.{Island as IslandNos}

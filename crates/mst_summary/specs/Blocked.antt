@@ -8,8 +8,8 @@ use Rattle.mst_rows.specs.Rows.{Row, row_of}
 use Rattle.mst_tables.specs.Tables.{Net}
 use Rattle.mst_view.specs.View.{LogicalPort, view_ports}
 use Rattle.mst_vlan.specs.forest.Outcome.{Outcome}
-use Rattle.mst_vlan.specs.forest.Roles.{role_of, forwards}
-use Rattle.mst_vlan.specs.forest.declared.kind.Role.{Role}
+use Rattle.mst_vlan.specs.roles.Roles.{role_of, forwards}
+use Rattle.mst_vlan.specs.roles.declared.kind.Role.{Role}
 
 -- a port that has a role in the tree, and doesn't forward. A port whose bridge hasn't the tree has none there
 abbrev pub stops : Option Role → Bool

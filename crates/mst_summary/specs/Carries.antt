@@ -11,7 +11,7 @@ use Rattle.mst_view.specs.Aggregation.{same_name}
 use Rattle.mst_view.specs.Trees.{is_among}
 use Rattle.mst_view.specs.View.{LogicalPort, view_ports}
 use Rattle.mst_vlan.specs.forest.Outcome.{Outcome}
-use Rattle.mst_vlan.specs.forest.Roles.{forwards_for}
+use Rattle.mst_vlan.specs.roles.Roles.{forwards_for}
 use Rattle.mst_vlan.specs.Reach.{is_member, lans_up}
 use Rattle.mst_vlan.specs.classes.AllVids.{all_vids}
 

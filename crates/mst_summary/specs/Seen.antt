@@ -12,7 +12,7 @@ use Rattle.mst_view.specs.declared.in_view.PortInView.{PortInView}
 use Rattle.mst_vlan.specs.forest.Forest.{Forest}
 use Rattle.mst_vlan.specs.forest.InUse.{id_in, seen_has}
 use Rattle.mst_vlan.specs.forest.Settled.{SettledNet, outcome_of}
-use Rattle.mst_vlan.specs.forest.SeenRoles.{seen_forwards}
+use Rattle.mst_vlan.specs.roles.SeenRoles.{seen_forwards}
 use Rattle.mst_vlan.specs.Seen.{seen_member}
 use Rattle.mst_vlan.specs.declared.island.Island.{Island}
 use Rattle.mst_vlan.specs.forest.AllTrees.{all_trees}

@@ -22,7 +22,7 @@ pub use kept::ports_by_lan;
 pub use looked_up::role;
 pub use mst_facts::root_of;
 pub use mst_slips::kept_for;
-pub use mst_vlan::{Island, active_ports, has_bridge, is_member, laws as vlan_laws, reach_from};
+pub use mst_vlan::{Island, has_bridge, is_member, laws as vlan_laws, reach_from};
 pub use over::goes_over;
 pub use roots::{Follower, as_follower, least};
 pub use summary::put_summary;

@@ -1,6 +1,6 @@
 ghost use Rattle.std.specs.Prelude.{◌≡◌};
 ghost use Rattle.std.specs.List.{Contains};
-ghost use Rattle.mst_vlan.specs.forest.Roles.{role_of};
+ghost use Rattle.mst_vlan.specs.roles.Roles.{role_of};
 ghost use Rattle.mst_vlan.specs.forest.Settled.{outcome_of};
 
 use mst_ids::Tree;

@@ -15,11 +15,11 @@ use Rattle.mst_view.specs.Aggregation.{plugs, same_name}
 use Rattle.mst_view.specs.View.{LogicalPort, IsUnrestricted, logical_port, as_port, view_ports, bridge_names}
 use Rattle.mst_vlan.specs.forest.Outcome.{Outcome, IsOutcome}
 use Rattle.mst_vlan.proofs.forest_lemmas.Lists.{kept_in, kept_from, no_some, some_is}
-use Rattle.mst_vlan.specs.forest.Roles.{forwards_for}
-use Rattle.mst_vlan.specs.Active.{active_ports, port_ends, IsEnabled}
+use Rattle.mst_vlan.specs.roles.Roles.{forwards_for}
+use Rattle.mst_vlan.specs.roles.Active.{active_ports, port_ends, IsEnabled}
 use Rattle.mst_vlan.specs.Reach.{bridges_on, is_member, link_of, vid_links, AreIslandsOf}
-use Rattle.mst_vlan.proofs.ActiveLaw.{active_enabled}
-use Rattle.mst_vlan.proofs.Carried.{carried}
+use Rattle.mst_vlan.proofs.roles_lemmas.ActiveLaw.{active_enabled}
+use Rattle.mst_vlan.proofs.roles_lemmas.Carried.{carried}
 use Rattle.mst_graph.specs.Lists.{has_any}
 use Rattle.mst_facts.proofs.Lists.{find-found}
 use Rattle.mst_sweep.specs.Apart.{AllAreMembers, AreLinked, ComeApart}

@@ -26,11 +26,11 @@ use Rattle.mst_vlan.specs.forest.Msti.{has_msti}
 use Rattle.mst_vlan.specs.forest.Outcome.{Outcome}
 use Rattle.mst_vlan.proofs.forest_lemmas.Lists.{mapped_twice, some_is}
 use Rattle.mst_vlan.proofs.forest_lemmas.Seen.{port_of_net, port_seen, port_there}
-use Rattle.mst_vlan.specs.forest.Roles.{forwards, forwards_for, cist_role, msti_role, role_in, tree_of_vid}
-use Rattle.mst_vlan.specs.forest.SeenRoles.{seen_role, seen_forwards}
-use Rattle.mst_vlan.proofs.forest_lemmas.Forwarded.{each_forwards}
-use Rattle.mst_vlan.proofs.forest_lemmas.Named.{each_same}
-use Rattle.mst_vlan.specs.Active.{active_ports}
+use Rattle.mst_vlan.specs.roles.Roles.{forwards, forwards_for, cist_role, msti_role, role_in, tree_of_vid}
+use Rattle.mst_vlan.specs.roles.SeenRoles.{seen_role, seen_forwards}
+use Rattle.mst_vlan.proofs.roles_lemmas.Forwarded.{each_forwards}
+use Rattle.mst_vlan.proofs.roles_lemmas.Named.{each_same}
+use Rattle.mst_vlan.specs.roles.Active.{active_ports}
 use Rattle.mst_vlan.specs.Reach.{is_member, link_of, vid_links}
 use Rattle.mst_vlan.specs.Seen.{seen_member}
 use Rattle.mst_vlan.proofs.forest_lemmas.NotInUse.{unused}

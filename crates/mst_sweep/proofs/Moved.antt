@@ -24,9 +24,9 @@ use Rattle.mst_vlan.specs.forest.Msti.{has_msti}
 use Rattle.mst_vlan.specs.forest.Outcome.{Outcome}
 use Rattle.mst_vlan.proofs.forest_lemmas.Entries.{all_weaker}
 use Rattle.mst_vlan.proofs.forest_lemmas.Lists.{all_there, mapped_twice}
-use Rattle.mst_vlan.proofs.forest_lemmas.Named.{own_role}
-use Rattle.mst_vlan.specs.forest.Roles.{role_of, role_in, cist_role, msti_role}
-use Rattle.mst_vlan.specs.forest.SeenRoles.{seen_role}
+use Rattle.mst_vlan.proofs.roles_lemmas.Named.{own_role}
+use Rattle.mst_vlan.specs.roles.Roles.{role_of, role_in, cist_role, msti_role}
+use Rattle.mst_vlan.specs.roles.SeenRoles.{seen_role}
 use Rattle.mst_vlan.specs.forest.AllTrees.{all_trees}
 use Rattle.mst_vlan.proofs.forest_lemmas.AllTrees.{trees_are}
 use Rattle.mst_facts.specs.declared.both.Both.{Both}

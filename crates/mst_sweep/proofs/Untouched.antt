@@ -12,11 +12,11 @@ use Rattle.mst_view.specs.Viewed.{Viewed}
 use Rattle.mst_vlan.specs.forest.Agrees.{AreOf}
 use Rattle.mst_vlan.specs.forest.Forest.{Forest, IsForest}
 use Rattle.mst_vlan.specs.forest.InUse.{is_in_use, seen_mstis}
-use Rattle.mst_vlan.specs.forest.SeenRoles.{seen_role}
-use Rattle.mst_vlan.specs.forest.declared.kind.Role.{Role}
-use Rattle.mst_vlan.specs.forest.declared.kind.Role.TheVariants.{Root, Designated, Alternate, Backup, Master, Disabled}
+use Rattle.mst_vlan.specs.roles.SeenRoles.{seen_role}
+use Rattle.mst_vlan.specs.roles.declared.kind.Role.{Role}
+use Rattle.mst_vlan.specs.roles.declared.kind.Role.TheVariants.{Root, Designated, Alternate, Backup, Master, Disabled}
 use Rattle.mst_view.specs.View.{port_names}
-use Rattle.mst_vlan.specs.forest.RoleNumbers.{role_number}
+use Rattle.mst_vlan.specs.roles.RoleNumbers.{role_number}
 use Rattle.mst_sweep.specs.Moved.{takes_part, is_other_role, port_moved}
 use Rattle.mst_sweep.specs.Touched.{differ, AreTouched}
 use Rattle.mst_sweep.proofs.Moved.{as_many, moved_at}

@@ -4,7 +4,7 @@ use Rattle.std.specs.List.{Contains}
 use Rattle.mst_graph.specs.Walks.{Walk, bridge_at}
 use Rattle.mst_net.specs.tables.Tables.{Net}
 use Rattle.mst_view.specs.View.{LogicalPort, view_ports}
-use Rattle.mst_vlan.specs.Active.{port_ends, IsEnabled}
+use Rattle.mst_vlan.specs.roles.Active.{port_ends, IsEnabled}
 use Rattle.mst_vlan.specs.Reach.{bridges_on, is_member}
 
 -- every logical port is a member of the VLAN

@@ -4,12 +4,12 @@ use Rattle.std.specs.List.{list_any, count_by, sum_by}
 use Rattle.mst_ids.specs.declared.name.PortName.{PortName}
 use Rattle.mst_net.specs.tables.Tables.{Net}
 use Rattle.mst_vlan.specs.forest.Outcome.{Outcome}
-use Rattle.mst_vlan.specs.forest.Roles.{role_of}
-use Rattle.mst_vlan.specs.forest.declared.kind.Role.{Role}
-use Rattle.mst_vlan.specs.forest.declared.kind.Role.TheVariants.{Disabled}
+use Rattle.mst_vlan.specs.roles.Roles.{role_of}
+use Rattle.mst_vlan.specs.roles.declared.kind.Role.{Role}
+use Rattle.mst_vlan.specs.roles.declared.kind.Role.TheVariants.{Disabled}
 use Rattle.mst_vlan.specs.forest.AllTrees.{all_trees}
 use Rattle.mst_view.specs.View.{bridge_names, port_names}
-use Rattle.mst_vlan.specs.forest.RoleNumbers.{role_number}
+use Rattle.mst_vlan.specs.roles.RoleNumbers.{role_number}
 use Rattle.mst_facts.specs.Roots.{root_of}
 
 -- there are two roots, and they aren't the same

@@ -6,7 +6,7 @@ use Rattle.std.specs.Option.{option_map, option_map_or, option_and_then}
 use Rattle.mst_view.specs.Viewed.{Viewed}
 use Rattle.mst_view.specs.declared.in_view.PortInView.{PortInView}
 use Rattle.mst_vlan.specs.forest.Forest.{Forest}
-use Rattle.mst_vlan.specs.forest.SeenRoles.{seen_role}
+use Rattle.mst_vlan.specs.roles.SeenRoles.{seen_role}
 use Rattle.mst_vlan.specs.declared.island.Island.{Island}
 use Rattle.mst_facts.specs.declared.both.Both.{Both}
 use Rattle.mst_facts.specs.Named.{seen_root}

@@ -5,10 +5,10 @@ use Rattle.mst_view.specs.Viewed.{Viewed}
 use Rattle.mst_view.specs.declared.in_view.PortInView.{PortInView}
 use Rattle.mst_vlan.specs.forest.Forest.{Forest}
 use Rattle.mst_vlan.specs.forest.InUse.{seen_mstis}
-use Rattle.mst_vlan.specs.forest.SeenRoles.{seen_role, seen_forwards}
-use Rattle.mst_vlan.specs.forest.declared.kind.Role.{Role}
+use Rattle.mst_vlan.specs.roles.SeenRoles.{seen_role, seen_forwards}
+use Rattle.mst_vlan.specs.roles.declared.kind.Role.{Role}
 use Rattle.mst_vlan.specs.Seen.{seen_member}
-use Rattle.mst_vlan.specs.forest.RoleNumbers.{role_number}
+use Rattle.mst_vlan.specs.roles.RoleNumbers.{role_number}
 
 -- ---- roles
 -- two roles aren't the same, or just one of them is there

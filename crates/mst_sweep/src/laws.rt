@@ -19,7 +19,8 @@ use mst_graph::laws::group_lists;
 use mst_ids::Vid;
 use mst_net::laws::networks;
 use mst_vlan::forest_laws::{has_outcome, one_outcome};
-use mst_vlan::laws::{islands_of_vid, joined_without_loop};
+use mst_vlan::laws::islands_of_vid;
+use mst_vlan::roles_laws::joined_without_loop;
 
 /// A failure has one list of rows, whichever settled outcomes it is made by, and cuts some VID by each or by none; and there is one.
 pub fn one_failure()

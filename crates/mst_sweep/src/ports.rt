@@ -5,7 +5,7 @@ ghost use Rattle.mst_net.specs.tables.After.{after};
 ghost use Rattle.mst_vlan.specs.forest.Agrees.{Known};
 ghost use Rattle.mst_vlan.specs.forest.InUse.{AreInUse, seen_mstis};
 ghost use Rattle.mst_view.specs.View.{port_names};
-ghost use Rattle.mst_vlan.specs.forest.RoleNumbers.{role_number};
+ghost use Rattle.mst_vlan.specs.roles.RoleNumbers.{role_number};
 ghost use Rattle.mst_sweep.specs.Between.{OfNetworks};
 ghost use Rattle.mst_sweep.specs.declared.failure.Failure.{Failure as FailureOf};
 ghost use Rattle.mst_sweep.specs.Failures.{edit_of};

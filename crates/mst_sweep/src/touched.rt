@@ -1,6 +1,6 @@
 ghost use Rattle.std.specs.Prelude.{◌≡◌, ℕ, false, IfOk, length, vec_len};
 ghost use Rattle.mst_vlan.specs.forest.InUse.{seen_mstis};
-ghost use Rattle.mst_vlan.specs.forest.SeenRoles.{seen_role};
+ghost use Rattle.mst_vlan.specs.roles.SeenRoles.{seen_role};
 ghost use Rattle.mst_sweep.specs.Touched.{differ, KeepsRoles, HaveSameRoles, AreTouched, ArePlaces};
 
 use mst_facts::Planned;

@@ -8,10 +8,10 @@ use Rattle.mst_net.specs.tables.ByTree.{vlans_in}
 use Rattle.mst_net.specs.tables.Tables.{Net, Numbers}
 use Rattle.mst_view.specs.View.{LogicalPort}
 use Rattle.mst_view.specs.Viewed.{Viewed, named_port}
-use Rattle.mst_sweep.specs.vlan.Active.{active_ports}
+use Rattle.mst_roles.specs.Active.{active_ports}
 use Rattle.mst_sweep.specs.vlan.Reach.{is_member, vid_links}
-use Rattle.mst_sweep.specs.vlan.Seen.{seen_active}
-use Rattle.mst_sweep.proofs.vlan_lemmas.Listed.{active_listed}
+use Rattle.mst_roles.specs.SeenActive.{seen_active}
+use Rattle.mst_roles.proofs.ActiveListed.{active_listed}
 use Rattle.mst_sweep.proofs.vlan_lemmas.LinksAlike.{members_shared, links_shared}
 use Rattle.mst_plan.specs.forest.Agrees.{AreOf}
 use Rattle.mst_plan.specs.forest.Forest.{Forest, IsForest}

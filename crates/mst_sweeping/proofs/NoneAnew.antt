@@ -19,7 +19,7 @@ use Rattle.mst_plan.proofs.forest_lemmas.Entries.{all_weaker}
 use Rattle.mst_plan.proofs.forest_lemmas.Lists.{all_there, apart_cases, some_is}
 use Rattle.mst_plan.proofs.forest_lemmas.Looking.{first_found}
 use Rattle.mst_plan.proofs.forest_lemmas.Views.{port_names_differ, ports_rise}
-use Rattle.mst_plan.proofs.forest_lemmas.Named.{port_is, port_same}
+use Rattle.mst_roles.proofs.Named.{port_is, port_same}
 use Rattle.mst_sweep.specs.Failures.{edit_of}
 use Rattle.mst_sweep.specs.Left.{AreLeft, lan_names}
 use Rattle.mst_sweep.specs.declared.failure.Failure.{Failure}

@@ -8,7 +8,7 @@ use Rattle.std.proofs.lemmas.List.Folds.{find-append}
 use Rattle.mst_ids.specs.declared.name.PortName.{PortName}
 use Rattle.mst_net.specs.tables.Tables.{port_eq}
 use Rattle.mst_view.specs.declared.in_view.PortInView.{PortInView}
-use Rattle.mst_plan.proofs.forest_lemmas.Named.{port_is}
+use Rattle.mst_roles.proofs.Named.{port_is}
 use Rattle.mst_sweeping.specs.Seen.{ArePortsByName}
 
 module _ (ports : List PortInView) (i : ℕ) (x : PortInView) (l : i < length ports) (is : x ≡ get_or ports i x) (entries : List (PortName × PortInView)) (before : ArePortsByName (take i ports) entries) (q : PortName) where

@@ -10,12 +10,12 @@ use Rattle.mst_view.specs.Viewed.{Viewed, named_port}
 use Rattle.mst_view.specs.declared.in_view.PortInView.{PortInView}
 use Rattle.mst_plan.specs.forest.Agrees.{AreOf}
 use Rattle.mst_plan.specs.forest.Forest.{Forest, IsForest}
-use Rattle.mst_plan.specs.forest.Roles.{role_of, role_in}
-use Rattle.mst_plan.specs.forest.SeenRoles.{seen_role}
-use Rattle.mst_plan.specs.forest.declared.kind.Role.{Role}
+use Rattle.mst_roles.specs.Roles.{role_of, role_in}
+use Rattle.mst_roles.specs.SeenRoles.{seen_role}
+use Rattle.mst_roles.specs.declared.kind.Role.{Role}
 use Rattle.mst_plan.proofs.forest_lemmas.Entries.{all_weaker}
 use Rattle.mst_plan.proofs.forest_lemmas.Lists.{all_there, mapped_twice}
-use Rattle.mst_plan.proofs.forest_lemmas.Named.{own_role, port_is}
+use Rattle.mst_roles.proofs.Named.{own_role, port_is}
 use Rattle.mst_sweep.proofs.facts_lemmas.Lists.{find-found, find-map}
 use Rattle.mst_sweep.specs.Moved.{is_other_role, port_moved}
 use Rattle.mst_sweep.proofs.Moved.{few_ports}

@@ -14,7 +14,7 @@ use Rattle.mst_plan.specs.forest.Agrees.{AreOf}
 use Rattle.mst_plan.specs.forest.Forest.{Forest, IsForest}
 use Rattle.mst_plan.specs.forest.Outcome.{Outcome}
 use Rattle.mst_sweep.specs.vlan.classes.Alike.{AreAlike}
-use Rattle.mst_plan.proofs.forest_lemmas.Named.{port_is, port_same}
+use Rattle.mst_roles.proofs.Named.{port_is, port_same}
 use Rattle.mst_sweep.specs.Parts.{AreParts}
 use Rattle.mst_sweep.proofs.StillJoined.{no_parts}
 use Rattle.mst_sweeping.specs.declared.links.Link.{Link}

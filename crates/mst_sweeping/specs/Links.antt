@@ -6,7 +6,7 @@ use Rattle.mst_net.specs.tables.Tables.{Net, port_eq}
 use Rattle.mst_view.specs.Aggregation.{same_name}
 use Rattle.mst_view.specs.View.{LogicalPort}
 use Rattle.mst_plan.specs.forest.Outcome.{Outcome}
-use Rattle.mst_sweep.specs.vlan.Active.{active_ports}
+use Rattle.mst_roles.specs.Active.{active_ports}
 use Rattle.mst_sweep.specs.vlan.Reach.{bridges_on, is_member}
 use Rattle.mst_sweeping.specs.declared.links.Link.{Link}
 

@@ -11,7 +11,8 @@ use Rattle.mst_net.specs.tables.Tables.{port_eq}
 use Rattle.mst_view.specs.Aggregation.{same_name}
 use Rattle.mst_view.specs.Viewed.{Viewed}
 use Rattle.mst_view.specs.declared.in_view.PortInView.{PortInView}
-use Rattle.mst_sweep.specs.vlan.Seen.{seen_active, seen_member}
+use Rattle.mst_roles.specs.SeenActive.{seen_active}
+use Rattle.mst_sweep.specs.vlan.Seen.{seen_member}
 use Rattle.mst_plan.specs.forest.Forest.{Forest}
 use Rattle.mst_sweep.specs.facts.declared.both.Both.{Both}
 use Rattle.mst_sweep.specs.facts.Told.{same_told}

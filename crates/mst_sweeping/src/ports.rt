@@ -9,7 +9,8 @@ ghost use Rattle.mst_sweeping.specs.Seen.{seen_both_ports, seen_port_in_both, se
 
 use indexmap::IndexMap;
 use mst_ids::{PortName, Tree};
-use mst_plan::{is_had, port_role, trees_in_use};
+use mst_plan::{is_had, trees_in_use};
+use mst_roles::port_role;
 use mst_sweep::{Planned, changes_role};
 use mst_view::{PortInView, View};
 use std::alloc::{AllocError, Global};

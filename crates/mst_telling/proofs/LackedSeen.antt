@@ -13,14 +13,14 @@ use Rattle.mst_policy.specs.declared.item.NameItem.{NameItem}
 use Rattle.mst_policy.specs.declared.expectation.Promise.{Promise}
 use Rattle.mst_tables.specs.Seen.{bridge_row}
 use Rattle.mst_tables.specs.Tables.{Net, Numbers, BridgeRow}
-use Rattle.mst_forest.specs.Msti.{is_had, has_msti}
-use Rattle.mst_forest.specs.Agrees.{AreOf}
-use Rattle.mst_forest.specs.Seen.{trees_at}
+use Rattle.mst_roles.specs.forest.Msti.{is_had, has_msti}
+use Rattle.mst_roles.specs.forest.Agrees.{AreOf}
+use Rattle.mst_roles.specs.forest.Seen.{trees_at}
 use Rattle.mst_reasons.proofs.summary_lemmas.Lists.{any_alike, any_mapped}
-use Rattle.mst_forest.proofs.Entries.{all_weaker}
-use Rattle.mst_forest.proofs.Lists.{mapped_twice}
-use Rattle.mst_forest.proofs.Looking.{has_tree_at}
-use Rattle.mst_forest.proofs.Seen.{SeenBridge, bridges_seen}
+use Rattle.mst_roles.proofs.forest_lemmas.Entries.{all_weaker}
+use Rattle.mst_roles.proofs.forest_lemmas.Lists.{mapped_twice}
+use Rattle.mst_roles.proofs.forest_lemmas.Looking.{has_tree_at}
+use Rattle.mst_roles.proofs.forest_lemmas.Seen.{SeenBridge, bridges_seen}
 use Rattle.mst_reasons.specs.sweep.declared.failure.Failure.{Failure}
 use Rattle.mst_reasons.specs.sweep.declared.failure.Failure.TheVariants.{Lan, Bridge}
 use Rattle.mst_reasons.proofs.sweep_lemmas.AllFailures.{failures_seen}

@@ -11,7 +11,7 @@ use Rattle.mst_policy.specs.declared.policy.PolicyLine.{PolicyLine}
 use Rattle.mst_rows.specs.Cells.{PromiseSaid}
 use Rattle.mst_rows.specs.Rows.{Row}
 use Rattle.mst_tables.specs.Tables.{Net}
-use Rattle.mst_forest.specs.Outcome.{Outcome}
+use Rattle.mst_roles.specs.forest.Outcome.{Outcome}
 use Rattle.mst_reasons.specs.sweep.Failures.{failures}
 use Rattle.mst_reasons.specs.sweep.declared.failure.Failure.{Failure}
 use Rattle.mst_reasons.specs.Judged.{asks_at, places}

@@ -10,8 +10,8 @@ use Rattle.mst_ids.specs.Vids.{runs_from}
 use Rattle.mst_rows.specs.Cells.{Cell, PromiseSaid, absent, word, number, no_failure}
 use Rattle.mst_rows.specs.Cells as cell
 use Rattle.mst_rows.specs.Rows.{Row, row_of}
-use Rattle.mst_forest.specs.Names.{role_text}
-use Rattle.mst_forest.specs.declared.kind.Role.{Role}
+use Rattle.mst_roles.specs.Names.{role_text}
+use Rattle.mst_roles.specs.declared.kind.Role.{Role}
 use Rattle.mst_reasons.specs.sweep.Cuts.{failing}
 use Rattle.mst_reasons.specs.sweep.declared.failure.Failure.{Failure}
 use Rattle.mst_reasons.specs.Missing as lacking

@@ -7,7 +7,7 @@ use Rattle.mst_lang.specs.declared.line.Fault.{Fault}
 use Rattle.mst_rows.specs.Rows.{Row}
 use Rattle.mst_graph.specs.Lists.{has_any}
 use Rattle.mst_tables.specs.Tables.{Net}
-use Rattle.mst_forest.specs.Outcome.{Outcome}
+use Rattle.mst_roles.specs.forest.Outcome.{Outcome}
 use Rattle.mst_reasons.specs.sweep.declared.failure.Failure.{Failure}
 use Rattle.mst_policy.specs.Faults as policies
 use Rattle.mst_policy.specs.declared.expectation.Expectation.{Expectation}

@@ -2,14 +2,14 @@ ghost use Rattle.std.specs.Prelude.{◌≡◌, ◌&&◌, ◌||◌, ◌++◌, map
 ghost use Rattle.std.specs.List.{list_all, list_any};
 ghost use Rattle.mst_policy.specs.Items.{item_has, port_item_has};
 ghost use Rattle.mst_graph.specs.Lists.{has_any};
-ghost use Rattle.mst_forest.specs.InUse.{is_in_use};
+ghost use Rattle.mst_roles.specs.forest.InUse.{is_in_use};
 ghost use Rattle.mst_reasons.specs.Missing.{bridges_of, has_failure as has_failure_of, has_one as has_one_of, has_port as has_port_of, have_failures as have_failures_of, is_tree as is_tree_of, lacks_bridge as lacks_bridge_of, lacks_failure as lacks_failure_of, lacks_lan as lacks_lan_of, lacks_port as lacks_port_of, lacks_tree as lacks_tree_of, lans_of, missing as missing_of, next_item, scope_bridges, scope_lans};
 ghost use Rattle.mst_telling.specs.Seen.{seen_bridge_fails, seen_lan_fails};
 
-use mst_forest::Settled;
 use mst_ids::{Name, Tree};
 use mst_policy::{Expectation, NameItem, PortItem, Promise, Scope};
 use mst_reasons::{Failure, Missing, asks};
+use mst_roles::Settled;
 use mst_view::{BridgeInView, MemberLan, PortInView, View};
 
 /// Whether an item has the name of one of these bridges.

@@ -5,10 +5,10 @@ ghost use Rattle.mst_ids.specs.Vids.{runs_from};
 ghost use Rattle.mst_rows.specs.Cells as a_cell;
 ghost use Rattle.mst_telling.specs.Rows.{front_cells, kind_at, limit_cells, name_or_none, place as place_of, reason_cells, reason_line, reason_row, role_or_none, row_at};
 
-use mst_forest::Role;
 use mst_ids::{Name, Tree, VidSet};
 use mst_kinds::{Kind, VerifyLine};
 use mst_reasons::{Failure, Parts, Reason, Word};
+use mst_roles::Role;
 use mst_rows::{Rows, Value, put};
 use std::alloc::{AllocError, Global};
 

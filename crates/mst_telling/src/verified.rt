@@ -3,7 +3,7 @@ ghost use Rattle.std.specs.List.{list_any};
 ghost use Rattle.mst_rows.specs.Rows.{Row, said};
 ghost use Rattle.mst_graph.specs.Lists.{has_any};
 ghost use Rattle.mst_tables.specs.Tables.{Net};
-ghost use Rattle.mst_forest.specs.Outcome.{Outcome};
+ghost use Rattle.mst_roles.specs.forest.Outcome.{Outcome};
 ghost use Rattle.mst_reasons.specs.sweep.Failures.{failures as failures_of};
 ghost use Rattle.mst_telling.specs.Judged.{AreLinesJudged, Puts, counts_of, found_at, line_found, refused_at, refused_by, verdicts_by, tells_some};
 ghost use Rattle.mst_telling.specs.Told.{is_now};

@@ -14,11 +14,12 @@ use Rattle.mst_vlan.specs.forest.Agrees.{AreOf}
 use Rattle.mst_vlan.specs.forest.Forest.{Forest, IsForest}
 use Rattle.mst_vlan.proofs.forest_lemmas.Entries.{all_weaker}
 use Rattle.mst_vlan.proofs.forest_lemmas.Lists.{all_there, mapped_twice}
-use Rattle.mst_vlan.specs.Active.{active_ports}
+use Rattle.mst_vlan.specs.roles.Active.{active_ports}
 use Rattle.mst_vlan.specs.Reach.{bridges_on, lans_up, vid_links, AreReached}
-use Rattle.mst_vlan.specs.Seen.{seen_active, seen_bridge, seen_lan}
+use Rattle.mst_vlan.specs.roles.SeenActive.{seen_active}
+use Rattle.mst_vlan.specs.Seen.{seen_bridge, seen_lan}
 use Rattle.mst_vlan.specs.declared.island.Island.{Island as IslandNos}
-use Rattle.mst_vlan.proofs.Listed.{active_listed}
+use Rattle.mst_vlan.proofs.roles_lemmas.ActiveListed.{active_listed}
 use Rattle.mst_vlan.proofs.Renumbered.{bridge_listed, lan_listed}
 use Rattle.mst_rows.specs.declared.value.ActivePort.{ActivePort}
 use Rattle.mst_text.specs.VlanRows.{active_row, island_row}

@@ -17,8 +17,8 @@ use Rattle.mst_view.specs.View.{LogicalPort}
 use Rattle.mst_vlan.specs.forest.Cist.{cist_port}
 use Rattle.mst_vlan.specs.forest.InUse.{id_in}
 use Rattle.mst_vlan.specs.forest.Msti.{msti_port}
-use Rattle.mst_vlan.specs.forest.Names.{role_text}
-use Rattle.mst_vlan.specs.forest.declared.kind.Role.{Role}
+use Rattle.mst_vlan.specs.roles.Names.{role_text}
+use Rattle.mst_vlan.specs.roles.declared.kind.Role.{Role}
 use Rattle.mst_text.specs.Holders.{holder_cell}
 
 -- `tree T`

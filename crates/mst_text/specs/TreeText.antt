@@ -9,7 +9,7 @@ use Rattle.mst_view.specs.Aggregation.{same_name}
 use Rattle.mst_view.specs.View.{LogicalPort, view_ports}
 use Rattle.mst_vlan.specs.forest.Msti.{has_tree}
 use Rattle.mst_vlan.specs.forest.Outcome.{Outcome}
-use Rattle.mst_vlan.specs.forest.Roles.{role_in}
+use Rattle.mst_vlan.specs.roles.Roles.{role_in}
 use Rattle.mst_rows.specs.Rows.{Row}
 use Rattle.mst_text.specs.TreeRows.{heading, bridge_rows, port_row}
 

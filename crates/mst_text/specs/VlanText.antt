@@ -4,7 +4,7 @@ use Rattle.mst_graph.specs.Islands.{Island}
 use Rattle.mst_tables.specs.Tables.{Net}
 use Rattle.mst_view.specs.View.{LogicalPort}
 use Rattle.mst_vlan.specs.forest.Outcome.{Outcome}
-use Rattle.mst_vlan.specs.Active.{active_ports}
+use Rattle.mst_vlan.specs.roles.Active.{active_ports}
 use Rattle.mst_vlan.specs.Reach.{is_member, AreIslandsOf}
 use Rattle.mst_rows.specs.declared.value.ActivePort.{ActivePort}
 use Rattle.mst_rows.specs.Rows.{Row}

@@ -33,7 +33,7 @@ mod vlan_text;
 pub use configuration::put_configuration;
 pub use holders::Holders;
 pub use lags::put_lags;
-pub use mst_vlan::{active_ports, classes_of_vids, is_member, laws as vlan_laws, set_of, vids};
+pub use mst_vlan::{classes_of_vids, is_member, laws as vlan_laws, set_of, vids};
 pub use regions::put_regions;
 pub use tree::{put_tree, put_tree_with};
 pub use vlan_text::{put_body, put_heading, put_vlan};

@@ -10,14 +10,14 @@ use Rattle.mst_graph.proofs.Members.{in_none, in_filter, from_filter}
 use Rattle.mst_tables.specs.ByTree.{by_tree}
 use Rattle.mst_tables.specs.Tables.{Net, BridgeRow, IsNetwork}
 use Rattle.mst_view.specs.Aggregation.{same_name}
-use Rattle.mst_forest.specs.InUse.{id_in}
-use Rattle.mst_forest.specs.Outcome.{Outcome}
+use Rattle.mst_roles.specs.forest.InUse.{id_in}
+use Rattle.mst_roles.specs.forest.Outcome.{Outcome}
 use Rattle.mst_graph.specs.Lists.{has_any}
 use Rattle.mst_judged.specs.reasons.sweep.facts.Roots.{root_of, root_name, named_by}
-use Rattle.mst_forest.specs.config.Regions.{same_region}
-use Rattle.mst_forest.proofs.Lists.{all_contained, no_some, some_is}
-use Rattle.mst_forest.proofs.Looking.{first_found}
-use Rattle.mst_forest.proofs.Views.{bridges_are, entry_there, same_mac}
+use Rattle.mst_roles.specs.forest.config.Regions.{same_region}
+use Rattle.mst_roles.proofs.forest_lemmas.Lists.{all_contained, no_some, some_is}
+use Rattle.mst_roles.proofs.forest_lemmas.Looking.{first_found}
+use Rattle.mst_roles.proofs.forest_lemmas.Views.{bridges_are, entry_there, same_mac}
 use Rattle.mst_judged.specs.reasons.Holds.{IsOneRoot}
 use Rattle.mst_judged.specs.reasons.Reasons.{root_count, other_root, other_next, AreRootReasons}
 use Rattle.mst_judged.specs.reasons.Roots.{concerned, is_concerned, is_root_of, identifier, IsNextRoot}

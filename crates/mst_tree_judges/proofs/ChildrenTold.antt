@@ -14,9 +14,9 @@ use Rattle.mst_judged.specs.reasons.note_text.declared.children.Child.{Child}
 use Rattle.mst_judged.proofs.reasons_lemmas.note_text_lemmas.Chains.{one_internal}
 use Rattle.mst_judged.proofs.reasons_lemmas.note_text_lemmas.Regions.{one_parent_in}
 use Rattle.mst_graph.specs.Lists.{has_any}
-use Rattle.mst_forest.specs.nested.Trees.{HasTree, IsSettled, Trees}
-use Rattle.mst_forest.proofs.Lists.{all_contained}
-use Rattle.mst_judged.proofs.reasons_lemmas.sweep_lemmas.vlan_lemmas.Names.{tests}
+use Rattle.mst_roles.specs.forest.nested.Trees.{HasTree, IsSettled, Trees}
+use Rattle.mst_roles.proofs.forest_lemmas.Lists.{all_contained}
+use Rattle.mst_roles.proofs.Names.{tests}
 use Rattle.mst_judged.specs.reasons.Reasons.{AreThose}
 use Rattle.mst_tree_judges.specs.Seen.{is_child_of}
 use Rattle.mst_judged.proofs.reasons_lemmas.Things.{there_any}

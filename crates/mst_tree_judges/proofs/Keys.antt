@@ -11,19 +11,19 @@ use Rattle.mst_vector.specs.Cist.{cist_rules}
 use Rattle.mst_vector.specs.Msti.{msti_rules}
 use Rattle.mst_vector.specs.declared.cist.CistBridge.{CistBridge}
 use Rattle.mst_vector.specs.declared.msti.MstiBridge.{MstiBridge}
-use Rattle.mst_forest.specs.topology.Topology.{HasBridge}
-use Rattle.mst_forest.specs.config.Regions.{region_of}
-use Rattle.mst_forest.specs.Apart.{Apart}
-use Rattle.mst_forest.specs.Cist.{cist_bridge, cist_of, cist_sight}
-use Rattle.mst_forest.specs.InUse.{id_in}
-use Rattle.mst_forest.specs.Msti.{has_msti, msti_bridge, msti_of, msti_sight}
-use Rattle.mst_forest.specs.Outcome.{Outcome, IsOutcome, trees_of}
-use Rattle.mst_forest.proofs.CistTopology.{given, cist_is_sight}
-use Rattle.mst_forest.proofs.Lists.{all_contained, apart_filtered, apart_mapped}
-use Rattle.mst_forest.proofs.MstiTopology.{msti_is_sight}
-use Rattle.mst_forest.proofs.Sights.{bridge_from}
-use Rattle.mst_forest.proofs.Views.{bridges_are, bridges_rise, entry_there, names_differ}
-use Rattle.mst_forest.specs.nested.Trees.{HasTree}
+use Rattle.mst_roles.specs.forest.topology.Topology.{HasBridge}
+use Rattle.mst_roles.specs.forest.config.Regions.{region_of}
+use Rattle.mst_roles.specs.forest.Apart.{Apart}
+use Rattle.mst_roles.specs.forest.Cist.{cist_bridge, cist_of, cist_sight}
+use Rattle.mst_roles.specs.forest.InUse.{id_in}
+use Rattle.mst_roles.specs.forest.Msti.{has_msti, msti_bridge, msti_of, msti_sight}
+use Rattle.mst_roles.specs.forest.Outcome.{Outcome, IsOutcome, trees_of}
+use Rattle.mst_roles.proofs.forest_lemmas.CistTopology.{given, cist_is_sight}
+use Rattle.mst_roles.proofs.forest_lemmas.Lists.{all_contained, apart_filtered, apart_mapped}
+use Rattle.mst_roles.proofs.forest_lemmas.MstiTopology.{msti_is_sight}
+use Rattle.mst_roles.proofs.forest_lemmas.Sights.{bridge_from}
+use Rattle.mst_roles.proofs.forest_lemmas.Views.{bridges_are, bridges_rise, entry_there, names_differ}
+use Rattle.mst_roles.specs.forest.nested.Trees.{HasTree}
 use Rattle.mst_judged.specs.reasons.sweep.vlan.Reach.{bridges_on}
 use Rattle.mst_judged.specs.reasons.note_text.Depths.{ParentIn}
 

@@ -13,12 +13,12 @@ use Rattle.mst_view.specs.Aggregation.{same_name}
 use Rattle.mst_view.specs.View.{logical_lan}
 use Rattle.mst_view.specs.Viewed.{Viewed, member_lan}
 use Rattle.mst_view.specs.declared.in_view.MemberLan.{MemberLan}
-use Rattle.mst_forest.specs.Settled.{SettledNet, IsSettledNet, outcome_of}
+use Rattle.mst_roles.specs.forest.Settled.{SettledNet, IsSettledNet, outcome_of}
 use Rattle.mst_judged.specs.reasons.summary.Seen.{seen_on, seen_over}
 use Rattle.mst_judged.proofs.reasons_lemmas.summary_lemmas.Named.{over_named as logical_over}
-use Rattle.mst_forest.proofs.Lists.{passed}
-use Rattle.mst_forest.proofs.Looking.{first_found}
-use Rattle.mst_forest.proofs.Views.{name_is}
+use Rattle.mst_roles.proofs.forest_lemmas.Lists.{passed}
+use Rattle.mst_roles.proofs.forest_lemmas.Looking.{first_found}
+use Rattle.mst_roles.proofs.forest_lemmas.Views.{name_is}
 use Rattle.mst_judged.specs.reasons.Over.{goes_over, is_lan}
 use Rattle.mst_tree_judges.specs.Seen.{seen_logical}
 

@@ -9,12 +9,12 @@ use Rattle.mst_view.specs.Aggregation.{same_name}
 use Rattle.mst_view.specs.Viewed.{Viewed}
 use Rattle.mst_view.specs.declared.in_view.BridgeInView.{BridgeInView}
 use Rattle.mst_tables.specs.Tables.{Net, Numbers, BridgeRow}
-use Rattle.mst_forest.specs.config.Regions.{same_configuration, same_region}
-use Rattle.mst_forest.specs.config.Shared.{same_in}
-use Rattle.mst_forest.specs.Agrees.{AreOf}
-use Rattle.mst_forest.proofs.Lists.{no_some, some_is}
-use Rattle.mst_forest.proofs.Looking.{first_found}
-use Rattle.mst_forest.proofs.Seen.{bridge_seen}
+use Rattle.mst_roles.specs.forest.config.Regions.{same_configuration, same_region}
+use Rattle.mst_roles.specs.forest.config.Shared.{same_in}
+use Rattle.mst_roles.specs.forest.Agrees.{AreOf}
+use Rattle.mst_roles.proofs.forest_lemmas.Lists.{no_some, some_is}
+use Rattle.mst_roles.proofs.forest_lemmas.Looking.{first_found}
+use Rattle.mst_roles.proofs.forest_lemmas.Seen.{bridge_seen}
 use Rattle.mst_tree_judges.proofs.Keys.{key_there}
 use Rattle.mst_judged.proofs.reasons_lemmas.NamedIn.{names_are}
 

@@ -10,10 +10,10 @@ use Rattle.mst_graph.proofs.Alike.{alike_groups}
 use Rattle.mst_view.specs.Viewed.{Viewed}
 use Rattle.mst_view.specs.declared.in_view.BridgeInView.{BridgeInView}
 use Rattle.mst_tables.specs.Tables.{Net, Numbers}
-use Rattle.mst_forest.specs.config.Regions.{region_of, same_region}
-use Rattle.mst_forest.specs.Agrees.{AreOf}
-use Rattle.mst_forest.specs.Forest.{Forest}
-use Rattle.mst_forest.proofs.config_lemmas.SameRegion.{told}
+use Rattle.mst_roles.specs.forest.config.Regions.{region_of, same_region}
+use Rattle.mst_roles.specs.forest.Agrees.{AreOf}
+use Rattle.mst_roles.specs.forest.Forest.{Forest}
+use Rattle.mst_roles.proofs.forest_lemmas.config_lemmas.SameRegion.{told}
 use Rattle.mst_judged.specs.reasons.Seen.{names_in}
 use Rattle.mst_judged.specs.reasons.Reasons.{Parts}
 use Rattle.mst_tree_judges.proofs.Keys.{key_row}

@@ -8,16 +8,16 @@ use Rattle.mst_view.specs.Viewed.{named_port}
 use Rattle.mst_view.specs.declared.in_view.PortInView.{PortInView}
 use Rattle.mst_policy.specs.declared.expectation.Roles.{Roles}
 use Rattle.mst_graph.specs.Lists.{has_any}
-use Rattle.mst_forest.specs.Roles.{role_in}
-use Rattle.mst_forest.specs.SeenRoles.{seen_role}
-use Rattle.mst_forest.specs.declared.kind.Role.{Role}
-use Rattle.mst_forest.specs.Settled.{SettledNet, IsSettledNet, outcome_of}
-use Rattle.mst_forest.proofs.Named.{each_same}
-use Rattle.mst_forest.proofs.Entries.{all_weaker}
-use Rattle.mst_forest.proofs.Lists.{all_there, filter_mapped, mapped_twice}
-use Rattle.mst_forest.proofs.Looking.{filter_alike}
-use Rattle.mst_forest.proofs.Seen.{port_seen}
-use Rattle.mst_forest.proofs.SettledNet.{forest_of}
+use Rattle.mst_roles.specs.Roles.{role_in}
+use Rattle.mst_roles.specs.SeenRoles.{seen_role}
+use Rattle.mst_roles.specs.declared.kind.Role.{Role}
+use Rattle.mst_roles.specs.forest.Settled.{SettledNet, IsSettledNet, outcome_of}
+use Rattle.mst_roles.proofs.Named.{each_same}
+use Rattle.mst_roles.proofs.forest_lemmas.Entries.{all_weaker}
+use Rattle.mst_roles.proofs.forest_lemmas.Lists.{all_there, filter_mapped, mapped_twice}
+use Rattle.mst_roles.proofs.forest_lemmas.Looking.{filter_alike}
+use Rattle.mst_roles.proofs.forest_lemmas.Seen.{port_seen}
+use Rattle.mst_roles.proofs.forest_lemmas.SettledNet.{forest_of}
 use Rattle.mst_judged.specs.reasons.Holds.{is_wanted}
 use Rattle.mst_judged.specs.reasons.Reasons.{all_roles, ports_of_role, role_reason, role_reasons, same_role}
 use Rattle.mst_tree_judges.specs.Seen.{seen_role_reason, seen_with_role}

@@ -9,13 +9,13 @@ use Rattle.std.proofs.lemmas.List.{length-take, length_push}
 use Rattle.mst_view.specs.Viewed.{named_bridge}
 use Rattle.mst_view.specs.declared.in_view.BridgeInView.{BridgeInView}
 use Rattle.mst_tables.specs.Tables.{Net, IsNetwork}
-use Rattle.mst_forest.specs.Outcome.{Outcome}
+use Rattle.mst_roles.specs.forest.Outcome.{Outcome}
 use Rattle.mst_graph.specs.Lists.{has_any}
 use Rattle.mst_judged.specs.reasons.sweep.facts.Roots.{root_of}
 use Rattle.mst_judged.specs.reasons.summary.Roots.{least}
 use Rattle.mst_judged.specs.reasons.summary.declared.roots.Follower.{Follower}
 use Rattle.mst_judged.proofs.reasons_lemmas.summary_lemmas.Lists.{passed_more}
-use Rattle.mst_forest.proofs.Lists.{length_filtered}
+use Rattle.mst_roles.proofs.forest_lemmas.Lists.{length_filtered}
 use Rattle.mst_judged.specs.reasons.Reasons.{AreRootReasons, other_next}
 use Rattle.mst_tree_judges.specs.Seen.{concerned_followers, seen_other_root}
 use Rattle.mst_judged.specs.reasons.declared.reason.Reason.{Reason}

@@ -7,12 +7,12 @@ use Rattle.std.proofs.lemmas.Bool.{eqb-true}
 use Rattle.mst_tables.specs.Tables.{Net, IsNetwork}
 use Rattle.mst_vector.specs.declared.cist.CistVector.{CistVector}
 use Rattle.mst_vector.specs.declared.msti.MstiVector.{MstiVector}
-use Rattle.mst_forest.specs.nested.Trees.{IsSettled}
-use Rattle.mst_forest.specs.Msti.{has_msti}
-use Rattle.mst_forest.specs.Outcome.{Outcome, trees_of}
+use Rattle.mst_roles.specs.forest.nested.Trees.{IsSettled}
+use Rattle.mst_roles.specs.forest.Msti.{has_msti}
+use Rattle.mst_roles.specs.forest.Outcome.{Outcome, trees_of}
 use Rattle.mst_judged.specs.reasons.sweep.facts.Roots.{root_of}
-use Rattle.mst_forest.proofs.Lists.{no_some, some_is}
-use Rattle.mst_judged.proofs.reasons_lemmas.sweep_lemmas.vlan_lemmas.Names.{tests}
+use Rattle.mst_roles.proofs.forest_lemmas.Lists.{no_some, some_is}
+use Rattle.mst_roles.proofs.Names.{tests}
 use Rattle.mst_judged.proofs.reasons_lemmas.note_text_lemmas.Tops.{internal_depth, external_depth, ends_cist, ends_msti}
 use Rattle.mst_tree_judges.proofs.Keys.{InNet, cist_there, msti_there}
 

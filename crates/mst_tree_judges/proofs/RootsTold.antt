@@ -11,17 +11,17 @@ use Rattle.mst_graph.proofs.Members.{in_none, in_filter, from_filter, in_map, fr
 use Rattle.mst_view.specs.Aggregation.{same_name}
 use Rattle.mst_tables.specs.ByTree.{by_tree}
 use Rattle.mst_tables.specs.Tables.{Net, BridgeRow, IsNetwork}
-use Rattle.mst_forest.specs.InUse.{id_in}
-use Rattle.mst_forest.specs.Outcome.{Outcome}
+use Rattle.mst_roles.specs.forest.InUse.{id_in}
+use Rattle.mst_roles.specs.forest.Outcome.{Outcome}
 use Rattle.mst_graph.specs.Lists.{has_any}
 use Rattle.mst_judged.specs.reasons.sweep.facts.Roots.{root_of}
-use Rattle.mst_forest.specs.config.Regions.{same_region}
+use Rattle.mst_roles.specs.forest.config.Regions.{same_region}
 use Rattle.mst_judged.specs.reasons.summary.Roots.{least, with_lesser}
 use Rattle.mst_judged.specs.reasons.summary.declared.roots.Follower.{Follower}
 use Rattle.mst_judged.proofs.reasons_lemmas.summary_lemmas.Next.{least_of}
-use Rattle.mst_forest.proofs.Entries.{all_weaker}
-use Rattle.mst_forest.proofs.Lists.{all_contained, all_there, filter_mapped, kept_from, no_some, some_is}
-use Rattle.mst_forest.proofs.Looking.{filter_alike}
+use Rattle.mst_roles.proofs.forest_lemmas.Entries.{all_weaker}
+use Rattle.mst_roles.proofs.forest_lemmas.Lists.{all_contained, all_there, filter_mapped, kept_from, no_some, some_is}
+use Rattle.mst_roles.proofs.forest_lemmas.Looking.{filter_alike}
 use Rattle.mst_judged.specs.reasons.Reasons.{other_root, root_count}
 use Rattle.mst_judged.specs.reasons.Roots.{concerned, identifier, is_concerned, is_root_of, IsNextRoot}
 use Rattle.mst_tree_judges.specs.Seen.{concerned_follower, concerned_followers, seen_other_root}

@@ -8,16 +8,16 @@ use Rattle.std.specs.FinMap as fin
 use Rattle.mst_ids.specs.declared.name.PortName.{PortName}
 use Rattle.mst_tables.specs.ByTree.{by_tree}
 use Rattle.mst_tables.specs.Tables.{Net, BridgeRow}
-use Rattle.mst_forest.specs.config.Regions.{same_region}
+use Rattle.mst_roles.specs.forest.config.Regions.{same_region}
 use Rattle.mst_view.specs.Aggregation.{same_name}
 use Rattle.mst_view.specs.Viewed.{Viewed}
 use Rattle.mst_view.specs.declared.in_view.PortInView.{PortInView}
 use Rattle.mst_judged.specs.reasons.note_text.declared.children.Child.{Child}
-use Rattle.mst_forest.specs.Forest.{Forest}
-use Rattle.mst_forest.specs.InUse.{id_in}
-use Rattle.mst_forest.specs.Outcome.{Outcome}
-use Rattle.mst_forest.specs.SeenRoles.{seen_role}
-use Rattle.mst_forest.specs.declared.kind.Role.{Role}
+use Rattle.mst_roles.specs.forest.Forest.{Forest}
+use Rattle.mst_roles.specs.forest.InUse.{id_in}
+use Rattle.mst_roles.specs.forest.Outcome.{Outcome}
+use Rattle.mst_roles.specs.SeenRoles.{seen_role}
+use Rattle.mst_roles.specs.declared.kind.Role.{Role}
 use Rattle.mst_graph.specs.Lists.{has_any}
 use Rattle.mst_judged.specs.reasons.summary.Roots.{follower}
 use Rattle.mst_judged.specs.reasons.summary.declared.roots.Follower.{Follower}

@@ -1,10 +1,10 @@
 ghost use Rattle.std.specs.Prelude.{◌≡◌, ◌==◌, ◌∷◌, [], nat_lt, max, IfOk, fold, map, filter, if◌then◌else◌};
-ghost use Rattle.mst_forest.specs.Settled.{outcome_of};
+ghost use Rattle.mst_roles.specs.forest.Settled.{outcome_of};
 ghost use Rattle.mst_judged.specs.reasons.Reasons.{AreDepthReasons};
 
-use mst_forest::laws::nested;
 use mst_ids::{Name, Tree};
 use mst_judged::{BridgeNames, Child, Judged, Reason, children_of};
+use mst_roles::forest_laws::nested;
 use std::alloc::{AllocError, Global};
 
 /// The most steps of any of these bridges, and 0 where there is none.

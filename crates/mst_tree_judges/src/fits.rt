@@ -1,6 +1,6 @@
 ghost use Rattle.std.specs.Prelude.{◌≡◌, ◌++◌, IfOk, OnOk, filter_map, map};
 ghost use Rattle.mst_rows.specs.Rows.{cell};
-ghost use Rattle.mst_forest.specs.Settled.{outcome_of};
+ghost use Rattle.mst_roles.specs.forest.Settled.{outcome_of};
 ghost use Rattle.mst_judged.specs.reasons.Reasons.{AreFitsReasons, limit_in, limit_of, some_of, number_in as number_of, word_in as word_of};
 
 use mst_judged::note_text_laws::notes;

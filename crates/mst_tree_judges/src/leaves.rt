@@ -2,16 +2,16 @@ ghost use Rattle.std.specs.Prelude.{◌≡◌, ◌++◌, ◌∷◌, [], ℕ, Lis
 ghost use Rattle.std.specs.List.{flat_map};
 ghost use Rattle.indexmap.specs.IndexMap.{get};
 ghost use Rattle.mst_view.specs.Aggregation.{same_name};
-ghost use Rattle.mst_forest.specs.Settled.{outcome_of};
+ghost use Rattle.mst_roles.specs.forest.Settled.{outcome_of};
 ghost use Rattle.mst_judged.specs.reasons.Named.{named as named_in};
 ghost use Rattle.mst_judged.specs.reasons.Reasons.{AreLeafReasons, leaf_reason};
 ghost use Rattle.mst_tree_judges.specs.Seen.{names_at, is_child_of};
 
 use indexmap::IndexMap;
-use mst_forest::laws::nested;
 use mst_ids::{Name, Tree};
 use mst_judged::{BridgeNames, Child, Judged, Reason, children_of, named};
 use mst_policy::NameList;
+use mst_roles::forest_laws::nested;
 use mst_view::BridgeInView;
 use std::alloc::{AllocError, Global};
 

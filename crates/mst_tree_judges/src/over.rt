@@ -1,16 +1,16 @@
 ghost use Rattle.std.specs.Prelude.{◌≡◌, ◌+◌, ◌<◌, true, false, IfOk, filter, length, option_copied, vec_len};
 ghost use Rattle.std.specs.List.{All, AllZip, find};
 ghost use Rattle.mst_view.specs.Aggregation.{same_name};
-ghost use Rattle.mst_forest.specs.Settled.{outcome_of};
+ghost use Rattle.mst_roles.specs.forest.Settled.{outcome_of};
 ghost use Rattle.mst_judged.specs.reasons.summary.Seen.{seen_on, seen_over};
 ghost use Rattle.mst_judged.specs.Islands.{AreKept};
 ghost use Rattle.mst_judged.specs.reasons.Over.{is_lan, is_wrong as wrong_of, not_as_wanted};
 ghost use Rattle.mst_judged.specs.reasons.Reasons.{avoids_reason, carries_reason};
 ghost use Rattle.mst_tree_judges.specs.Seen.{seen_logical};
 
-use mst_forest::Settled;
 use mst_ids::{Name, Vid, VidSet};
 use mst_judged::{Judged, Reason, flagged, goes_over, set_of, vids_of};
+use mst_roles::Settled;
 use mst_view::{MemberLan, PortInView, View};
 use std::alloc::{AllocError, Global};
 

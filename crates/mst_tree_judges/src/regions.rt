@@ -1,15 +1,15 @@
 ghost use Rattle.std.specs.Prelude.{◌≡◌, IfOk, map, nat_eq, if◌then◌else◌, [], ◌∷◌, true};
 ghost use Rattle.std.specs.Map.{lookup};
 ghost use Rattle.mst_graph.specs.Groups.{AreGroups};
-ghost use Rattle.mst_forest.specs.config.Regions.{same_region};
+ghost use Rattle.mst_roles.specs.forest.config.Regions.{same_region};
 ghost use Rattle.mst_judged.specs.reasons.Named.{named as named_in};
 ghost use Rattle.mst_judged.specs.reasons.Reasons.{AreRegionReasons, has_two as has_two_of};
 
-use mst_forest::Settled;
 use mst_graph::groups;
 use mst_ids::Name;
 use mst_judged::{Judged, Parts, Reason, has_two, named};
 use mst_policy::NameList;
+use mst_roles::Settled;
 use mst_view::BridgeInView;
 use std::alloc::{AllocError, Global};
 

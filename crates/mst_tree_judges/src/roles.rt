@@ -2,17 +2,17 @@ ghost use Rattle.std.specs.Prelude.{◌≡◌, ◌++◌, not, ◌||◌, IfOk, On
 ghost use Rattle.mst_ids.specs.declared.name.PortName.{PortName as PortNameOf};
 ghost use Rattle.mst_view.specs.Viewed.{named_port};
 ghost use Rattle.mst_tables.specs.Tables.{Net, port_eq};
-ghost use Rattle.mst_forest.specs.Settled.{outcome_of};
+ghost use Rattle.mst_roles.specs.forest.Settled.{outcome_of};
 ghost use Rattle.mst_judged.specs.reasons.Named.{ports_named as ports_named_in};
 ghost use Rattle.mst_judged.specs.reasons.Holds.{is_wanted as is_wanted_of};
 ghost use Rattle.mst_judged.specs.reasons.Reasons.{same_role, all_roles as all_the_roles, role_reasons as reasons_of_roles};
 ghost use Rattle.mst_judged.specs.Seen.{IsBefore, seen_stopped, seen_ports_named};
 ghost use Rattle.mst_tree_judges.specs.Seen.{seen_with_role, seen_role_reason};
 
-use mst_forest::{Role, Settled, port_role};
 use mst_ids::{PortName, Tree};
 use mst_judged::{Before, Judged, PortNames, Reason};
 use mst_policy::{PortList, Roles};
+use mst_roles::{Role, Settled, port_role};
 use mst_view::PortInView;
 use std::alloc::{AllocError, Global};
 

@@ -4,8 +4,8 @@ ghost use Rattle.std.specs.Option.{option_copied, option_map, option_map_or};
 ghost use Rattle.indexmap.specs.IndexMap.{get};
 ghost use Rattle.mst_view.specs.Aggregation.{same_name};
 ghost use Rattle.mst_view.specs.Viewed.{named_bridge};
-ghost use Rattle.mst_forest.specs.config.Regions.{same_region};
-ghost use Rattle.mst_forest.specs.Settled.{outcome_of};
+ghost use Rattle.mst_roles.specs.forest.config.Regions.{same_region};
+ghost use Rattle.mst_roles.specs.forest.Settled.{outcome_of};
 ghost use Rattle.mst_graph.specs.Lists.{has_any};
 ghost use Rattle.mst_judged.specs.reasons.summary.Roots.{least as least_of};
 ghost use Rattle.mst_judged.specs.reasons.summary.declared.roots.Follower.{Follower as FollowerOf};
@@ -13,10 +13,10 @@ ghost use Rattle.mst_judged.specs.reasons.Reasons.{AreRootReasons, other_next as
 ghost use Rattle.mst_tree_judges.specs.Seen.{concerned_follower, concerned_followers, seen_other_root};
 
 use indexmap::IndexMap;
-use mst_forest::laws::nested;
-use mst_forest::{Settled, bridge_id};
 use mst_ids::{Name, Tree};
 use mst_judged::{Follower, Judged, Reason, as_follower, least};
+use mst_roles::forest_laws::nested;
+use mst_roles::{Settled, bridge_id};
 use mst_view::BridgeInView;
 use std::alloc::{AllocError, Global};
 

@@ -8,11 +8,11 @@ use Rattle.mst_graph.proofs.Members.{in_filter, from_filter}
 use Rattle.mst_net.specs.tables.Tables.{Net}
 use Rattle.mst_view.specs.Trees.{is_among}
 use Rattle.mst_view.specs.View.{LogicalPort}
-use Rattle.mst_forest.specs.Outcome.{Outcome}
-use Rattle.mst_forest.specs.Roles.{role_in}
-use Rattle.mst_forest.specs.declared.kind.Role.{Role}
-use Rattle.mst_forest.specs.declared.kind.Role.TheVariants.{Root, Designated, Alternate, Backup, Master, Disabled}
-use Rattle.mst_forest.specs.RoleNumbers.{role_number}
+use Rattle.mst_roles.specs.forest.Outcome.{Outcome}
+use Rattle.mst_roles.specs.Roles.{role_in}
+use Rattle.mst_roles.specs.declared.kind.Role.{Role}
+use Rattle.mst_roles.specs.declared.kind.Role.TheVariants.{Root, Designated, Alternate, Backup, Master, Disabled}
+use Rattle.mst_roles.specs.RoleNumbers.{role_number}
 use Rattle.mst_graph.specs.Lists.{has_any}
 use Rattle.mst_policy.specs.declared.expectation.Roles.{Roles}
 use Rattle.mst_island_judges.specs.judged.reasons.Named.{vids_in}

@@ -7,10 +7,10 @@ use Rattle.mst_graph.specs.Groups.{AreGroups, IsThinned, StandOnce, no_groups, o
 use Rattle.mst_graph.proofs.Members.{here, cases, in_none, in_whole, in_filter, passing, thinned_none}
 use Rattle.mst_graph.proofs.Unique as unique
 use Rattle.mst_net.specs.tables.Tables.{Net}
-use Rattle.mst_forest.specs.config.Regions.{same_region}
+use Rattle.mst_roles.specs.forest.config.Regions.{same_region}
 use Rattle.mst_view.specs.Aggregation.{same_name}
 use Rattle.mst_view.specs.Trees.{is_among}
-use Rattle.mst_forest.specs.Outcome.{Outcome}
+use Rattle.mst_roles.specs.forest.Outcome.{Outcome}
 use Rattle.mst_graph.specs.Lists.{has_any}
 use Rattle.mst_island_judges.specs.judged.reasons.sweep.vlan.Reach.{bridges_on}
 use Rattle.mst_island_judges.specs.judged.reasons.Named.{vids_in}

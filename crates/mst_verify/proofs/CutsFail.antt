@@ -16,9 +16,9 @@ use Rattle.mst_rows.specs.Rows.{Row}
 use Rattle.mst_view.specs.View.{bridge_names}
 use Rattle.mst_graph.specs.Lists.{has_any}
 use Rattle.mst_island_judges.specs.judged.reasons.sweep.vlan.classes.AllVids.{all_vids}
-use Rattle.mst_forest.specs.Outcome.{Outcome, IsOutcome}
+use Rattle.mst_roles.specs.forest.Outcome.{Outcome, IsOutcome}
 use Rattle.mst_island_judges.proofs.judged_lemmas.reasons_lemmas.sweep_lemmas.vlan_lemmas.classes_lemmas.VidPlaces.{is_vid_there}
-use Rattle.mst_forest.proofs.Lists.{kept_in, kept_from, some_is}
+use Rattle.mst_roles.proofs.forest_lemmas.Lists.{kept_in, kept_from, some_is}
 use Rattle.mst_island_judges.specs.judged.reasons.sweep.vlan.Reach.{AreIslandsOf, bridges_on}
 use Rattle.mst_island_judges.specs.judged.reasons.sweep.Cuts.{AreCuts}
 use Rattle.mst_island_judges.specs.judged.reasons.sweep.Failures.{edit_of, failures}

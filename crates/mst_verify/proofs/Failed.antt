@@ -18,9 +18,9 @@ use Rattle.mst_net.proofs.tables_lemmas.Changed.{get_changed}
 use Rattle.mst_net.proofs.tables_lemmas.Keys.{names}
 use Rattle.mst_view.specs.Aggregation.{plugs, same_name}
 use Rattle.mst_view.specs.View.{LogicalPort, IsUnrestricted, as_port, logical_port, view_ports}
-use Rattle.mst_forest.proofs.Entries.{entries_found}
-use Rattle.mst_forest.proofs.Lists.{all_contained, no_some, some_is}
-use Rattle.mst_forest.proofs.Views.{bridges_are, entry_there}
+use Rattle.mst_roles.proofs.forest_lemmas.Entries.{entries_found}
+use Rattle.mst_roles.proofs.forest_lemmas.Lists.{all_contained, no_some, some_is}
+use Rattle.mst_roles.proofs.forest_lemmas.Views.{bridges_are, entry_there}
 use Rattle.mst_island_judges.specs.judged.reasons.sweep.vlan.Reach.{bridges_on}
 use Rattle.mst_island_judges.specs.judged.reasons.sweep.Apart.{AllAreMembers}
 use Rattle.mst_island_judges.specs.judged.reasons.sweep.Failures.{edit_of, failures}

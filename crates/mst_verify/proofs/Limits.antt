@@ -10,8 +10,8 @@ use Rattle.mst_view.specs.View.{LogicalPort, view_ports}
 use Rattle.mst_net.specs.tables.Tables.{Net, BridgeRow}
 use Rattle.mst_vector.specs.declared.cist.CistVector.{CistVector}
 use Rattle.mst_vector.specs.declared.msti.MstiVector.{MstiVector}
-use Rattle.mst_forest.specs.Outcome.{Outcome}
-use Rattle.mst_forest.proofs.Lists.{all_contained}
+use Rattle.mst_roles.specs.forest.Outcome.{Outcome}
+use Rattle.mst_roles.proofs.forest_lemmas.Lists.{all_contained}
 use Rattle.mst_island_judges.specs.judged.reasons.note_text.AreDepths.{TreeDepths}
 use Rattle.mst_island_judges.specs.judged.reasons.note_text.NotesText.{hops_note, age_note, external_note, internal_note, greatest_cost, hops_notes, age_notes, cist_notes, msti_notes, bridge_notes, tree_notes, trees_notes, restricted_note, restricted_notes, AreNoteRows}
 use Rattle.mst_island_judges.specs.judged.reasons.Holds.{is_restricted, limit_notes, NoLimitBinds}

@@ -10,10 +10,10 @@ use Rattle.mst_policy.specs.declared.expectation.Expectation.{Expectation}
 use Rattle.mst_policy.specs.declared.expectation.Expectation.TheVariants as expect
 use Rattle.mst_rows.specs.Rows.{Row}
 use Rattle.mst_net.specs.tables.Tables.{Net, IsNetwork}
-use Rattle.mst_forest.specs.config.Regions.{same_region}
+use Rattle.mst_roles.specs.forest.config.Regions.{same_region}
 use Rattle.mst_graph.specs.Lists.{has_any}
-use Rattle.mst_forest.specs.nested.Trees.{IsSettled}
-use Rattle.mst_forest.specs.Outcome.{Outcome, trees_of}
+use Rattle.mst_roles.specs.forest.nested.Trees.{IsSettled}
+use Rattle.mst_roles.specs.forest.Outcome.{Outcome, trees_of}
 use Rattle.mst_island_judges.specs.judged.reasons.sweep.vlan.Reach.{bridges_on}
 use Rattle.mst_island_judges.specs.judged.reasons.note_text.Children.{HasSteps}
 use Rattle.mst_island_judges.specs.judged.reasons.note_text.Depths.{ParentIn}

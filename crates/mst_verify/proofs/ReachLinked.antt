@@ -10,8 +10,8 @@ use Rattle.mst_view.specs.Aggregation.{same_name}
 use Rattle.mst_view.specs.View.{IsUnrestricted}
 use Rattle.mst_graph.specs.Walks.{Node, Walk, bridge_at}
 use Rattle.mst_policy.specs.declared.item.NameItem.{NameItem}
-use Rattle.mst_forest.specs.Outcome.{Outcome, IsOutcome}
-use Rattle.mst_island_judges.specs.judged.reasons.sweep.vlan.Active.{active_ports, port_ends, IsEnabled}
+use Rattle.mst_roles.specs.forest.Outcome.{Outcome, IsOutcome}
+use Rattle.mst_roles.specs.Active.{active_ports, port_ends, IsEnabled}
 use Rattle.mst_island_judges.specs.judged.reasons.sweep.Failures.{edit_of, failures}
 use Rattle.mst_island_judges.specs.judged.reasons.sweep.declared.failure.Failure.{Failure}
 use Rattle.mst_island_judges.specs.judged.reasons.sweep.declared.failure.Failure.TheVariants.{Lan, Bridge}

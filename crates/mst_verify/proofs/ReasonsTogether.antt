@@ -7,7 +7,7 @@ use Rattle.mst_view.specs.Trees.{is_among}
 use Rattle.mst_policy.specs.declared.item.NameItem.{NameItem}
 use Rattle.mst_graph.specs.Lists.{has_any}
 use Rattle.mst_net.specs.tables.Tables.{Net}
-use Rattle.mst_forest.specs.Outcome.{Outcome}
+use Rattle.mst_roles.specs.forest.Outcome.{Outcome}
 use Rattle.mst_island_judges.specs.judged.reasons.sweep.vlan.Reach.{AreIslandsOf}
 use Rattle.mst_island_judges.specs.judged.reasons.sweep.Parts.{all_parts, staying, ArePartsOf}
 use Rattle.mst_island_judges.specs.judged.reasons.Holds.{StayTogether}

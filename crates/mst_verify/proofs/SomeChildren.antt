@@ -12,12 +12,12 @@ use Rattle.mst_island_judges.specs.judged.reasons.note_text.declared.children.Ch
 use Rattle.mst_island_judges.proofs.judged_lemmas.reasons_lemmas.note_text_lemmas.Regions.{msti_region, parent_sides}
 use Rattle.mst_island_judges.proofs.judged_lemmas.reasons_lemmas.note_text_lemmas.Tops.{external_depth, internal_depth}
 use Rattle.mst_net.specs.tables.Tables.{Net, IsNetwork}
-use Rattle.mst_forest.specs.nested.Trees.{HasTree, IsSettled, Trees}
-use Rattle.mst_forest.specs.Outcome.{Outcome, trees_of}
+use Rattle.mst_roles.specs.forest.nested.Trees.{HasTree, IsSettled, Trees}
+use Rattle.mst_roles.specs.forest.Outcome.{Outcome, trees_of}
 use Rattle.mst_vector.specs.declared.cist.CistVector.{CistVector}
 use Rattle.mst_vector.specs.declared.msti.MstiVector.{MstiVector}
-use Rattle.mst_forest.proofs.Lists.{no_some}
-use Rattle.mst_island_judges.proofs.judged_lemmas.reasons_lemmas.sweep_lemmas.vlan_lemmas.Names.{tests}
+use Rattle.mst_roles.proofs.forest_lemmas.Lists.{no_some}
+use Rattle.mst_roles.proofs.Names.{tests}
 use Rattle.mst_tree_judges.proofs.Keys.{tree_there}
 
 module _ (net : Net) (ok : IsNetwork net) (o : Outcome) (settled : IsSettled (trees_of net o)) where

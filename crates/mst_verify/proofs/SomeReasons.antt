@@ -5,7 +5,7 @@ use Rattle.std.specs.Cmp.Lexicographic.{bytes_decides}
 use Rattle.std.specs.FinMap as fin
 use Rattle.std.specs.List.{Contains, filter, filter_map, flat_map}
 use Rattle.std.proofs.lemmas.Bool.{eqb-true}
-use Rattle.mst_forest.proofs.config_lemmas.SameRegion as region
+use Rattle.mst_roles.proofs.forest_lemmas.config_lemmas.SameRegion as region
 use Rattle.mst_graph.specs.Groups.{AreGroups}
 use Rattle.mst_graph.specs.Islands.{AreJoined, Island, link_ends}
 use Rattle.mst_graph.specs.Walks.{bridge_at, stay}
@@ -19,9 +19,9 @@ use Rattle.mst_policy.specs.declared.expectation.Expectation.{Expectation}
 use Rattle.mst_policy.specs.declared.expectation.Expectation.TheVariants as expect
 use Rattle.mst_rows.specs.Rows.{Row}
 use Rattle.mst_net.specs.tables.Tables.{Net, IsNetwork}
-use Rattle.mst_forest.specs.config.Regions.{same_region}
-use Rattle.mst_forest.specs.nested.Trees.{IsSettled}
-use Rattle.mst_forest.specs.Outcome.{Outcome, trees_of}
+use Rattle.mst_roles.specs.forest.config.Regions.{same_region}
+use Rattle.mst_roles.specs.forest.nested.Trees.{IsSettled}
+use Rattle.mst_roles.specs.forest.Outcome.{Outcome, trees_of}
 use Rattle.mst_island_judges.specs.judged.reasons.sweep.vlan.Reach.{AreIslandsOf, bridges_on, vid_links}
 use Rattle.mst_island_judges.specs.judged.reasons.sweep.Parts.{home}
 use Rattle.mst_island_judges.proofs.judged_lemmas.reasons_lemmas.sweep_lemmas.Joined.{has_home, home_joined, home_on, joined_home}

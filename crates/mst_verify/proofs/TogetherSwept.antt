@@ -14,11 +14,11 @@ use Rattle.mst_net.specs.tables.After.{after}
 use Rattle.mst_net.specs.tables.Tables.{IsNetwork, Net}
 use Rattle.mst_policy.specs.declared.item.NameItem.TheVariants.{Any}
 use Rattle.mst_rows.specs.Rows.{Row}
-use Rattle.mst_forest.proofs.Pieces.{flat_map-flat_map}
+use Rattle.mst_roles.proofs.forest_lemmas.Pieces.{flat_map-flat_map}
 use Rattle.mst_view.specs.View.{bridge_names}
 use Rattle.mst_graph.specs.Lists.{has_any}
 use Rattle.mst_island_judges.specs.judged.reasons.sweep.vlan.classes.AllVids.{all_vids}
-use Rattle.mst_forest.specs.Outcome.{IsOutcome, Outcome}
+use Rattle.mst_roles.specs.forest.Outcome.{IsOutcome, Outcome}
 use Rattle.mst_island_judges.proofs.judged_lemmas.reasons_lemmas.sweep_lemmas.vlan_lemmas.classes_lemmas.VidPlaces.{is_vid_there}
 use Rattle.mst_island_judges.specs.judged.reasons.sweep.vlan.Reach.{AreIslandsOf}
 use Rattle.mst_island_judges.specs.judged.reasons.sweep.Cuts.{AreCuts, cut_row, group_rows, runs_of}

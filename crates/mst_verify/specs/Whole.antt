@@ -10,7 +10,7 @@ use Rattle.mst_policy.specs.declared.item.NameItem.TheVariants.{Any}
 use Rattle.mst_net.specs.tables.After.{after}
 use Rattle.mst_net.specs.tables.Tables.{Net, IsNetwork}
 use Rattle.mst_island_judges.specs.judged.reasons.sweep.vlan.classes.AllVids.{all_vids}
-use Rattle.mst_forest.specs.Outcome.{Outcome, IsOutcome}
+use Rattle.mst_roles.specs.forest.Outcome.{Outcome, IsOutcome}
 use Rattle.mst_island_judges.specs.judged.reasons.sweep.Cuts.{cut_row}
 use Rattle.mst_island_judges.specs.judged.reasons.sweep.declared.cuts.CutBy.TheVariants.{One}
 use Rattle.mst_island_judges.specs.judged.reasons.sweep.Failures.{edit_of, failures}

@@ -6,7 +6,7 @@ ghost use Rattle.mst_policy.specs.declared.expectation.Promise.{Promise as Promi
 ghost use Rattle.mst_policy.specs.declared.item.NameItem.{NameItem as ItemOf};
 ghost use Rattle.mst_rows.specs.Rows.{Row};
 ghost use Rattle.mst_net.specs.tables.Tables.{Net, IsNetwork};
-ghost use Rattle.mst_forest.specs.Outcome.{Outcome, IsOutcome};
+ghost use Rattle.mst_roles.specs.forest.Outcome.{Outcome, IsOutcome};
 ghost use Rattle.mst_island_judges.specs.judged.reasons.sweep.Cuts.{AreCuts};
 ghost use Rattle.mst_island_judges.specs.judged.reasons.sweep.Failures.{failures};
 ghost use Rattle.mst_island_judges.specs.judged.reasons.sweep.SweepText.{Told, IsTold};
@@ -20,10 +20,11 @@ ghost use Rattle.mst_island_judges.specs.judged.reasons.Reasons.{AreReasons, Has
 ghost use Rattle.mst_verify.specs.Whole.{AreAllVids, Fails, IsWhole, NoneIsCut, all_together, as_cut, reach_all};
 ghost use Rattle.mst_island_judges.specs.judged.reasons.declared.reason.Reason.{Reason as ReasonOf};
 
-use mst_forest::laws::{has_outcome, nested, one_outcome};
 use mst_island_judges::note_text_laws::notes;
-use mst_island_judges::vlan_laws::{islands_of_vid, joined_without_loop};
+use mst_island_judges::vlan_laws::islands_of_vid;
 use mst_net::laws::networks;
+use mst_roles::forest_laws::{has_outcome, nested, one_outcome};
+use mst_roles::laws::joined_without_loop;
 
 /// A reason is told exactly where an expectation doesn't hold.
 pub fn told_where_broken()

@@ -1,6 +1,6 @@
 ghost use Rattle.std.specs.Prelude.{IfOk, MatchOption, ⊤};
 ghost use Rattle.mst_net.specs.tables.Tables.{Net};
-ghost use Rattle.mst_forest.specs.Settled.{outcome_of};
+ghost use Rattle.mst_roles.specs.forest.Settled.{outcome_of};
 ghost use Rattle.mst_island_judges.specs.judged.Islands.{AreKept, IsBeside, IsKeptOf};
 ghost use Rattle.mst_island_judges.specs.judged.reasons.Named.{Prior};
 ghost use Rattle.mst_island_judges.specs.judged.reasons.Over.{HasItsLan};

@@ -5,8 +5,8 @@ use Rattle.std.specs.Option.{option_map}
 use Rattle.std.proofs.lemmas.Bool.{eqb-true}
 use Rattle.std.proofs.lemmas.List.{append-nil, take_more}
 use Rattle.std.proofs.lemmas.List.Elements.{filter_map-append}
-use Rattle.mst_forest.proofs.Lists.{all_contained, some_is}
-use Rattle.mst_forest.proofs.Looking.{first_found}
+use Rattle.mst_roles.proofs.forest_lemmas.Lists.{all_contained, some_is}
+use Rattle.mst_roles.proofs.forest_lemmas.Looking.{first_found}
 
 -- the things of a list and the numbers that they have: what is said of each is said of all
 pub by_number : {A W : Type 0} (has : A → Option ℕ) (f : ℕ → Option W) (g : A → W) (ns : List ℕ) (xs : List A) → map Some ns ≡ map has xs

@@ -4,25 +4,25 @@ use Rattle.std.specs.Prelude.{if◌then◌else◌, ◌↔◌}
 use Rattle.mst_ids.specs.declared.name.PortName.{PortName}
 use Rattle.mst_vector.specs.Msti.{msti_rules}
 use Rattle.mst_vector.specs.declared.cist.CistPort.{CistPort}
-use Rattle.mst_forest.specs.topology.Topology.{TreePort}
+use Rattle.mst_roles.specs.forest.topology.Topology.{TreePort}
 use Rattle.mst_graph.specs.Walks.{bridge_at, lan_at}
-use Rattle.mst_forest.specs.nested.Exits.{IsCrossing, IsExit}
-use Rattle.mst_forest.specs.nested.Roles.{Forwards}
-use Rattle.mst_forest.specs.nested.Trees.{IsSettled, SamePart, HasTree}
+use Rattle.mst_roles.specs.forest.nested.Exits.{IsCrossing, IsExit}
+use Rattle.mst_roles.specs.forest.nested.Roles.{Forwards}
+use Rattle.mst_roles.specs.forest.nested.Trees.{IsSettled, SamePart, HasTree}
 use Rattle.mst_tables.specs.Tables.{Net, IsNetwork}
 use Rattle.mst_tables.specs.ByTree.{by_tree}
 use Rattle.mst_view.specs.View.{LogicalPort, view_ports}
-use Rattle.mst_forest.specs.Msti.{msti_bridge, has_msti, msti_sight}
-use Rattle.mst_forest.specs.Outcome.{Outcome, trees_of}
-use Rattle.mst_forest.proofs.Lists.{no_some, all_contained}
-use Rattle.mst_forest.proofs.MstiTopology.{msti_is_sight}
-use Rattle.mst_forest.proofs.Sights.{bridge_in}
-use Rattle.mst_forest.proofs.Views.{IsPort, ports_are, row_on}
-use Rattle.mst_forest.specs.Roles.{cist_role, msti_role, role_in, forwards}
-use Rattle.mst_forest.specs.declared.kind.Role.{Role}
-use Rattle.mst_vlan.specs.Active.{IsEnabled}
-use Rattle.mst_vlan.proofs.ActiveLaw.{Forwarding, not_zero}
-use Rattle.mst_vlan.proofs.Plugs.{plug, enabled_plug}
+use Rattle.mst_roles.specs.forest.Msti.{msti_bridge, has_msti, msti_sight}
+use Rattle.mst_roles.specs.forest.Outcome.{Outcome, trees_of}
+use Rattle.mst_roles.proofs.forest_lemmas.Lists.{no_some, all_contained}
+use Rattle.mst_roles.proofs.forest_lemmas.MstiTopology.{msti_is_sight}
+use Rattle.mst_roles.proofs.forest_lemmas.Sights.{bridge_in}
+use Rattle.mst_roles.proofs.forest_lemmas.Views.{IsPort, ports_are, row_on}
+use Rattle.mst_roles.specs.Roles.{cist_role, msti_role, role_in, forwards}
+use Rattle.mst_roles.specs.declared.kind.Role.{Role}
+use Rattle.mst_roles.specs.Active.{IsEnabled}
+use Rattle.mst_roles.proofs.ActiveLaw.{Forwarding, not_zero}
+use Rattle.mst_roles.proofs.Plugs.{plug, enabled_plug}
 
 -- a port has a role in the trees of its bridge alone
 has_tree : (net : Net) (o : Outcome) → IsNetwork net → IsSettled (trees_of net o) → (p : LogicalPort) → IsEnabled net p → (tree : ℕ) (role : Role) → role_in net o tree p ≡ Some role → HasTree (trees_of net o) tree p.name.bridge

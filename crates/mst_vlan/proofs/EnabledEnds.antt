@@ -13,9 +13,9 @@ use Rattle.mst_tables.specs.Tables.{Net, BridgeRow, PortRow, IsNetwork, port_eq}
 use Rattle.mst_view.specs.Aggregation.{Plug, plug_of, plugs}
 use Rattle.mst_view.specs.View.{LogicalPort, logical_lan, logical_port, as_port, is_on, is_up, view_ports}
 use Rattle.mst_view.proofs.Names.{name_is, tied}
-use Rattle.mst_forest.proofs.Entries.{entries_found}
-use Rattle.mst_forest.proofs.Lists.{some_is, no_some, all_contained, kept_from}
-use Rattle.mst_forest.proofs.Views.{ports_total, entry_there, row_on}
+use Rattle.mst_roles.proofs.forest_lemmas.Entries.{entries_found}
+use Rattle.mst_roles.proofs.forest_lemmas.Lists.{some_is, no_some, all_contained, kept_from}
+use Rattle.mst_roles.proofs.forest_lemmas.Views.{ports_total, entry_there, row_on}
 use Rattle.mst_vlan.specs.Reach.{bridges_on, lans_up}
 use Rattle.mst_vlan.proofs.LogicalLans.{is_logical, up_there}
 

@@ -15,11 +15,11 @@ use Rattle.mst_tables.specs.Tables.{Net, BridgeRow, LanRow, IsNetwork}
 use Rattle.mst_view.specs.Aggregation.{same_name}
 use Rattle.mst_view.specs.View.{LogicalLan, as_lan, logical_lan, view_lans}
 use Rattle.mst_view.proofs.Names.{same_names}
-use Rattle.mst_forest.specs.Apart.{Apart}
-use Rattle.mst_forest.specs.Outcome.{Outcome}
-use Rattle.mst_forest.proofs.Entries.{entries_apart}
-use Rattle.mst_forest.proofs.Lists.{all_contained, apart_mapped, apart_filtered}
-use Rattle.mst_forest.proofs.Views.{bridges_rise, names_differ}
+use Rattle.mst_roles.specs.forest.Apart.{Apart}
+use Rattle.mst_roles.specs.forest.Outcome.{Outcome}
+use Rattle.mst_roles.proofs.forest_lemmas.Entries.{entries_apart}
+use Rattle.mst_roles.proofs.forest_lemmas.Lists.{all_contained, apart_mapped, apart_filtered}
+use Rattle.mst_roles.proofs.forest_lemmas.Views.{bridges_rise, names_differ}
 use Rattle.mst_vlan.specs.Reach.{bridges_on, lans_up, vid_links, AreIslandsOf}
 use Rattle.mst_vlan.proofs.Reached.{links_have}
 use Rattle.mst_vlan.proofs.Renumbered.{numbers_have, by_things}

@@ -1,10 +1,6 @@
-pub use Rattle.mst_forest.proofs as forest_lemmas
+pub use Rattle.mst_roles.proofs as roles_lemmas
+pub use Rattle.mst_roles.proofs.forest_lemmas as forest_lemmas
 pub use Rattle.mst_classes.proofs as classes_lemmas
-pub mod Names
-pub mod Carried
-pub mod Plugs
-pub mod VidTrees
-pub mod ActiveLaw
 pub mod LogicalLans
 pub mod EnabledEnds
 pub mod Renumbered

@@ -6,9 +6,9 @@ use Rattle.mst_graph.specs.Islands.{Link, Island, AreIslands, HaveEnds}
 use Rattle.mst_tables.specs.ByTree.{vlans_in}
 use Rattle.mst_view.specs.Viewed.{Viewed}
 use Rattle.mst_view.specs.declared.in_view.PortInView.{PortInView}
-use Rattle.mst_forest.specs.Forest.{Forest}
-use Rattle.mst_forest.specs.SeenRoles.{seen_forwards}
-use Rattle.mst_forest.specs.Agrees.{Known}
+use Rattle.mst_roles.specs.forest.Forest.{Forest}
+use Rattle.mst_roles.specs.SeenRoles.{seen_forwards}
+use Rattle.mst_roles.specs.forest.Agrees.{Known}
 use Rattle.mst_vlan.specs.Seen.{seen_member, seen_bridges, seen_lans, seen_links}
 use Rattle.mst_vlan.proofs.Listed.{seen_have}
 use Rattle.mst_vlan.specs.Carried.{ViewWithTrees, seen_is_link, names_of, CarryAlike}

@@ -14,16 +14,16 @@ use Rattle.mst_view.specs.View.{LogicalPort, view_ports}
 use Rattle.mst_view.specs.Viewed.{Viewed}
 use Rattle.mst_view.specs.declared.in_view.BridgeInView.{BridgeInView}
 use Rattle.mst_view.specs.declared.in_view.PortInView.{PortInView}
-use Rattle.mst_forest.specs.Agrees.{AreOf}
-use Rattle.mst_forest.specs.Outcome.{Outcome}
-use Rattle.mst_forest.specs.Forest.{Forest}
-use Rattle.mst_forest.proofs.Entries.{all_weaker}
-use Rattle.mst_forest.proofs.Lists.{all_contained, all_there}
-use Rattle.mst_forest.proofs.Looking.{filter_alike}
-use Rattle.mst_forest.proofs.Seen.{bridge_there, port_there}
-use Rattle.mst_forest.specs.Roles.{role_in, forwards, tree_of_vid, forwards_for}
+use Rattle.mst_roles.specs.forest.Agrees.{AreOf}
+use Rattle.mst_roles.specs.forest.Outcome.{Outcome}
+use Rattle.mst_roles.specs.forest.Forest.{Forest}
+use Rattle.mst_roles.proofs.forest_lemmas.Entries.{all_weaker}
+use Rattle.mst_roles.proofs.forest_lemmas.Lists.{all_contained, all_there}
+use Rattle.mst_roles.proofs.forest_lemmas.Looking.{filter_alike}
+use Rattle.mst_roles.proofs.forest_lemmas.Seen.{bridge_there, port_there}
+use Rattle.mst_roles.specs.Roles.{role_in, forwards, tree_of_vid, forwards_for}
 use Rattle.mst_classes.specs.Alike.{AreAlike}
-use Rattle.mst_vlan.specs.Active.{active_ports}
+use Rattle.mst_roles.specs.Active.{active_ports}
 use Rattle.mst_vlan.specs.Reach.{is_member, link_of, vid_links}
 
 module _ (net : Net) (numbers : Numbers) (v : Viewed) (f : Forest) (of : AreOf net numbers v f.regions) (o : Outcome) (x y : ℕ)

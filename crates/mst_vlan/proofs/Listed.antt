@@ -13,25 +13,24 @@ use Rattle.mst_tables.specs.Tables.{Net, Numbers, BridgeRow}
 use Rattle.mst_tables.specs.ByTree.{vlans_in}
 use Rattle.mst_tables.specs.Seen.{bridge_row}
 use Rattle.mst_view.specs.Trees.{is_among}
-use Rattle.mst_view.specs.View.{LogicalPort, LogicalLan}
+use Rattle.mst_view.specs.View.{LogicalLan}
 use Rattle.mst_view.specs.Viewed.{Viewed, named_bridge, named_port, named_lan}
 use Rattle.mst_view.specs.declared.in_view.BridgeInView.{BridgeInView}
 use Rattle.mst_view.specs.declared.in_view.PortInView.{PortInView}
 use Rattle.mst_view.specs.declared.in_view.LanInView.{LanInView}
-use Rattle.mst_forest.specs.Agrees.{AreOf}
-use Rattle.mst_forest.specs.Forest.{IsForest, Forest}
-use Rattle.mst_forest.specs.Seen.{trees_at}
-use Rattle.mst_forest.proofs.Entries.{all_weaker}
-use Rattle.mst_forest.proofs.Lists.{all_contained, filter_mapped}
-use Rattle.mst_forest.proofs.Looking.{filter_alike}
-use Rattle.mst_forest.proofs.Seen.{SeenPort, bridge_seen, ports_seen, port_seen, port_of_net}
-use Rattle.mst_forest.specs.Roles.{forwards, forwards_for}
-use Rattle.mst_forest.specs.SeenRoles.{seen_cist_role, seen_msti_role, seen_tree, seen_forwards}
-use Rattle.mst_forest.specs.declared.kind.Role.TheVariants.{Disabled}
-use Rattle.mst_forest.proofs.Forwarded.{each_forwards}
-use Rattle.mst_vlan.specs.Active.{active_ports}
+use Rattle.mst_roles.specs.forest.Agrees.{AreOf}
+use Rattle.mst_roles.specs.forest.Forest.{IsForest, Forest}
+use Rattle.mst_roles.specs.forest.Seen.{trees_at}
+use Rattle.mst_roles.proofs.forest_lemmas.Lists.{all_contained, filter_mapped}
+use Rattle.mst_roles.proofs.forest_lemmas.Seen.{bridge_seen, port_seen, port_of_net}
+use Rattle.mst_roles.specs.Roles.{forwards}
+use Rattle.mst_roles.specs.SeenRoles.{seen_cist_role, seen_msti_role, seen_tree, seen_forwards}
+use Rattle.mst_roles.specs.declared.kind.Role.TheVariants.{Disabled}
+use Rattle.mst_roles.proofs.ActiveListed.{active_listed, active_seen}
+use Rattle.mst_roles.specs.Active.{active_ports}
 use Rattle.mst_vlan.specs.Reach.{bridges_on, lans_up, is_member, link_of, vid_links}
-use Rattle.mst_vlan.specs.Seen.{seen_bridges, seen_lans, seen_member, seen_active, seen_link, seen_links}
+use Rattle.mst_vlan.specs.Seen.{seen_bridges, seen_lans, seen_member, seen_link, seen_links}
+use Rattle.mst_roles.specs.SeenActive.{seen_active}
 use Rattle.mst_vlan.proofs.EnabledEnds.{enabled_ends}
 use Rattle.mst_vlan.proofs.Renumbered.{all_members}
 
@@ -136,28 +135,11 @@ module _ (net : Net) (numbers : Numbers) (v : Viewed) (f : Forest) (of : AreOf n
             (subst (Contains (map (lan_no numbers) (lans_up net))) (ap (λ o. unwrap_or o 0) own.lan ∙ ap (λ (k : Link ℕ ℕ). k.lan) p.2) (in_map (lan_no numbers) (lans_up net) (p.0).lan ends.1)),
       ))
 
-  -- ---- active ports
+  -- ---- the links of active ports
   module _ (is : IsForest net numbers f) (vid : ℕ) where
-    pub active_listed : active_ports net is.outcome vid ≡ map named_port (seen_active v f vid)
-    active_listed =
-        ap (filter (forwards_for net is.outcome vid)) (sym of.view.ports) ∙ filter_mapped (forwards_for net is.outcome vid) named_port v.ports
-        ∙ ap (map named_port) (filter_alike (λ p. forwards_for net is.outcome vid (named_port p)) (seen_forwards v f vid) v.ports
-        (all_weaker (SeenPort net numbers) _ (λ p seen. sym (each_forwards net numbers v f of is vid p seen)) v.ports (ports_seen net numbers v of.view)))
-
-    active_seen : (p : PortInView) → Contains (seen_active v f vid) p → SeenPort net numbers p
-    active_seen p h = port_seen net numbers v of.view p (from_filter (seen_forwards v f vid) v.ports p h).0
-
-    pub active_numbers : map Some (map (λ (p : PortInView). p.number) (seen_active v f vid)) ≡ map (λ p. fin.get numbers.ports p.name) (active_ports net is.outcome vid)
-    active_numbers =
-        map_of_map Some (λ (p : PortInView). p.number) (seen_active v f vid)
-        ∙ kept_each (λ (p : PortInView). Some p.number) (λ p. fin.get numbers.ports p.name) (seen_active v f vid) (λ p h. sym (active_seen p h).has_numbers.port)
-        ∙ sym (map_of_map (λ (p : LogicalPort). fin.get numbers.ports p.name) named_port (seen_active v f vid))
-        ∙ ap (map (λ (p : LogicalPort). fin.get numbers.ports p.name)) (sym active_listed)
-
-    -- ---- and their links
     members_listed : filter (is_member net vid) (active_ports net is.outcome vid) ≡ map named_port (filter (seen_member v vid) (seen_active v f vid))
     members_listed =
-        ap (filter (is_member net vid)) active_listed ∙ filter_mapped (is_member net vid) named_port (seen_active v f vid)
+        ap (filter (is_member net vid)) (active_listed net numbers v f of is vid) ∙ filter_mapped (is_member net vid) named_port (seen_active v f vid)
         ∙ (λ i. map named_port (filter (λ p. has (vlans_in (sym of.view.settings i).vlans p.name) vid) (seen_active v f vid)))
 
     pub links_are : map (link_by (bridge_no numbers) (lan_no numbers)) (vid_links net is.outcome vid) ≡ seen_links v f vid
@@ -168,7 +150,7 @@ module _ (net : Net) (numbers : Numbers) (v : Viewed) (f : Forest) (of : AreOf n
         ∙ map_of_map (link_by (bridge_no numbers) (lan_no numbers)) (λ p. link_of (named_port p)) members
         ∙ kept_each (λ p. link_by (bridge_no numbers) (lan_no numbers) (link_of (named_port p))) seen_link members
         (λ p h.
-        let own = (active_seen p (from_filter (seen_member v vid) (seen_active v f vid) p h).0).has_numbers in
+        let own = (active_seen net numbers v f of is vid p (from_filter (seen_member v vid) (seen_active v f vid) p h).0).has_numbers in
         let bridge : bridge_no numbers p.name.bridge ≡ p.bridge = ap (λ o. unwrap_or o 0) own.bridge in
         let lan : lan_no numbers p.lan ≡ p.lan_number = ap (λ o. unwrap_or o 0) own.lan in
         λ i. record { bridge = bridge i; lan = lan i })

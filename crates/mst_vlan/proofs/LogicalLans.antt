@@ -15,7 +15,7 @@ use Rattle.mst_lag.specs.declared.classes.Class.{Class}
 use Rattle.mst_view.proofs.Lists.{some_is, no_some, all_of, find_same, found_passes}
 use Rattle.mst_view.proofs.Names.{same_names}
 use Rattle.mst_lag.proofs.Sides.{lan_sides_in_order, same_class}
-use Rattle.mst_forest.proofs.Looking.{IsFirst, first_found}
+use Rattle.mst_roles.proofs.forest_lemmas.Looking.{IsFirst, first_found}
 use Rattle.mst_vlan.specs.Reach.{lans_up}
 
 -- equal classes are one

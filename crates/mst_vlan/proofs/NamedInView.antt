@@ -8,9 +8,9 @@ use Rattle.mst_view.specs.View.{LogicalLan, view_lans}
 use Rattle.mst_view.specs.Viewed.{Viewed, named_bridge, named_lan}
 use Rattle.mst_view.specs.declared.in_view.BridgeInView.{BridgeInView}
 use Rattle.mst_view.specs.declared.in_view.LanInView.{LanInView}
-use Rattle.mst_forest.specs.Agrees.{AreOf}
-use Rattle.mst_forest.specs.Forest.{Forest}
-use Rattle.mst_forest.proofs.Lists.{contains_unmapped}
+use Rattle.mst_roles.specs.forest.Agrees.{AreOf}
+use Rattle.mst_roles.specs.forest.Forest.{Forest}
+use Rattle.mst_roles.proofs.forest_lemmas.Lists.{contains_unmapped}
 use Rattle.mst_vlan.specs.Reach.{bridges_on, lans_up}
 use Rattle.mst_vlan.specs.Seen.{seen_bridge, seen_lan}
 use Rattle.mst_vlan.proofs.ByNumber.{named_at}

@@ -2,7 +2,7 @@
 use Rattle.std.proofs.Common.{◌≡◌, ℕ, List}
 use Rattle.mst_graph.specs.Islands.{Island}
 use Rattle.mst_tables.specs.Tables.{Net}
-use Rattle.mst_forest.specs.Outcome.{Outcome}
+use Rattle.mst_roles.specs.forest.Outcome.{Outcome}
 use Rattle.mst_vlan.specs.Reach.{AreIslandsOf}
 
 -- there is one list of the islands of a VID

@@ -9,15 +9,15 @@ use Rattle.mst_graph.proofs.Splits.{kept_each, map_of_map}
 use Rattle.mst_tables.specs.Tables.{Net, Numbers, IsNetwork}
 use Rattle.mst_view.specs.View.{view_ports}
 use Rattle.mst_view.specs.Viewed.{Viewed}
-use Rattle.mst_forest.specs.Outcome.{Outcome}
-use Rattle.mst_forest.specs.Agrees.{AreOf}
-use Rattle.mst_forest.specs.Forest.{IsForest, Forest}
-use Rattle.mst_forest.specs.Roles.{forwards_for}
-use Rattle.mst_vlan.specs.Active.{active_ports}
+use Rattle.mst_roles.specs.forest.Outcome.{Outcome}
+use Rattle.mst_roles.specs.forest.Agrees.{AreOf}
+use Rattle.mst_roles.specs.forest.Forest.{IsForest, Forest}
+use Rattle.mst_roles.specs.Roles.{forwards_for}
+use Rattle.mst_roles.specs.Active.{active_ports}
 use Rattle.mst_vlan.specs.Reach.{bridges_on, lans_up, is_member, link_of, vid_links, AreReached}
 use Rattle.mst_vlan.specs.Seen.{seen_bridges, seen_lans, seen_links, as_island}
 use Rattle.mst_vlan.specs.declared.island.Island.{Island as IslandNos}
-use Rattle.mst_vlan.proofs.ActiveLaw.{active_enabled}
+use Rattle.mst_roles.proofs.ActiveLaw.{active_enabled}
 use Rattle.mst_vlan.proofs.EnabledEnds.{enabled_ends}
 use Rattle.mst_vlan.proofs.Listed.{bridge_no, lan_no, bridges_are, lans_are, links_are, bridge_has, lan_has, bridges_apart, lans_apart}
 use Rattle.mst_vlan.proofs.Renumbered.{all_members, number_back, by_things, bridge_of, lan_of, bridge_listed, lan_listed}

@@ -9,7 +9,7 @@ use Rattle.mst_graph.specs.Renaming.{KeepApart, link_by, island_by}
 use Rattle.mst_graph.proofs.ByKeys.{by_keys}
 use Rattle.mst_graph.proofs.Members.{in_map, from_map, in_whole}
 use Rattle.mst_graph.proofs.Splits.{kept_each, map_of_map}
-use Rattle.mst_forest.proofs.Looking.{first_found}
+use Rattle.mst_roles.proofs.forest_lemmas.Looking.{first_found}
 
 unchanged : {A : Type 0} (xs : List A) → map (λ x. x) xs ≡ xs
 unchanged [] = refl

@@ -12,11 +12,11 @@ use Rattle.mst_tables.specs.Table.{tree_in}
 use Rattle.mst_view.specs.Viewed.{Viewed}
 use Rattle.mst_view.specs.declared.in_view.BridgeInView.{BridgeInView}
 use Rattle.mst_classes.specs.Alike.{AreAlike, TellApart}
-use Rattle.mst_forest.specs.Forest.{Forest}
-use Rattle.mst_forest.specs.Roles.{forwards}
-use Rattle.mst_forest.specs.SeenRoles.{seen_role, seen_tree}
-use Rattle.mst_forest.proofs.Entries.{all_weaker}
-use Rattle.mst_forest.proofs.Lists.{all_contained}
+use Rattle.mst_roles.specs.forest.Forest.{Forest}
+use Rattle.mst_roles.specs.Roles.{forwards}
+use Rattle.mst_roles.specs.SeenRoles.{seen_role, seen_tree}
+use Rattle.mst_roles.proofs.forest_lemmas.Entries.{all_weaker}
+use Rattle.mst_roles.proofs.forest_lemmas.Lists.{all_contained}
 use Rattle.mst_vlan.specs.Kept.{seen_row, HaveRows}
 
 -- what is found has one value, where each thing has

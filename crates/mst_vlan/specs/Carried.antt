@@ -3,10 +3,11 @@ use Rattle.std.specs.Prelude.{◌≡◌, ℕ, ◌+◌, ◌<◌, ◌&&◌, Bool, 
 use Rattle.mst_ids.specs.declared.name.PortName.{PortName}
 use Rattle.mst_view.specs.Viewed.{Viewed}
 use Rattle.mst_view.specs.declared.in_view.PortInView.{PortInView}
-use Rattle.mst_forest.specs.Forest.{Forest}
-use Rattle.mst_forest.specs.SeenRoles.{seen_forwards}
-use Rattle.mst_vlan.specs.Seen.{seen_member, seen_active}
-use Rattle.mst_forest.specs.Settled.{SettledNet}
+use Rattle.mst_roles.specs.forest.Forest.{Forest}
+use Rattle.mst_roles.specs.SeenRoles.{seen_forwards}
+use Rattle.mst_vlan.specs.Seen.{seen_member}
+use Rattle.mst_roles.specs.SeenActive.{seen_active}
+use Rattle.mst_roles.specs.forest.Settled.{SettledNet}
 
 -- a view of a network with its trees
 pub record ViewWithTrees : Type 0 where

@@ -3,9 +3,9 @@ use Rattle.std.specs.Prelude.{◌≡◌, ℕ, ◌+◌, ◌<◌, ◌&&◌, Bool, 
 use Rattle.mst_ids.specs.Vids.{has}
 use Rattle.mst_tables.specs.ByTree.{vlans_in}
 use Rattle.mst_view.specs.Viewed.{Viewed}
-use Rattle.mst_forest.specs.Agrees.{Known}
-use Rattle.mst_forest.specs.Forest.{Forest}
-use Rattle.mst_forest.specs.SeenRoles.{seen_forwards}
+use Rattle.mst_roles.specs.forest.Agrees.{Known}
+use Rattle.mst_roles.specs.forest.Forest.{Forest}
+use Rattle.mst_roles.specs.SeenRoles.{seen_forwards}
 use Rattle.mst_vlan.specs.Seen.{seen_bridges, seen_lans}
 
 -- the set of VLANs of each port

@@ -6,8 +6,8 @@ use Rattle.mst_graph.specs.Islands.{Link, Island, AreIslands}
 use Rattle.mst_tables.specs.Tables.{Net, Numbers}
 use Rattle.mst_tables.specs.ByTree.{by_tree, vlans_in}
 use Rattle.mst_view.specs.View.{LogicalPort, view_lans}
-use Rattle.mst_forest.specs.Outcome.{Outcome}
-use Rattle.mst_vlan.specs.Active.{active_ports}
+use Rattle.mst_roles.specs.forest.Outcome.{Outcome}
+use Rattle.mst_roles.specs.Active.{active_ports}
 use Rattle.mst_vlan.specs.declared.island.Island.{Island as IslandNos}
 
 -- the bridges that are on and the logical LANs that are up, in byte order of names

@@ -8,9 +8,9 @@ use Rattle.mst_tables.specs.ByTree.{vlans_in}
 use Rattle.mst_tables.specs.Seen.{bridge_row}
 use Rattle.mst_view.specs.Viewed.{Viewed}
 use Rattle.mst_view.specs.declared.in_view.PortInView.{PortInView}
-use Rattle.mst_forest.specs.Forest.{Forest}
-use Rattle.mst_forest.specs.SeenRoles.{seen_forwards}
+use Rattle.mst_roles.specs.forest.Forest.{Forest}
 use Rattle.mst_vlan.specs.declared.island.Island.{Island as IslandNos}
+use Rattle.mst_roles.specs.SeenActive.{seen_active}
 
 -- the bridges that are on, and the logical LANs that are up
 abbrev pub seen_bridges : Viewed → List ℕ
@@ -22,10 +22,6 @@ seen_lans v = map (λ l. l.number) (filter (λ l. l.is_up) v.lans)
 -- the logical port is a member of the VLAN
 abbrev pub seen_member : Viewed → ℕ → PortInView → Bool
 seen_member v vid p = has (vlans_in v.settings.vlans p.name) vid
-
--- the active ports, and the links of those that are members
-abbrev pub seen_active : Viewed → Forest → ℕ → List PortInView
-seen_active v f vid = filter (seen_forwards v f vid) v.ports
 
 abbrev pub seen_link : PortInView → Link ℕ ℕ
 seen_link p = record { bridge = p.bridge; lan = p.lan_number }

@@ -1,9 +1,9 @@
 use crate::island::Island;
 use crate::reaching::{bridges_on, islands_of, lans_up};
 use crate::rows::{Rows, is_link, vlan_sets};
-use mst_forest::Forest;
 use mst_graph::Link;
 use mst_ids::{BridgeNo, LanNo, Name, PortName, Vid, VidSet};
+use mst_roles::Forest;
 use mst_view::View;
 use std::alloc::{AllocError, Global};
 use std::marker::Model;
@@ -41,8 +41,8 @@ impl<'a> Model for Carriage<'a> {
 impl<'a> Carriage<'a> {
     ghost use Rattle.std.specs.Prelude.{◌≡◌, ◌<◌, IfOk, false, length, map, slice_index_or};
     ghost use Rattle.mst_tables.specs.Tables.{Net, Numbers};
-    ghost use Rattle.mst_forest.specs.Agrees.{AreOf, Known};
-    ghost use Rattle.mst_forest.specs.Forest.{IsForest};
+    ghost use Rattle.mst_roles.specs.forest.Agrees.{AreOf, Known};
+    ghost use Rattle.mst_roles.specs.forest.Forest.{IsForest};
     ghost use Rattle.mst_vlan.specs.Reach.{AreReached};
     ghost use Rattle.mst_vlan.specs.Seen.{seen_links};
     ghost use Rattle.mst_vlan.specs.Carried.{seen_is_link, seen_carried};

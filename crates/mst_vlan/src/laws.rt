@@ -2,48 +2,35 @@
 //! nothing: a caller has their clauses. With a port whose role is restricted the active ports may leave apart what is
 //! enabled, and may make a loop; the laws that need it ask that there is none (`IsUnrestricted`).
 ghost use Rattle.std.specs.Prelude.{◌≡◌, ◌⊎◌, ◌↔◌, ℕ, suc, true, List, Some};
-ghost use Rattle.std.specs.List.{Contains};
 ghost use Rattle.mst_ids.specs.declared.name.PortName.{PortName as PortKey};
 ghost use Rattle.mst_vector.specs.declared.cist.CistBridge.{CistBridge};
 ghost use Rattle.mst_vector.specs.declared.cist.CistPort.{CistPort};
 ghost use Rattle.mst_vector.specs.declared.cist.CistVector.{CistVector};
 ghost use Rattle.mst_vector.specs.declared.msti.MstiVector.{MstiVector};
-ghost use Rattle.mst_forest.specs.topology.Topology.{TreePort, HasBridge};
+ghost use Rattle.mst_roles.specs.forest.topology.Topology.{TreePort, HasBridge};
 ghost use Rattle.mst_graph.specs.Islands.{Island};
 ghost use Rattle.mst_graph.specs.Joined.{HasNoLoop};
 ghost use Rattle.mst_graph.specs.Walks.{Node, Walk, bridge_at, lan_at};
-ghost use Rattle.mst_forest.specs.nested.Exits.{IsCrossing, IsExit, HoldsRoot, HasOneExit};
-ghost use Rattle.mst_forest.specs.nested.Parts.{SameRoots, HasRoot, HasRegionalRoot, HasMstiRoot};
-ghost use Rattle.mst_forest.specs.nested.Ports.{port_ends as plug_ends};
-ghost use Rattle.mst_forest.specs.nested.Roles.{Forwards, ForwardsInside};
-ghost use Rattle.mst_forest.specs.nested.Trees.{SamePart, SameRegion, HasTree};
+ghost use Rattle.mst_roles.specs.forest.nested.Exits.{IsCrossing, IsExit, HoldsRoot, HasOneExit};
+ghost use Rattle.mst_roles.specs.forest.nested.Parts.{SameRoots, HasRoot, HasRegionalRoot, HasMstiRoot};
+ghost use Rattle.mst_roles.specs.forest.nested.Ports.{port_ends as plug_ends};
+ghost use Rattle.mst_roles.specs.forest.nested.Roles.{Forwards, ForwardsInside};
+ghost use Rattle.mst_roles.specs.forest.nested.Trees.{SamePart, SameRegion, HasTree};
 ghost use Rattle.mst_tables.specs.Tables.{Net, IsNetwork};
 ghost use Rattle.mst_tables.specs.ByTree.{by_tree};
 ghost use Rattle.mst_view.specs.View.{LogicalPort, IsUnrestricted};
-ghost use Rattle.mst_forest.specs.Cist.{cist_of, cist_port};
-ghost use Rattle.mst_forest.specs.Sight.{tree_port};
-ghost use Rattle.mst_forest.specs.Outcome.{Outcome, IsOutcome, trees_of};
-ghost use Rattle.mst_forest.specs.Roles.{role_in, forwards};
-ghost use Rattle.mst_forest.specs.declared.kind.Role.{Role as RoleOf};
-ghost use Rattle.mst_vlan.specs.Active.{active_ports, port_ends, IsEnabled, JoinWithoutLoop};
+ghost use Rattle.mst_roles.specs.forest.Cist.{cist_of, cist_port};
+ghost use Rattle.mst_roles.specs.forest.Sight.{tree_port};
+ghost use Rattle.mst_roles.specs.forest.Outcome.{Outcome, IsOutcome, trees_of};
+ghost use Rattle.mst_roles.specs.Roles.{role_in, forwards};
+ghost use Rattle.mst_roles.specs.declared.kind.Role.{Role as RoleOf};
+ghost use Rattle.mst_roles.specs.Active.{IsEnabled};
 ghost use Rattle.mst_vlan.specs.Reach.{AreIslandsOf};
 
-use mst_forest::laws::{forwarding, nested};
-use mst_forest::nested_laws as laws;
 use mst_ids::{Name, PortName};
-
-/// Where no logical port's role is restricted, the active ports of a VID join what is enabled and make no loop, whatever
-/// trees the regions map the VID to: a
-/// walk of active ports links the two ends of every enabled port, and so whatever enabled ports link, and no walk of
-/// the other active ports links the two ends of an active one.
-pub fn joined_without_loop()
-    ensures active { (net : Net) (o : Outcome) (vid : ℕ) → IsNetwork net → IsOutcome net o → IsUnrestricted net → JoinWithoutLoop net (active_ports net o vid) }
-    ensures sets { (net : Net) (o : Outcome) (vid : ℕ) → IsNetwork net → IsOutcome net o → IsUnrestricted net → (x y : Node (List ℕ) (List ℕ)) → Walk port_ends (IsEnabled net) x y → Walk port_ends (Contains (active_ports net o vid)) x y }
-{
-    nested();
-    forwarding();
-    laws::active::<Name, Name, PortName>();
-}
+use mst_roles::forest_laws::nested;
+use mst_roles::laws::forwarding;
+use mst_roles::nested_laws as laws;
 
 /// A network has a list of the islands of a VID, one only.
 pub fn islands_of_vid()

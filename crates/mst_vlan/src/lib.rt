@@ -9,16 +9,15 @@ pub mod laws;
 mod named;
 mod reaching;
 mod rows;
-mod topology;
 
 pub use carriage::Carriage;
 pub use comparing::differing;
 pub use island::{BridgeList, Island, LanList, has_bridge};
 pub use mst_classes::{classes_of_both, classes_of_vids, flagged, set_of, vids};
-pub use mst_forest::{
-    Forest, Regions, Role, Settled, bridge_id, cist_port, digest, is_had, laws as forest_laws,
-    msti_port, mstis_in_use, port_forwards, port_role, role_of, trees_in_use,
+pub use mst_roles::{
+    Forest, Regions, Role, Settled, active_ports, bridge_id, cist_port, digest, forest_laws,
+    is_had, laws as roles_laws, msti_port, mstis_in_use, port_forwards, port_role, role_of,
+    trees_in_use,
 };
 pub use named::{bridge_names, lan_names};
 pub use reaching::{bridges_on, is_member, islands_of, lans_up, reach, reach_from};
-pub use topology::{active, active_ports, forwarding};

@@ -2,17 +2,17 @@ ghost use Rattle.std.specs.Prelude.{◌≡◌, IfOk, map, filter};
 ghost use Rattle.mst_graph.specs.Islands.{AreIslands, HaveEnds};
 ghost use Rattle.mst_ids.specs.Vids.{has};
 ghost use Rattle.mst_tables.specs.Tables.{Net, Numbers};
-ghost use Rattle.mst_forest.specs.Agrees.{AreOf, Known};
-ghost use Rattle.mst_forest.specs.Forest.{IsForest};
-ghost use Rattle.mst_forest.specs.Settled.{outcome_of};
+ghost use Rattle.mst_roles.specs.forest.Agrees.{AreOf, Known};
+ghost use Rattle.mst_roles.specs.forest.Forest.{IsForest};
+ghost use Rattle.mst_roles.specs.forest.Settled.{outcome_of};
 ghost use Rattle.mst_vlan.specs.Reach.{AreReached};
-ghost use Rattle.mst_vlan.specs.Seen.{seen_active, seen_bridges, seen_lans, seen_link, seen_member, seen_links, as_island};
+ghost use Rattle.mst_roles.specs.SeenActive.{seen_active};
+ghost use Rattle.mst_vlan.specs.Seen.{seen_bridges, seen_lans, seen_link, seen_member, seen_links, as_island};
 
 use crate::island::{BridgeList, Island, LanList};
-use crate::topology::forwarding_ports;
-use mst_forest::{Forest, Settled};
 use mst_graph::{Link, islands};
 use mst_ids::{BridgeNo, LanNo, Vid};
+use mst_roles::{Forest, Settled, forwarding_ports};
 use mst_view::{PortInView, View};
 use std::alloc::{AllocError, Global};
 

@@ -2,11 +2,10 @@ ghost use Rattle.std.specs.Prelude.{◌≡◌, ◌+◌, ◌<◌, length, map, If
 ghost use Rattle.std.specs.List.{All};
 ghost use Rattle.mst_vlan.specs.Kept.{seen_vlans, seen_row, link_at, HaveRows};
 
-use crate::topology::forwarding;
 use mst_classes::classes_by_tables;
-use mst_forest::Forest;
 use mst_graph::Numbering;
 use mst_ids::{Vid, VidSet};
+use mst_roles::{Forest, forwarding};
 use mst_view::View;
 use std::alloc::{AllocError, Global};
 

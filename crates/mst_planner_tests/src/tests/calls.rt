@@ -5,13 +5,15 @@ use super::lines::planner_of;
 use super::repairs::{EACH_ITS_OWN_REGION, TRIANGLE};
 use mst_bpdu::read_line;
 use mst_compare::compare;
-use mst_forest::{Bridges, ByNumber, Forest, Role, Topology, Wiring, forwards, regions_of, role};
 use mst_graph::laws as graph_laws;
 use mst_ids::{BridgeId, BridgeNo, Tree, Vid};
 use mst_kinds::{Kind, TreeLine};
 use mst_lag::view;
 use mst_net::{Contents, Network, laws as net_laws};
-use mst_report::{Settler, active, forest_of};
+use mst_report::{Settler, forest_of};
+use mst_roles::{
+    Bridges, ByNumber, Forest, Role, Topology, Wiring, active, forwards, regions_of, role,
+};
 use mst_rows::{Counts, Value, put};
 use mst_vector::{CistBridge, CistMetric};
 use mst_view::View;

@@ -4,9 +4,9 @@
 use super::lines::planner_of;
 use hex::encode;
 use md5::{Digest, Md5};
-use mst_forest::{hmac_md5, mcid};
 use mst_ids::{ConfName, Name};
 use mst_net::{Contents, Table};
+use mst_roles::{hmac_md5, mcid};
 use std::alloc::{AllocError, Global};
 use std::test::Fail;
 

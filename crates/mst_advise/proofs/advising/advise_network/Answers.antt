@@ -1,7 +1,7 @@
 use Rattle.std.proofs.Common.{◌≡◌, ◌∙◌, ◌∷◌, [], List, ap, map, refl, sym, subst, true≢false}
 use Rattle.std.proofs.lemmas.Result.{IfOk-weaker}
-use Rattle.mst_forest.specs.Outcome.{IsOutcome}
-use Rattle.mst_forest.specs.Settled.{SettledNet, outcome_of}
+use Rattle.mst_roles.specs.forest.Outcome.{IsOutcome}
+use Rattle.mst_roles.specs.forest.Settled.{SettledNet, outcome_of}
 use Rattle.mst_advise.specs.Candidates.{AreCandidates}
 use Rattle.mst_advise.specs.Costs.{port_named}
 use Rattle.mst_advise.specs.Hindrances.{hindrance_of}

@@ -1,6 +1,6 @@
 use Rattle.std.proofs.Common.{◌≡◌, ◌++◌, ◌∷◌, [], List, length, map, refl, sym, subst, true≢false, ◌∙◌, inr}
 use Rattle.mst_rows.specs.Rows.{Row}
-use Rattle.mst_forest.specs.Settled.{outcome_of}
+use Rattle.mst_roles.specs.forest.Settled.{outcome_of}
 use Rattle.mst_advise.specs.Told.{count_row, setting_row}
 use Rattle.mst_advise.specs.Made.{Has}
 use Rattle.mst_advise.proofs.Tried.{none_put, put_then}

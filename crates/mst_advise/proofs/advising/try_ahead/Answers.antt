@@ -2,7 +2,7 @@ use Rattle.std.proofs.Common.{◌≡◌, List, Ok, ap, subst, sym, ◌∙◌}
 use Rattle.std.proofs.lemmas.Result.{IfOk-weaker}
 use Rattle.mst_net.specs.tables.Contents.{ahead_of}
 use Rattle.mst_rows.specs.Rows.{Row}
-use Rattle.mst_forest.specs.Settled.{SettledNet}
+use Rattle.mst_roles.specs.forest.Settled.{SettledNet}
 use Rattle.mst_advise.specs.Made.{after_settings}
 use Rattle.mst_advise.specs.Advising.{Tries}
 use Rattle.mst_sweeping.specs.Sweeping.{Puts}

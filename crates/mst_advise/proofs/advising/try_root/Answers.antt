@@ -1,6 +1,6 @@
 use Rattle.std.proofs.Common.{[], true, false, List, Ok, refl, ap, subst, sym, ◌∙◌, inl, inr}
 use Rattle.mst_rows.specs.Rows.{Row}
-use Rattle.mst_forest.specs.Settled.{SettledNet, outcome_of}
+use Rattle.mst_roles.specs.forest.Settled.{SettledNet, outcome_of}
 use Rattle.mst_advise.specs.declared.goal.Goal.TheVariants.{Root}
 use Rattle.mst_advise.specs.Advising.{LeaveApart, Tries}
 use Rattle.mst_sweeping.specs.Sweeping.{Puts}

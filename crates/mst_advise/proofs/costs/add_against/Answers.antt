@@ -3,7 +3,7 @@ use Rattle.std.specs.Option.{option_copied, option_map_or}
 use Rattle.std.proofs.lemmas.Result.{on_ok_weaker}
 use Rattle.mst_view.specs.View.{LogicalPort}
 use Rattle.mst_view.specs.Viewed.{named_port}
-use Rattle.mst_forest.specs.Settled.{outcome_of}
+use Rattle.mst_roles.specs.forest.Settled.{outcome_of}
 use Rattle.mst_advise.specs.Costs.{costs_against, higher_costs, lower_costs, port_named}
 use Rattle.mst_advise.specs.declared.setting.Setting.{Setting}
 use Rattle.mst_advise.proofs.PortsNamed.{port_is_named, port_is_there}

@@ -1,7 +1,7 @@
 use Rattle.std.proofs.Common.{◌∙◌}
-use Rattle.mst_forest.specs.outcome.Assignment.{designated_of}
-use Rattle.mst_forest.specs.Seen.{seen_internal}
-use Rattle.mst_forest.proofs.Seen.{port_seen}
+use Rattle.mst_roles.specs.forest.outcome.Assignment.{designated_of}
+use Rattle.mst_roles.specs.forest.Seen.{seen_internal}
+use Rattle.mst_roles.proofs.forest_lemmas.Seen.{port_seen}
 use Rattle.mst_explain.proofs.Planned.{internal_is}
 use Rattle.mst_advise.proofs.costs.is_inner.Goals as goal
 

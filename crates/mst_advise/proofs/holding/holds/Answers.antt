@@ -1,6 +1,6 @@
 use Rattle.std.proofs.Common.{None, sym, subst}
 use Rattle.std.specs.Prelude.{◌↔◌, IfOk, IsTrue}
-use Rattle.mst_forest.specs.Settled.{outcome_of}
+use Rattle.mst_roles.specs.forest.Settled.{outcome_of}
 use Rattle.mst_verify.specs.tree_judges.judged.reasons.Holds.{Holds}
 use Rattle.mst_advise.specs.Goals.{expectation_of}
 use Rattle.mst_advise.specs.declared.goal.Goal.{Goal}

@@ -1,6 +1,6 @@
 use Rattle.std.proofs.Common.{◌≡◌, Bool, true, false, true≢false, not, List, None, refl, sym, ap, ◌∙◌}
 use Rattle.mst_policy.specs.declared.expectation.Expectation.TheVariants as expect
-use Rattle.mst_forest.specs.Settled.{outcome_of}
+use Rattle.mst_roles.specs.forest.Settled.{outcome_of}
 use Rattle.mst_graph.specs.Lists.{has_any}
 use Rattle.mst_verify.specs.tree_judges.judged.reasons.declared.reason.Reason.{Reason}
 use Rattle.mst_verify.proofs.tree_judges_lemmas.judged_lemmas.reasons_lemmas.Things.{empty_any, no_any}

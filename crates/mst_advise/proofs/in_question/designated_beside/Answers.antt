@@ -1,7 +1,7 @@
 use Rattle.std.proofs.Common.{sym, ap, ◌∙◌}
 use Rattle.std.specs.Option.{option_and_then}
-use Rattle.mst_forest.specs.Forest.{designated_in}
-use Rattle.mst_forest.specs.Settled.{name_of_port}
+use Rattle.mst_roles.specs.forest.Forest.{designated_in}
+use Rattle.mst_roles.specs.forest.Settled.{name_of_port}
 use Rattle.mst_advise.proofs.Beside.{beside_is}
 use Rattle.mst_advise.proofs.in_question.designated_beside.Goals as goal
 

@@ -2,7 +2,7 @@ use Rattle.std.proofs.Common.{Option, Some, None, sym, ap, subst, ◌∙◌}
 use Rattle.std.specs.Prelude.{IfOk}
 use Rattle.std.specs.Option.{option_copied}
 use Rattle.mst_view.specs.View.{LogicalPort}
-use Rattle.mst_forest.specs.Settled.{outcome_of}
+use Rattle.mst_roles.specs.forest.Settled.{outcome_of}
 use Rattle.mst_advise.specs.InQuestion.{AreInQuestionOf}
 use Rattle.mst_advise.proofs.PortsNamed.{port_is_named, port_is_there}
 use Rattle.mst_advise.proofs.in_question.port_settings.Goals as goal

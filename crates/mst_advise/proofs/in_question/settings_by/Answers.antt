@@ -1,8 +1,8 @@
 use Rattle.std.proofs.Common.{[], ◌++◌, sym, ap, ◌∙◌, append-nil}
 use Rattle.std.proofs.lemmas.Result.{IfOk-weaker}
 use Rattle.mst_view.specs.Viewed.{named_port}
-use Rattle.mst_forest.specs.Settled.{outcome_of}
-use Rattle.mst_forest.proofs.Seen.{port_of_net}
+use Rattle.mst_roles.specs.forest.Settled.{outcome_of}
+use Rattle.mst_roles.proofs.forest_lemmas.Seen.{port_of_net}
 use Rattle.mst_graph.specs.Lists.{each_once}
 use Rattle.mst_advise.specs.Contests.{contests_in, lost_by}
 use Rattle.mst_advise.specs.InQuestion.{in_question}

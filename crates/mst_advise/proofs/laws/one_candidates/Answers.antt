@@ -1,5 +1,5 @@
 use Rattle.std.proofs.Common.{sym, subst}
-use Rattle.mst_forest.specs.Outcome.{Outcome}
+use Rattle.mst_roles.specs.forest.Outcome.{Outcome}
 use Rattle.mst_advise.specs.Candidates.{AreCandidates}
 use Rattle.mst_advise.proofs.OneCandidates.{candidates_same}
 use Rattle.mst_advise.proofs.laws.one_candidates.Goals as goal

@@ -2,8 +2,8 @@ use Rattle.std.proofs.Common.{List, [], ◌∷◌, ◌++◌, Option, sym, ap, �
 use Rattle.std.specs.Option.{option_map_or}
 use Rattle.std.proofs.lemmas.Result.{on_ok_weaker}
 use Rattle.mst_net.specs.tables.Tables.{BridgeRow}
-use Rattle.mst_forest.specs.Settled.{outcome_of}
-use Rattle.mst_forest.proofs.Seen.{bridge_seen}
+use Rattle.mst_roles.specs.forest.Settled.{outcome_of}
+use Rattle.mst_roles.proofs.forest_lemmas.Seen.{bridge_seen}
 use Rattle.mst_verify.specs.summary.declared.roots.Follower.{Follower}
 use Rattle.mst_advise.specs.Priorities.{below_own, greatest_upto, lower_priority, others}
 use Rattle.mst_advise.specs.Seen.{ids_of, seen_first}

@@ -3,7 +3,7 @@ use Rattle.std.specs.Option.{option_copied, option_map_or}
 use Rattle.mst_net.specs.tables.ByTree.{by_tree}
 use Rattle.mst_net.specs.tables.Seen.{bridge_row}
 use Rattle.mst_net.specs.tables.Tables.{BridgeRow}
-use Rattle.mst_forest.specs.InUse.{id_in}
+use Rattle.mst_roles.specs.forest.InUse.{id_in}
 use Rattle.mst_advise.proofs.BridgeNamed.{is_there, not_there}
 use Rattle.mst_advise.proofs.priorities.identifier.Goals as goal
 

@@ -2,7 +2,7 @@ use Rattle.std.proofs.Common.{◌++◌, List, sym, ap, ◌∙◌}
 use Rattle.std.specs.List.{filter_map}
 use Rattle.std.proofs.lemmas.Result.{IfOk-weaker}
 use Rattle.mst_ids.specs.Identifiers.{bridge_id}
-use Rattle.mst_forest.specs.Settled.{outcome_of}
+use Rattle.mst_roles.specs.forest.Settled.{outcome_of}
 use Rattle.mst_advise.specs.Priorities.{others, priorities, set_priority}
 use Rattle.mst_advise.specs.Seen.{seen_next}
 use Rattle.mst_advise.specs.declared.setting.Setting.{Setting}

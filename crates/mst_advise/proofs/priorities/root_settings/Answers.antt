@@ -2,7 +2,7 @@ use Rattle.std.proofs.Common.{◌≡◌, ℕ, List, [], Option, sym, ap, subst, 
 use Rattle.std.specs.Prelude.{IfOk}
 use Rattle.std.specs.Option.{option_copied, option_map_or}
 use Rattle.mst_net.specs.tables.Tables.{BridgeRow}
-use Rattle.mst_forest.specs.Settled.{outcome_of}
+use Rattle.mst_roles.specs.forest.Settled.{outcome_of}
 use Rattle.mst_advise.specs.Priorities.{greatest_priority, others, priorities, root_settings}
 use Rattle.mst_advise.proofs.BridgeNamed.{is_there, not_there}
 use Rattle.mst_advise.proofs.priorities.root_settings.Goals as goal

@@ -1,8 +1,8 @@
 use Rattle.std.proofs.Common.{◌≡◌, ◌+◌, List, ◌++◌, refl, sym, ap, subst, ◌∙◌, arith, append-nil}
 use Rattle.std.specs.List.{flat_map, range_with_len}
 use Rattle.mst_view.specs.Viewed.{Viewed}
-use Rattle.mst_forest.specs.InUse.{AreInUse}
-use Rattle.mst_forest.specs.Settled.{outcome_of}
+use Rattle.mst_roles.specs.forest.InUse.{AreInUse}
+use Rattle.mst_roles.specs.forest.Settled.{outcome_of}
 use Rattle.mst_rows.specs.Rows.{Row}
 use Rattle.mst_changes.specs.TreeChanges.{tree_changes}
 use Rattle.mst_changes.specs.contracts.changes.put_changes.{R-type}

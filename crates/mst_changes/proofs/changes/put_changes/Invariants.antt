@@ -2,8 +2,8 @@ use Rattle.std.proofs.Common.{List, ◌++◌}
 use Rattle.std.specs.List.{flat_map, range_with_len}
 use Rattle.mst_rows.specs.Rows.{Row}
 use Rattle.mst_tables.specs.Tables.{Net}
-use Rattle.mst_forest.specs.Outcome.{Outcome}
-use Rattle.mst_forest.specs.Settled.{outcome_of}
+use Rattle.mst_roles.specs.forest.Outcome.{Outcome}
+use Rattle.mst_roles.specs.forest.Settled.{outcome_of}
 use Rattle.mst_changes.specs.Kept.{AreEntries}
 use Rattle.mst_changes.specs.TreeChanges.{tree_changes}
 use Rattle.mst_changes.specs.contracts.changes.put_changes.{R-type}

@@ -1,11 +1,11 @@
 use Rattle.std.proofs.Common.{[], map, ◌++◌, sym, ap, ◌∙◌, append-nil}
 use Rattle.std.specs.List.{flat_map}
 use Rattle.std.proofs.lemmas.List.{flat_map_more}
-use Rattle.mst_forest.specs.SeenRoles.{seen_role}
-use Rattle.mst_forest.proofs.SettledNet.{forest_of}
+use Rattle.mst_roles.specs.SeenRoles.{seen_role}
+use Rattle.mst_roles.proofs.forest_lemmas.SettledNet.{forest_of}
 use Rattle.mst_changes.specs.Seen.{seen_vector}
 use Rattle.mst_changes.specs.Stored.{kept_in, kept_of}
-use Rattle.mst_forest.proofs.NotInUse.{unused_by}
+use Rattle.mst_roles.proofs.forest_lemmas.NotInUse.{unused_by}
 use Rattle.mst_changes.proofs.Gathered.{kept_entries_are, no_entries}
 use Rattle.mst_changes.proofs.entries.keep_tree.Goals as goal
 

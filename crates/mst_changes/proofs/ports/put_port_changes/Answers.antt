@@ -1,8 +1,8 @@
 use Rattle.std.proofs.Common.{map, ◌++◌, ◌∙◌}
 use Rattle.std.specs.List.{filter_map}
 use Rattle.mst_ids.specs.Names.{port_cmp}
-use Rattle.mst_forest.specs.Settled.{outcome_of}
-use Rattle.mst_forest.proofs.SettledNet.{forest_of}
+use Rattle.mst_roles.specs.forest.Settled.{outcome_of}
+use Rattle.mst_roles.proofs.forest_lemmas.SettledNet.{forest_of}
 use Rattle.mst_changes.specs.Subjects.{port_in, names_of_either}
 use Rattle.mst_view.specs.View.{port_names}
 use Rattle.mst_changes.specs.Seen.{seen_port_entry}

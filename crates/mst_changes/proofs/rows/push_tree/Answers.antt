@@ -1,9 +1,9 @@
 use Rattle.std.proofs.Common.{◌++◌, sym, ap, ◌∙◌, append_assoc, append-nil}
 use Rattle.std.specs.List.{filter_map}
 use Rattle.std.proofs.lemmas.Result.{on_ok_weaker}
-use Rattle.mst_forest.proofs.SettledNet.{forest_of}
+use Rattle.mst_roles.proofs.forest_lemmas.SettledNet.{forest_of}
 use Rattle.mst_changes.specs.Seen.{seen_bridge_entry, seen_port_entry}
-use Rattle.mst_forest.proofs.NotInUse.{unused_by}
+use Rattle.mst_roles.proofs.forest_lemmas.NotInUse.{unused_by}
 use Rattle.mst_changes.proofs.Gathered.{tree_entries, no_entries}
 use Rattle.mst_changes.proofs.rows.push_tree.Goals as goal
 

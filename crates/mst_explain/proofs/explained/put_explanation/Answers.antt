@@ -1,7 +1,7 @@
 use Rattle.std.proofs.Common.{List, ◌++◌, subst}
 use Rattle.std.specs.Prelude.{OnOk}
 use Rattle.mst_view.specs.Viewed.{named_port}
-use Rattle.mst_forest.specs.Settled.{outcome_of}
+use Rattle.mst_roles.specs.forest.Settled.{outcome_of}
 use Rattle.mst_rows.specs.Rows.{Row}
 use Rattle.mst_explain.specs.SeenText.{explanation_rows}
 use Rattle.mst_explain.proofs.OneText.{one_explained}

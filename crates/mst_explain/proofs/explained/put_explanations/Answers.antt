@@ -1,8 +1,8 @@
 use Rattle.std.proofs.Common.{◌++◌, ◌∙◌, ℕ, List, ap, subst, append_assoc}
 use Rattle.std.specs.Prelude.{OnOk}
 use Rattle.mst_view.specs.Viewed.{named_port}
-use Rattle.mst_forest.specs.Seen.{trees_at}
-use Rattle.mst_forest.specs.Settled.{outcome_of}
+use Rattle.mst_roles.specs.forest.Seen.{trees_at}
+use Rattle.mst_roles.specs.forest.Settled.{outcome_of}
 use Rattle.mst_rows.specs.Rows.{Row}
 use Rattle.mst_explain.specs.Explained.{trees_of_bridge}
 use Rattle.mst_explain.specs.SeenText.{explanation_rows}

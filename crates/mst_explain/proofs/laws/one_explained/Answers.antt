@@ -1,5 +1,5 @@
 use Rattle.std.proofs.Common.{sym, subst}
-use Rattle.mst_forest.specs.Outcome.{Outcome}
+use Rattle.mst_roles.specs.forest.Outcome.{Outcome}
 use Rattle.mst_explain.specs.Explained.{IsExplained, AreExplained}
 use Rattle.mst_explain.proofs.OneText.{one_explained, all_explained_once}
 use Rattle.mst_explain.proofs.laws.one_explained.Goals as goal

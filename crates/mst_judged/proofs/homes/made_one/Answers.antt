@@ -2,7 +2,7 @@ use Rattle.std.proofs.Common.{◌≡◌, ◌+◌, ap, subst, arith, rules}
 use Rattle.std.proofs.lemmas.Grind.{common_steps}
 use Rattle.std.proofs.lemmas.Result.{IfOk-weaker}
 use Rattle.mst_reasons.specs.sweep.vlan.Carried.{ViewWithTrees}
-use Rattle.mst_forest.specs.Settled.{outcome_of}
+use Rattle.mst_roles.specs.forest.Settled.{outcome_of}
 use Rattle.mst_reasons.specs.sweep.Baseline.{AreHomes}
 use Rattle.mst_judged.proofs.HomesMade.{homes_told}
 use Rattle.mst_judged.proofs.homes.made_one.Goals as goal

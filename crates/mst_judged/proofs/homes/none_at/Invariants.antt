@@ -1,5 +1,5 @@
 use Rattle.std.proofs.Common.{◌≡◌, length, take}
-use Rattle.mst_forest.specs.Settled.{SettledNet}
+use Rattle.mst_roles.specs.forest.Settled.{SettledNet}
 use Rattle.mst_judged.specs.Islands.{AreMade}
 use Rattle.mst_judged.proofs.homes.none_at.Given as goal
 

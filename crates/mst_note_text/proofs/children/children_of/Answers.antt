@@ -4,9 +4,9 @@ use Rattle.std.specs.FinMap as fin
 use Rattle.std.specs.Option.{option_map}
 use Rattle.std.proofs.lemmas.List.{length-map}
 use Rattle.std.proofs.lemmas.Result.{IfOk-weaker}
-use Rattle.mst_forest.specs.Outcome.{trees_of}
-use Rattle.mst_forest.specs.Settled.{outcome_of}
-use Rattle.mst_forest.proofs.SettledNet.{forest_of}
+use Rattle.mst_roles.specs.forest.Outcome.{trees_of}
+use Rattle.mst_roles.specs.forest.Settled.{outcome_of}
+use Rattle.mst_roles.proofs.forest_lemmas.SettledNet.{forest_of}
 use Rattle.mst_note_text.specs.Children.{AreChildren}
 use Rattle.mst_note_text.specs.Places.{HasDepths, IsForest, depths_at}
 use Rattle.mst_note_text.specs.SeenTree.{all_within, as_within, child_at, members_in}

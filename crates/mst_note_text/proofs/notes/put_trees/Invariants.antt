@@ -1,7 +1,7 @@
 use Rattle.std.proofs.Common.{List, ◌++◌}
 use Rattle.std.specs.List.{flat_map, range_with_len}
-use Rattle.mst_forest.specs.Outcome.{trees_of}
-use Rattle.mst_forest.specs.Settled.{outcome_of}
+use Rattle.mst_roles.specs.forest.Outcome.{trees_of}
+use Rattle.mst_roles.specs.forest.Settled.{outcome_of}
 use Rattle.mst_rows.specs.Rows.{Row}
 use Rattle.mst_note_text.specs.AreDepths.{TreeDepths, AreDepths}
 use Rattle.mst_note_text.specs.NotesText.{tree_notes}

@@ -1,6 +1,6 @@
 use Rattle.std.proofs.Common.{◌≡◌, sym, ◌∙◌}
-use Rattle.mst_forest.specs.Settled.{outcome_of}
-use Rattle.mst_forest.proofs.SettledNet.{forest_of}
+use Rattle.mst_roles.specs.forest.Settled.{outcome_of}
+use Rattle.mst_roles.proofs.forest_lemmas.SettledNet.{forest_of}
 use Rattle.mst_note_text.specs.SeenNotes.{members_notes}
 use Rattle.mst_note_text.specs.SeenTree.{members_in}
 use Rattle.mst_note_text.proofs.Noting.{notes_are}

@@ -4,8 +4,8 @@ use Rattle.std.specs.Option.{option_map_or}
 use Rattle.std.proofs.lemmas.Result.{on_ok_weaker}
 use Rattle.mst_view.specs.declared.in_view.BridgeInView.{BridgeInView}
 use Rattle.mst_view.specs.Viewed.{Viewed}
-use Rattle.mst_forest.specs.SeenRoles.{seen_tree}
-use Rattle.mst_forest.proofs.Named.{found_in}
+use Rattle.mst_roles.specs.SeenRoles.{seen_tree}
+use Rattle.mst_roles.proofs.Named.{found_in}
 use Rattle.mst_picture.specs.InView.{node_of}
 use Rattle.mst_picture.proofs.clusters.push_at.Goals as goal
 

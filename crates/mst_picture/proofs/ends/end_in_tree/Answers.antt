@@ -1,6 +1,6 @@
 use Rattle.std.proofs.Common.{false, ap, ◌∙◌}
 use Rattle.std.specs.Option.{option_map_or}
-use Rattle.mst_forest.specs.Roles.{forwards}
+use Rattle.mst_roles.specs.Roles.{forwards}
 use Rattle.mst_picture.proofs.ends.end_in_tree.Goals as goal
 
 pub returns : goal.returns

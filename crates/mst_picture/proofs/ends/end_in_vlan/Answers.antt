@@ -4,9 +4,9 @@ use Rattle.std.specs.Option.{option_map_or}
 use Rattle.mst_ids.specs.Vids.{has}
 use Rattle.mst_view.specs.Viewed.{named_port}
 use Rattle.mst_tables.specs.ByTree.{vlans_in}
-use Rattle.mst_forest.specs.Roles.{forwards, role_in, tree_of_vid}
-use Rattle.mst_forest.specs.SeenRoles.{seen_tree}
-use Rattle.mst_forest.specs.Settled.{outcome_of}
+use Rattle.mst_roles.specs.Roles.{forwards, role_in, tree_of_vid}
+use Rattle.mst_roles.specs.SeenRoles.{seen_tree}
+use Rattle.mst_roles.specs.forest.Settled.{outcome_of}
 use Rattle.mst_picture.proofs.IslandsNamed.{port_tree_named}
 use Rattle.mst_picture.proofs.ends.end_in_vlan.Goals as goal
 

@@ -1,5 +1,5 @@
 use Rattle.std.proofs.Common.{◌≡◌, refl, sym, ap, subst, ◌∙◌}
-use Rattle.mst_forest.specs.Outcome.{Outcome}
+use Rattle.mst_roles.specs.forest.Outcome.{Outcome}
 use Rattle.mst_picture.specs.VlanPicture.{IsVlanPicture, vlan_picture}
 use Rattle.mst_picture.proofs.laws.one_vlan_picture.Goals as goal
 

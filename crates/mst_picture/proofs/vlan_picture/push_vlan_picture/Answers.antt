@@ -1,7 +1,7 @@
 use Rattle.std.proofs.Common.{◌≡◌, ℕ, ◌++◌, List, codes, append_assoc, refl, ap, ◌∙◌}
 use Rattle.std.specs.List.{flat_map}
 use Rattle.std.proofs.lemmas.Result.{on_ok_weaker}
-use Rattle.mst_forest.specs.Settled.{outcome_of}
+use Rattle.mst_roles.specs.forest.Settled.{outcome_of}
 use Rattle.mst_picture.specs.InView.{lan_of, off_of}
 use Rattle.mst_picture.specs.Picture.{opening, closing}
 use Rattle.mst_picture.specs.VlanPicture.{clusters, vlan_picture}

@@ -2,7 +2,7 @@ use Rattle.std.proofs.Common.{◌≡◌, map, sym, ap, ◌∙◌}
 use Rattle.std.proofs.lemmas.Result.{IfOk-weaker}
 use Rattle.mst_view.proofs.Lists.{mapped_twice}
 use Rattle.mst_vlan.specs.forest.Settled.{outcome_of}
-use Rattle.mst_text.specs.vlan.Seen.{seen_active}
+use Rattle.mst_vlan.specs.roles.SeenActive.{seen_active}
 use Rattle.mst_text.specs.VlanSeen.{seen_port}
 use Rattle.mst_text.proofs.VlanNamed.{active_named}
 use Rattle.mst_vlan.proofs.forest_lemmas.SettledNet.{forest_of}

@@ -1,5 +1,5 @@
 use Rattle.std.proofs.Common.{◌∙◌, ap}
-use Rattle.mst_forest.specs.InUse.{seen_has}
+use Rattle.mst_roles.specs.forest.InUse.{seen_has}
 use Rattle.mst_questions.proofs.Explained.{has_tree_by_number}
 use Rattle.mst_questions.proofs.explaining.has_tree.Goals as goal
 

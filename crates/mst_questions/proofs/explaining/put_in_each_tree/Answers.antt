@@ -2,7 +2,7 @@ use Rattle.std.proofs.Common.{None, refl}
 use Rattle.std.proofs.lemmas.Result.{on_ok_weaker}
 use Rattle.mst_advise.specs.explain.Explained.{trees_of_bridge}
 use Rattle.mst_view.specs.Viewed.{named_port}
-use Rattle.mst_forest.specs.Settled.{outcome_of}
+use Rattle.mst_roles.specs.forest.Settled.{outcome_of}
 use Rattle.mst_questions.proofs.Explained.{told_had, port_there, told_in_each}
 use Rattle.mst_questions.proofs.explaining.put_in_each_tree.Goals as goal
 

@@ -1,6 +1,6 @@
 use Rattle.std.proofs.lemmas.Result.{on_ok_weaker}
 use Rattle.mst_view.specs.Viewed.{named_port}
-use Rattle.mst_forest.specs.Settled.{outcome_of}
+use Rattle.mst_roles.specs.forest.Settled.{outcome_of}
 use Rattle.mst_questions.proofs.Explained.{tree_there, port_there, told_in}
 use Rattle.mst_questions.proofs.explaining.put_in_tree.Goals as goal
 

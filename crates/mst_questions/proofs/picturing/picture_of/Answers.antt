@@ -1,6 +1,6 @@
 use Rattle.std.proofs.Common.{ap, subst, ◌∙◌, ◌++◌}
 use Rattle.mst_net.specs.tables.Tables.{Net}
-use Rattle.mst_forest.specs.Settled.{outcome_of}
+use Rattle.mst_roles.specs.forest.Settled.{outcome_of}
 use Rattle.mst_picture.specs.Picture.{picture}
 use Rattle.mst_questions.specs.Picturing.{Depicts}
 use Rattle.mst_questions.proofs.picturing.picture_of.Goals as goal

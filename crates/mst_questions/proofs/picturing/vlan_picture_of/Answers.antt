@@ -1,6 +1,6 @@
 use Rattle.std.proofs.Common.{ℕ, List, ap, subst, sym, ◌∙◌, ◌++◌}
 use Rattle.mst_net.specs.tables.Tables.{Net}
-use Rattle.mst_forest.specs.Settled.{outcome_of}
+use Rattle.mst_roles.specs.forest.Settled.{outcome_of}
 use Rattle.mst_picture.specs.VlanPicture.{IsVlanPicture}
 use Rattle.mst_questions.specs.Picturing.{DepictsVlan}
 use Rattle.mst_questions.proofs.picturing.vlan_picture_of.Goals as goal

@@ -1,7 +1,7 @@
 use Rattle.std.proofs.Common.{ap, subst, ◌∙◌}
 use Rattle.std.proofs.lemmas.Result.{on_ok_weaker}
 use Rattle.mst_net.specs.tables.Tables.{Net}
-use Rattle.mst_forest.specs.Settled.{outcome_of, SettledNet}
+use Rattle.mst_roles.specs.forest.Settled.{outcome_of, SettledNet}
 use Rattle.mst_questions.specs.Summarizing.{Summarizes}
 use Rattle.mst_questions.proofs.summarizing.put_summary_of.Goals as goal
 

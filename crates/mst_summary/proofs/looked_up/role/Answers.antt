@@ -1,7 +1,7 @@
 use Rattle.std.proofs.Common.{◌∙◌}
 use Rattle.mst_vlan.proofs.forest_lemmas.SettledNet.{forest_of}
-use Rattle.mst_vlan.specs.forest.SeenRoles.{seen_role}
-use Rattle.mst_vlan.proofs.forest_lemmas.Named.{own_role}
+use Rattle.mst_vlan.specs.roles.SeenRoles.{seen_role}
+use Rattle.mst_vlan.proofs.roles_lemmas.Named.{own_role}
 use Rattle.mst_summary.proofs.looked_up.role.Goals as goal
 
 pub returns : goal.returns

@@ -1,7 +1,7 @@
 use Rattle.std.proofs.Common.{◌≡◌, ℕ, get_or, subst, ◌∙◌, inl, inr, arith, below_more}
 use Rattle.std.proofs.lemmas.List.{get_or_default}
 use Rattle.mst_graph.proofs.Members.{cases}
-use Rattle.mst_vlan.specs.forest.SeenRoles.{seen_role}
+use Rattle.mst_vlan.specs.roles.SeenRoles.{seen_role}
 use Rattle.mst_sweep.proofs.Untouched.{of_listed}
 use Rattle.mst_sweep.proofs.touched.has_any_other.Goals as goal
 

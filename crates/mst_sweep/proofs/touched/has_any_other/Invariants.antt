@@ -1,5 +1,5 @@
 use Rattle.std.proofs.Common.{◌≡◌, ℕ, ◌<◌, get_or}
-use Rattle.mst_vlan.specs.forest.SeenRoles.{seen_role}
+use Rattle.mst_vlan.specs.roles.SeenRoles.{seen_role}
 use Rattle.mst_sweep.proofs.touched.has_any_other.Given as goal
 
 -- the port has the roles that it had in the MSTIs so far

@@ -1,7 +1,7 @@
 use Rattle.std.proofs.Common.{◌≡◌, ◌==◌, ◌||◌, false, sym, ap, ◌∙◌}
 use Rattle.std.proofs.lemmas.Bool.{ne_eqb}
-use Rattle.mst_forest.specs.Msti.{is_had}
-use Rattle.mst_forest.specs.InUse.{is_in_use}
+use Rattle.mst_roles.specs.forest.Msti.{is_had}
+use Rattle.mst_roles.specs.forest.InUse.{is_in_use}
 use Rattle.mst_telling.proofs.LackedSeen.{tree_seen}
 use Rattle.mst_telling.proofs.lacking.is_tree.Goals as goal
 

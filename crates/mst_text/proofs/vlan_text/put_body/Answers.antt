@@ -6,7 +6,7 @@ use Rattle.mst_vlan.proofs.forest_lemmas.SettledNet.{forest_of}
 use Rattle.mst_view.specs.Viewed.{Viewed}
 use Rattle.mst_view.specs.declared.in_view.PortInView.{PortInView}
 use Rattle.mst_vlan.specs.declared.island.Island.{Island}
-use Rattle.mst_vlan.specs.Seen.{seen_active}
+use Rattle.mst_vlan.specs.roles.SeenActive.{seen_active}
 use Rattle.mst_text.specs.VlanRows.{active_row}
 use Rattle.mst_text.specs.VlanSeen.{seen_port, seen_island}
 use Rattle.mst_text.proofs.VlanNamed.{are_body_rows}

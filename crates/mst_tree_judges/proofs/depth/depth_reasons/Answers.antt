@@ -3,8 +3,8 @@ use Rattle.std.specs.Prelude.{if◌then◌else◌}
 use Rattle.std.specs.FinMap as fin
 use Rattle.std.proofs.lemmas.Result.{IfOk-weaker}
 use Rattle.mst_judged.specs.reasons.note_text.declared.children.Child.{Child}
-use Rattle.mst_forest.specs.Outcome.{trees_of}
-use Rattle.mst_forest.specs.Settled.{outcome_of}
+use Rattle.mst_roles.specs.forest.Outcome.{trees_of}
+use Rattle.mst_roles.specs.forest.Settled.{outcome_of}
 use Rattle.mst_judged.specs.reasons.declared.reason.Reason.TheVariants as why
 use Rattle.mst_tree_judges.proofs.ChildrenTold.{are_deepest, deepest, greatest, most_of, none_deeper, some_deepest}
 use Rattle.mst_tree_judges.proofs.depth.depth_reasons.Goals as goal

@@ -4,8 +4,8 @@ use Rattle.std.specs.FinMap as fin
 use Rattle.std.proofs.lemmas.Result.{IfOk-weaker}
 use Rattle.mst_view.specs.declared.in_view.BridgeInView.{BridgeInView}
 use Rattle.mst_judged.specs.reasons.note_text.declared.children.Child.{Child}
-use Rattle.mst_forest.specs.Outcome.{trees_of}
-use Rattle.mst_forest.specs.Settled.{outcome_of}
+use Rattle.mst_roles.specs.forest.Outcome.{trees_of}
+use Rattle.mst_roles.specs.forest.Settled.{outcome_of}
 use Rattle.mst_judged.specs.reasons.Reasons.{leaf_reason}
 use Rattle.mst_tree_judges.specs.Seen.{is_child_of, names_at}
 use Rattle.mst_tree_judges.proofs.ChildrenTold.{of_bridge}

@@ -3,10 +3,10 @@ use Rattle.std.specs.List.{AllZip, Contains}
 use Rattle.std.proofs.lemmas.Result.{IfOk-weaker}
 use Rattle.mst_graph.proofs.Members.{from_filter}
 use Rattle.mst_ids.specs.Vids.{has}
-use Rattle.mst_forest.proofs.Entries.{all_weaker}
-use Rattle.mst_forest.proofs.Lists.{all_there}
-use Rattle.mst_forest.proofs.Looking.{filter_alike}
-use Rattle.mst_forest.specs.Settled.{outcome_of}
+use Rattle.mst_roles.proofs.forest_lemmas.Entries.{all_weaker}
+use Rattle.mst_roles.proofs.forest_lemmas.Lists.{all_there}
+use Rattle.mst_roles.proofs.forest_lemmas.Looking.{filter_alike}
+use Rattle.mst_roles.specs.forest.Settled.{outcome_of}
 use Rattle.mst_judged.specs.reasons.sweep.vlan.classes.AllVids.{all_vids}
 use Rattle.mst_judged.proofs.reasons_lemmas.sweep_lemmas.vlan_lemmas.classes_lemmas.VidPlaces.{is_vid_there}
 use Rattle.mst_judged.specs.reasons.sweep.vlan.classes.Flags.{flag_at}

@@ -4,8 +4,8 @@ use Rattle.std.specs.List.{flat_map}
 use Rattle.mst_graph.proofs.Members.{from_filter}
 use Rattle.mst_view.specs.declared.in_view.PortInView.{PortInView}
 use Rattle.mst_policy.specs.Items as policy
-use Rattle.mst_forest.specs.declared.kind.Role.{Role}
-use Rattle.mst_forest.specs.Settled.{outcome_of}
+use Rattle.mst_roles.specs.declared.kind.Role.{Role}
+use Rattle.mst_roles.specs.forest.Settled.{outcome_of}
 use Rattle.mst_judged.specs.reasons.Reasons.{all_roles, role_reasons}
 use Rattle.mst_judged.specs.Seen.{seen_ports_named, seen_stopped}
 use Rattle.mst_tree_judges.specs.Seen.{seen_role_reason}

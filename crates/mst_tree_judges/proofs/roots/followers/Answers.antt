@@ -2,7 +2,7 @@ use Rattle.std.proofs.Common.{ap, ◌∙◌}
 use Rattle.std.specs.List.{filter_map}
 use Rattle.std.proofs.lemmas.Result.{IfOk-weaker}
 use Rattle.mst_view.specs.Viewed.{named_bridge}
-use Rattle.mst_forest.specs.Settled.{outcome_of}
+use Rattle.mst_roles.specs.forest.Settled.{outcome_of}
 use Rattle.mst_tree_judges.specs.Seen.{concerned_follower}
 use Rattle.mst_tree_judges.proofs.RootsSeen.{kept_named}
 use Rattle.mst_tree_judges.proofs.roots.followers.Goals as goal

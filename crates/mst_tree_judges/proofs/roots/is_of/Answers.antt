@@ -1,9 +1,9 @@
 use Rattle.std.proofs.Common.{◌≡◌, ◌==◌, ◌||◌, false, sym, ap, ◌∙◌}
 use Rattle.std.specs.Prelude.{option_copied}
 use Rattle.std.proofs.lemmas.Bool.{ne_eqb}
-use Rattle.mst_forest.specs.config.Regions.{same_region}
-use Rattle.mst_forest.specs.config.Shared.{same_in}
-use Rattle.mst_forest.specs.Forest.{Forest}
+use Rattle.mst_roles.specs.forest.config.Regions.{same_region}
+use Rattle.mst_roles.specs.forest.config.Shared.{same_in}
+use Rattle.mst_roles.specs.forest.Forest.{Forest}
 use Rattle.mst_tree_judges.proofs.RegionOf.{none_same, some_same}
 use Rattle.mst_tree_judges.proofs.roots.is_of.Goals as goal
 

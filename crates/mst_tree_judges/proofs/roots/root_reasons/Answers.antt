@@ -5,7 +5,7 @@ use Rattle.std.specs.Option.{option_map}
 use Rattle.mst_view.specs.Aggregation.{same_name}
 use Rattle.mst_graph.specs.Lists.{has_any}
 use Rattle.mst_judged.specs.reasons.summary.Roots.{least}
-use Rattle.mst_forest.specs.Settled.{outcome_of}
+use Rattle.mst_roles.specs.forest.Settled.{outcome_of}
 use Rattle.mst_judged.specs.reasons.Reasons.{other_next}
 use Rattle.mst_judged.specs.reasons.declared.reason.Reason.{Reason}
 use Rattle.mst_tree_judges.proofs.RootsSeen.{chosen, others_seen, root_told, seen_others}

@@ -1,7 +1,7 @@
 use Rattle.std.proofs.Common.{Some, None}
 use Rattle.std.specs.Prelude.{MatchOption, ⊤}
 use Rattle.mst_net.specs.tables.Tables.{IsNetwork, Net}
-use Rattle.mst_forest.specs.Outcome.{Outcome}
+use Rattle.mst_roles.specs.forest.Outcome.{Outcome}
 use Rattle.mst_island_judges.specs.judged.reasons.Named.{OfNetwork, Prior}
 use Rattle.mst_verify.proofs.OneReasons.{reasons_same}
 use Rattle.mst_verify.proofs.ReasonsTogether.{IslandsOf}

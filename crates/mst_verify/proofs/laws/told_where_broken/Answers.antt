@@ -3,8 +3,8 @@ use Rattle.mst_policy.specs.declared.expectation.Expectation.{Expectation}
 use Rattle.mst_policy.specs.declared.expectation.Expectation.TheVariants as expect
 use Rattle.mst_rows.specs.Rows.{Row}
 use Rattle.mst_net.specs.tables.Tables.{Net, IsNetwork}
-use Rattle.mst_forest.specs.nested.Trees.{IsSettled}
-use Rattle.mst_forest.specs.Outcome.{Outcome, IsOutcome, trees_of}
+use Rattle.mst_roles.specs.forest.nested.Trees.{IsSettled}
+use Rattle.mst_roles.specs.forest.Outcome.{Outcome, IsOutcome, trees_of}
 use Rattle.mst_island_judges.specs.judged.reasons.note_text.NotesText.{AreNoteRows}
 use Rattle.mst_island_judges.specs.judged.reasons.Named.{Gone, Prior, is_named, named, ports_named}
 use Rattle.mst_island_judges.specs.judged.reasons.Holds.{Holds}

@@ -1,7 +1,7 @@
 use Rattle.std.proofs.Common.{sym, subst}
 use Rattle.std.proofs.lemmas.Result.{IfOk-weaker}
 use Rattle.mst_policy.specs.declared.expectation.Expectation.{Expectation}
-use Rattle.mst_forest.specs.Settled.{outcome_of}
+use Rattle.mst_roles.specs.forest.Settled.{outcome_of}
 use Rattle.mst_island_judges.specs.judged.reasons.Over.{HasItsLan}
 use Rattle.mst_island_judges.specs.judged.reasons.Reasons.{AreReasons}
 use Rattle.mst_verify.proofs.why.reasons.Goals as goal

@@ -1,6 +1,6 @@
-use Rattle.mst_forest.specs.Outcome.{trees_of}
+use Rattle.mst_roles.specs.forest.Outcome.{trees_of}
 use Rattle.mst_vlan.proofs.Crossing.{exit_forwards}
-use Rattle.mst_vlan.proofs.Names.{tests}
+use Rattle.mst_roles.proofs.Names.{tests}
 use Rattle.mst_vlan.proofs.laws.crossing.Goals as goal
 
 pub returns : goal.returns

@@ -1,5 +1,5 @@
-use Rattle.mst_forest.specs.Outcome.{trees_of}
-use Rattle.mst_vlan.proofs.Names.{tests}
+use Rattle.mst_roles.specs.forest.Outcome.{trees_of}
+use Rattle.mst_roles.proofs.Names.{tests}
 use Rattle.mst_vlan.proofs.laws.inside.Goals as goal
 
 pub returns-clause-joined : goal.returns-clause-joined

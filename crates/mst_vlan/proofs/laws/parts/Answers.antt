@@ -1,6 +1,6 @@
-use Rattle.mst_forest.specs.Outcome.{trees_of}
-use Rattle.mst_vlan.proofs.Names.{tests}
-use Rattle.mst_vlan.proofs.Plugs.{plug, enabled_plug}
+use Rattle.mst_roles.specs.forest.Outcome.{trees_of}
+use Rattle.mst_roles.proofs.Names.{tests}
+use Rattle.mst_roles.proofs.Plugs.{plug, enabled_plug}
 use Rattle.mst_vlan.proofs.laws.parts.Goals as goal
 
 pub returns-clause-one : goal.returns-clause-one

@@ -1,8 +1,9 @@
 use Rattle.std.proofs.Common.{sym, subst, ◌∙◌}
 use Rattle.std.proofs.lemmas.Result.{IfOk-weaker}
 use Rattle.mst_graph.specs.Islands.{AreIslands}
-use Rattle.mst_forest.proofs.SettledNet.{forest_of, known_of}
-use Rattle.mst_vlan.specs.Seen.{seen_active, seen_bridges, seen_lans, seen_links}
+use Rattle.mst_roles.proofs.forest_lemmas.SettledNet.{forest_of, known_of}
+use Rattle.mst_roles.specs.SeenActive.{seen_active}
+use Rattle.mst_vlan.specs.Seen.{seen_bridges, seen_lans, seen_links}
 use Rattle.mst_vlan.proofs.Reached.{reached}
 use Rattle.mst_vlan.proofs.reaching.reach_from.Goals as goal
 

@@ -1,6 +1,6 @@
 use Rattle.std.proofs.Common.{◌≡◌}
 use Rattle.std.specs.List.{flat_map, range_with_len}
-use Rattle.mst_forest.specs.Settled.{outcome_of}
+use Rattle.mst_roles.specs.forest.Settled.{outcome_of}
 use Rattle.mst_changes.specs.Kept.{entries_in}
 use Rattle.mst_changes.specs.Stored.{kept_of}
 use Rattle.mst_changes.proofs.entries.Entries.new.Given as goal

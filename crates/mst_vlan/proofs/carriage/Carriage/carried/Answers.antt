@@ -1,7 +1,7 @@
 use Rattle.std.proofs.Common.{◌≡◌, List, map, sym, ap, ◌∙◌}
 use Rattle.mst_tables.specs.ByTree.{vlans_in}
 use Rattle.mst_view.specs.declared.in_view.PortInView.{PortInView}
-use Rattle.mst_forest.specs.SeenRoles.{seen_forwards}
+use Rattle.mst_roles.specs.SeenRoles.{seen_forwards}
 use Rattle.mst_vlan.specs.Carried.{names_of}
 use Rattle.mst_vlan.proofs.Links.{one_more, no_more}
 use Rattle.mst_vlan.proofs.carriage.Carriage.carried.Goals as goal

@@ -1,5 +1,5 @@
 use Rattle.std.proofs.Common.{◌≡◌, map, filter, take}
-use Rattle.mst_forest.specs.SeenRoles.{seen_forwards}
+use Rattle.mst_roles.specs.SeenRoles.{seen_forwards}
 use Rattle.mst_vlan.specs.Seen.{seen_member}
 use Rattle.mst_vlan.specs.Carried.{names_of}
 use Rattle.mst_vlan.proofs.carriage.Carriage.carried.Given as goal

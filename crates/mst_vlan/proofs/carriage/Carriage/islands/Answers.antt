@@ -1,6 +1,6 @@
 use Rattle.std.proofs.Common.{◌≡◌, map, refl, ap, subst, ◌∙◌}
 use Rattle.std.proofs.lemmas.Result.{IfOk-weaker}
-use Rattle.mst_forest.specs.Agrees.{Known}
+use Rattle.mst_roles.specs.forest.Agrees.{Known}
 use Rattle.mst_vlan.specs.Seen.{seen_bridges, seen_lans, as_island}
 use Rattle.mst_vlan.proofs.Reached.{reached}
 use Rattle.mst_vlan.specs.Carried.{ViewWithTrees}

@@ -1,5 +1,5 @@
 use Rattle.std.proofs.Common.{◌≡◌, map, filter, take}
-use Rattle.mst_forest.specs.SeenRoles.{seen_forwards}
+use Rattle.mst_roles.specs.SeenRoles.{seen_forwards}
 use Rattle.mst_vlan.specs.Seen.{seen_link, seen_member}
 use Rattle.mst_vlan.proofs.carriage.Carriage.links.Given as goal
 

@@ -1,0 +1,11 @@
+use Rattle.std.proofs.Common.{◌≡◌, map, take}
+use Rattle.std.specs.Option.{ForSome}
+use Rattle.mst_roles.specs.SeenRoles.{seen_forwards, seen_tree}
+use Rattle.mst_roles.proofs.topology.forwarding.Given as goal
+
+-- the ports so far have their flags, and the tree that is known is that of its bridge
+abbrev pub invariant-loop-port : goal.invariant-loop-port
+invariant-loop-port l = record {
+  flags : l.flags.items ≡ map (seen_forwards l.view l.forest l.vid) (take l.port-index l.port-items);
+  known : ForSome l.known (λ k. k.1 ≡ seen_tree l.view k.0 l.vid);
+}
