@@ -1,7 +1,5 @@
 mod calls;
-mod damaged;
 mod devices;
-mod hinted;
 mod shown;
 
 use mst_io::Outcome;
