@@ -1,5 +1,5 @@
-//! Tests of planners and of what stands below them, of what no clause says and no line of the program: how often bridges are
-//! settled, what a refused call leaves, calls that tools alone make, digests of others.
+//! Tests of planners and of what stands below them, of what no clause says and no line of the program: that calls which tools alone
+//! make find memory, and find it again where it was refused once; and digests of others.
 #![tactic(auto)]
 
 #[cfg(test)]

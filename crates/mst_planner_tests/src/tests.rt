@@ -1,6 +1,4 @@
 mod calls;
 mod digests;
 mod lines;
-mod records;
 mod refused;
-mod repairs;

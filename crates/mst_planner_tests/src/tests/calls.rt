@@ -1,76 +1,87 @@
-//! Calls that a tool may make and the program doesn't: a forest from nothing, roles and classes of links by numbers, the
-//! numbers of active ports, one BPDU compared, a topology settled from scratch, rows that are counted; and laws at types.
+//! Calls that a tool may make and the program doesn't, each once: edits that are settled at once and the text of a query, a forest from
+//! nothing, the numbers of active ports, one BPDU compared, rows that are counted.
 
 use super::lines::planner_of;
-use super::repairs::{EACH_ITS_OWN_REGION, TRIANGLE};
 use mst_bpdu::read_line;
 use mst_compare::compare;
-use mst_graph::laws as graph_laws;
-use mst_ids::{BridgeId, BridgeNo, Tree, Vid};
+use mst_ids::{Tree, Vid};
 use mst_kinds::{Kind, TreeLine};
 use mst_lag::view;
-use mst_net::{Contents, Network, laws as net_laws};
-use mst_report::{Settler, forest_of};
-use mst_roles::{
-    Bridges, ByNumber, Forest, Role, Topology, Wiring, active, forwards, regions_of, role,
-};
+use mst_lang::Query;
+use mst_net::{Contents, Network};
+use mst_report::forest_of;
+use mst_roles::{active, regions_of};
 use mst_rows::{Counts, Value, put};
-use mst_vector::{CistBridge, CistMetric};
-use mst_view::View;
 use std::alloc::{AllocError, Global};
 use std::test::Fail;
 
-/// A second link of A and B, of one class with the first.
-const SECOND_LINK: &str = "\
-addlan W
-addport A 3
-addport B 3
-plug A 3 W
-plug B 3 W
-setkey A 1 7
-setkey A 3 7
-setkey B 1 7
-setkey B 3 7
+/// RSTP bridges A, B and C, and their ports in the LANs X, Y and Z between each two of them.
+const TRIANGLE: &str = "\
+addbridge A 02:00:00:00:00:01
+addbridge B 02:00:00:00:00:02
+addbridge C 02:00:00:00:00:03
+kind A rstp
+kind B rstp
+kind C rstp
+addlan X
+addport A 1
+addport B 1
+plug A 1 X
+plug B 1 X
+addlan Y
+addport A 2
+addport C 1
+plug A 2 Y
+plug C 1 Y
+addlan Z
+addport B 2
+addport C 2
+plug B 2 Z
+plug C 2 Z
 ";
 
-/// The view of a network and its trees, settled from nothing.
-fn planned(alloc: Global, network: &Network) -> Result<(View, Forest), AllocError> {
+/// What changes where the root goes off.
+const CHANGES: &[u8] = b"\
+    bridge 0 A 8000.02:00:00:00:00:01 0 8000.02:00:00:00:00:01 0 8000.02:00:00:00:00:01 0000 0000 -> -\n\
+    bridge 0 B 8000.02:00:00:00:00:01 20000 8000.02:00:00:00:00:02 0 8000.02:00:00:00:00:01 8001 8001 -> \
+    8000.02:00:00:00:00:02 0 8000.02:00:00:00:00:02 0 8000.02:00:00:00:00:02 0000 0000\n\
+    bridge 0 C 8000.02:00:00:00:00:01 20000 8000.02:00:00:00:00:03 0 8000.02:00:00:00:00:01 8002 8001 -> \
+    8000.02:00:00:00:00:02 20000 8000.02:00:00:00:00:03 0 8000.02:00:00:00:00:02 8002 8002\n\
+    port 0 A 1 Designated -> Disabled\n\
+    port 0 A 2 Designated -> Disabled\n\
+    port 0 B 1 Root -> Designated\n\
+    port 0 C 1 Root -> Designated\n\
+    port 0 C 2 Alternate -> Root\n";
+
+// Two bridges have other vectors then, and one has none: at least two settlings, and at most twice three.
+#[test]
+fn an_edit_is_applied(rt: HostRuntime) -> Result<(), Fail> {
+    let parts = [TRIANGLE, "mark\nbridge A off\n"];
+    let mut planner = planner_of(rt.alloc(), &parts).ok_or("refused")?;
+    let settlings = planner.settlings(Tree::cist());
+    let changes = planner.answer(&Query::Changes).ok().ok_or("no answer")?;
+    assert!(rt;
+        2 <= settlings && settlings <= 6 && changes.as_slice() == CHANGES,
+        "{settlings}"
+    );
+    Ok(())
+}
+
+/// How often bridges are settled for the CIST of a network from nothing.
+fn settlings_from_nothing(alloc: Global, network: &Network) -> Result<u64, AllocError> {
     network.known();
     let view = view(alloc, network)?;
     let regions = regions_of(alloc, network)?;
     let forest = forest_of(alloc, &view, &regions)?;
-    Ok((view, forest))
+    Ok(forest.settlings(Tree::cist()))
 }
 
-/// How many ports forward a VID, how many are Alternate, and how many LANs are in a class of links.
-fn counted(view: &View, forest: &Forest, vid: Vid) -> [u8; 3] {
-    let mut counts: [u8; 3] = [0; 3];
-    for port in view.ports() {
-        if forwards(view, forest, port.number, vid) {
-            counts[0] = counts[0].saturating_add(1);
-        }
-        if role(view, forest, port.number, Tree::cist()) == Some(Role::Alternate) {
-            counts[1] = counts[1].saturating_add(1);
-        }
-    }
-    for lan in view.lans() {
-        if view.lag(lan.number).is_some() {
-            counts[2] = counts[2].saturating_add(1);
-        }
-    }
-    counts
-}
-
-// Of three switches in a triangle, of which two have two links, the last one's port to the second blocks.
+// Each of three bridges is settled once.
 #[test]
 fn a_forest_from_nothing(rt: HostRuntime) -> Result<(), Fail> {
-    let alloc = rt.alloc();
-    let vid = Vid::new(1).ok_or("VID")?;
-    let parts = [TRIANGLE, EACH_ITS_OWN_REGION, SECOND_LINK];
-    let planner = planner_of(alloc, &parts).ok_or("refused")?;
-    let (view, forest) = planned(alloc, planner.network())?;
-    let found = (forest.settlings(Tree::cist()), counted(&view, &forest, vid));
-    assert_eq!(rt; found, (3, [5, 1, 1]));
+    let planner = planner_of(rt.alloc(), &[TRIANGLE]).ok_or("refused")?;
+    let settlings = settlings_from_nothing(rt.alloc(), planner.network())?;
+    assert_eq!(rt; settlings, 3);
     Ok(())
 }
 
@@ -84,42 +95,12 @@ fn a_plan_is_asked(rt: HostRuntime) -> Result<(), Fail> {
     let alloc = rt.alloc();
     let vid = Vid::new(1).ok_or("VID")?;
     let bpdu = read_line(OF_THE_ROOT).ok().ok_or("not read")?;
-    let parts = [TRIANGLE, EACH_ITS_OWN_REGION];
-    let mut planner = planner_of(alloc, &parts).ok_or("refused")?;
+    let mut planner = planner_of(alloc, &[TRIANGLE]).ok_or("refused")?;
     planner.settle()?;
     let plan = planner.settled();
     let found = compare(alloc, &plan, &bpdu).ok().ok_or("not compared")?;
     let ports = active(alloc, &planner.settled(), vid)?;
     assert_eq!(rt; (found.len(), ports.len()), (0, 5));
-    Ok(())
-}
-
-/// How often bridges are settled in a tree of this bridge alone, and the root that it then has.
-fn settled_alone(alloc: Global, id: BridgeId) -> Result<(u64, Option<BridgeId>), AllocError> {
-    let bridge = CistBridge {
-        id,
-        region: id,
-        is_rstp: true,
-    };
-    let mut bridges = Bridges::<CistMetric>::new(alloc);
-    bridges.add(BridgeNo(3), bridge)?;
-    let wiring = Wiring::new(alloc);
-    let own = ByNumber::new(alloc);
-    let topology = Topology::new(&wiring, &bridges, &own);
-    let settler = Settler::from_scratch(alloc, &topology)?;
-    let root = match settler.vector(BridgeNo(3)) {
-        Some(vector) => Some(vector.root),
-        None => None,
-    };
-    Ok((settler.settlings(), root))
-}
-
-// A bridge alone is settled once, and is its own root.
-#[test]
-fn a_lone_bridge_from_scratch(rt: HostRuntime) -> Result<(), Fail> {
-    let id = BridgeId::from_number(0x8000_0200_0000_0001);
-    let found = settled_alone(rt.alloc(), id)?;
-    assert!(rt; found == (1, Some(id)));
     Ok(())
 }
 
@@ -133,15 +114,4 @@ fn rows_are_counted(rt: HostRuntime) -> Result<(), Fail> {
     )?;
     assert_eq!(rt; counts.rows, 1);
     Ok(())
-}
-
-#[test]
-fn laws_at_types(rt: HostRuntime) {
-    graph_laws::group_lists::<u16>();
-    graph_laws::signatures::<u16, u8, u8>();
-    graph_laws::island_lists::<u8, u16>();
-    graph_laws::some_islands();
-    graph_laws::renamed::<u8, u16, u32, u64>();
-    graph_laws::trees_in_parts::<u8, u16>();
-    net_laws::same_setting();
 }

@@ -1,39 +1,46 @@
-//! What lines of scripts say, and planners of the networks that they make.
+//! Planners that lines of scripts make.
 
-use mst_lang::{Edit, Line, parse_line};
+use mst_lang::{Line, parse_line};
+use mst_net::Refusal;
 use mst_report::Planner;
 use std::alloc::Global;
 
-/// The edit that a line says.
-fn edit_of(line: &str) -> Option<Edit> {
+/// Makes a line's call, once. What answers a query is let go.
+fn call(planner: &mut Planner, line: &str) -> Result<(), Refusal> {
     match parse_line(line.as_bytes()) {
-        Ok(Line::Edit(edit)) => Some(edit),
-        _ => None,
+        Ok(Line::Edit(edit)) => planner.apply(&edit),
+        Ok(Line::Query(query)) => match planner.answer(&query) {
+            Ok(text) => {
+                drop(text);
+                Ok(())
+            }
+            Err(refusal) => Err(refusal),
+        },
+        Ok(Line::Mark) => {
+            if planner.is_settled() {
+                planner.mark()
+            } else {
+                Ok(())
+            }
+        }
+        Err(_) | Ok(Line::Blank) => Ok(()),
     }
 }
 
-/// Whether the line says an edit, which isn't refused. It is staged then.
-pub(super) fn is_staged(planner: &mut Planner, line: &str) -> bool {
-    match edit_of(line) {
-        Some(edit) => planner.stage(&edit).is_ok(),
-        None => false,
+/// Makes a line's call, and makes it again where memory was refused: whether nothing else refuses it.
+fn is_made(planner: &mut Planner, line: &str) -> bool {
+    match call(planner, line) {
+        Err(Refusal::E99) => call(planner, line).is_ok(),
+        made => made.is_ok(),
     }
 }
 
-/// Whether the line says an edit, which isn't refused. It is applied then.
-pub(super) fn is_applied(planner: &mut Planner, line: &str) -> bool {
-    match edit_of(line) {
-        Some(edit) => planner.apply(&edit).is_ok(),
-        None => false,
-    }
-}
-
-/// A planner of the network that the lines of these parts make, if none is refused.
+/// A planner of which the lines of these parts were asked, if none was refused.
 pub(super) fn planner_of(alloc: Global, parts: &[&str]) -> Option<Planner> {
     let mut planner = Planner::new(alloc);
     for part in parts {
         for line in part.lines() {
-            if !is_staged(&mut planner, line) {
+            if !is_made(&mut planner, line) {
                 return None;
             }
         }
