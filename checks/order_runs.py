@@ -4,7 +4,8 @@
 usage: order_runs.py PROGRAM [COUNT] [FIRST]    (so many networks, or 200; tools.py takes fewer)
 
 Networks, changes of 2 to 4 steps and policies are drawn by their numbers; a policy is of lines that hold now, and of some that don't, of the
-end or of what stays together. Every other change is one of edits between two networks. The exit status is 1 where something differs.
+end or of what stays together. A third of the changes are the edits to another network, each a step of its own; in another third cables come, go,
+move and get other names, with a step for each bridge and each LAN. The exit status is 1 where something differs.
 """
 
 import concurrent.futures
@@ -25,7 +26,9 @@ import mstplan  # noqa: E402
 import sketch  # noqa: E402
 import verify_runs  # noqa: E402
 
-COUNT, IN_THE_GATE = 200, 24
+COUNT, IN_THE_GATE, MOST_PARTS = 200, 24, 4
+OF_LANS = ("addlan", "dellan", "lan", "speed")
+TOGETHER = ["together 1-20 *", "together 1-4094 A,B,C", "always together 1-4094 *", "finally together 1-20 *"]
 ORDERED = re.compile(r"^# steps ([0-9,]+|-)(?:, of which ([0-9]+) break the policy)?$", re.MULTILINE)
 
 
@@ -53,6 +56,46 @@ def change_of(draws):
     """Steps, each a list of lines, without one that is no edit."""
     steps = [[line for line in (edit(draws) for _ in range(1 + draws.below(2))) if not line.startswith(("show", "mark"))] for _ in range(2 + draws.below(3))]
     return [step for step in steps if step]
+
+
+def of_cable(draws, network, count):
+    """Edits of one cable: it gets another name, moves to another LAN, comes or goes. `count` tells new LANs and ports apart."""
+    words = [line.decode().split() for line in mstplan.lines_in(network)]
+    bridges, lans, plugs = ([it[1:] for it in words if it[:1] == [word]] for word in ("addbridge", "addlan", "plug"))
+    (bridge, port, lan), new = draws.one_of(plugs), f"N{count}"
+    ends = [it[:2] for it in plugs if it[2] == lan]
+    gone = [*(f"unplug {' '.join(it)}" for it in ends), f"dellan {lan}"]
+    fresh = [f"{draws.one_of(bridges)[0]} {number}" for number in (20 + 2 * count, 21 + 2 * count)]
+    return draws.one_of([
+        [*gone, f"addlan {new}", *(f"plug {' '.join(it)} {new}" for it in ends)],
+        [f"unplug {bridge} {port}", f"plug {bridge} {port} {draws.one_of(lans)[0]}"],
+        [f"addlan {new}", *(f"{word} {it}{end}" for it in fresh for word, end in (("addport", ""), ("plug", f" {new}")))],
+        gone,
+    ])
+
+
+def parts_of(edits):
+    """The lines of edits by what they are of, a bridge or a LAN, in the order in which these come."""
+    parts = {}
+    for line in edits:
+        word, name = line.split()[:2]
+        parts.setdefault((word in OF_LANS, name), []).append(line)
+    return list(parts.values())
+
+
+def cabled(program, network, draws):
+    """A network in which up to three cables are others, so that all orders of its parts can be tried, and the edits to it by their parts."""
+    found = network, []
+    for count in range(1 + draws.below(3)):
+        if b"\nplug " in found[0]:
+            new = behind(program, found[0], of_cable(draws, found[0], count))
+            parts = parts_of(edits_between(program, network, new))
+            found = (new, parts) if len(parts) <= MOST_PARTS else found
+    return found
+
+
+def edits_between(program, old, new):
+    return [mstplan.line_of(it) for it in program.records("edits", old, new)[1:]]
 
 
 def text_of(steps, is_second):
@@ -103,12 +146,12 @@ def run(program, network, change, policy, *flags):
     return (int(found[2] or 0), found[1]) if found else None, ran.returncode
 
 
-def faults_of_change(program, what, network, steps, policy, wanted):
-    """What differs of one change, or of the edits to a network that is wanted, each a step of its own."""
+def faults_of_change(program, what, network, steps, policy, wanted, by="line"):
+    """What differs of one change, or of the edits to a network that is wanted: each a step of its own, or those of each bridge and LAN."""
     least, is_kept = Tried(program, network, steps, policy, wanted).least()
     kept = least if least and not least[0] else None
     is_read = b"root 0\n" not in policy
-    given, flags = (text_of(steps, False), []) if wanted is None else (wanted, ["--by", "line"])
+    given, flags = (text_of(steps, False), []) if wanted is None else (wanted, ["--by", by])
     faults = []
     for words, expected in ((flags, kept), ([*flags, "--fewest"], least)):
         status = 0 if expected and not expected[0] and is_kept and is_read else 1
@@ -120,15 +163,18 @@ def faults_of_change(program, what, network, steps, policy, wanted):
 def faults_of(path, number):
     program, draws, script = mstplan.Program(path), sketch.Draws(number + 10**6), sketch.drawn(number)
     network, _ = program.saved("\n".join([*script, ""]).encode())
-    policy = "\n".join([*policy_of(program, script, draws), ""]).encode()
-    steps, wanted = change_of(draws), None
-    if number % 2:
+    lines, what = policy_of(program, script, draws), f"network {number}"
+    if number % 3 == 2:
+        wanted, steps = cabled(program, network, draws)
+        policy = "\n".join([*lines, draws.one_of(TOGETHER), ""]).encode()
+        return faults_of_change(program, what, network, steps, policy, wanted, "part")
+    steps, policy, wanted = change_of(draws), "\n".join([*lines, ""]).encode(), None
+    if number % 3:
         new = behind(program, "\n".join([*script, ""]).encode(), [line for step in steps for line in step])
         # so many that all their orders can be tried
-        edits = [mstplan.line_of(it) for it in program.records("edits", network, new)[1:]][:4]
-        wanted = behind(program, network, edits)
-        steps = [[mstplan.line_of(it)] for it in program.records("edits", network, wanted)[1:]]
-    return faults_of_change(program, f"network {number}", network, steps, policy, wanted)
+        wanted = behind(program, network, edits_between(program, network, new)[:4])
+        steps = [[it] for it in edits_between(program, network, wanted)]
+    return faults_of_change(program, what, network, steps, policy, wanted)
 
 
 def check(path, count, first=0):

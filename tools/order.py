@@ -59,6 +59,13 @@ class Step:
             self.last = told
 
 
+@dataclass
+class End:
+    """The network that an order is to end in, and edits that make it of FILE's network: in their order each of them is accepted."""
+    network: bytes
+    edits: list
+
+
 def numbers_of(steps):
     return [it.number for it in steps]
 
@@ -133,8 +140,7 @@ class Search:
 
     def __init__(self, standing, judge, steps, wanted):
         self.standing, self.judge, self.steps = standing, judge, steps
-        self.all_edits = edits_of(steps)
-        # the network that is the end, or None for any; of the steps that are left and a network, with how many failing ones there is no order
+        # the end, or None for any; of the steps that are left and a network, with how many failing ones there is no order
         self.wanted, self.dead = wanted, {}
         self.longest, self.other_end, self.tried = [], None, 0
         self.began = self.last = time.monotonic()
@@ -150,11 +156,11 @@ class Search:
             self.standing.ask(f"undo {count}")
 
     def given_end(self):
-        """The network that the given order ends in, or None where a line of it is refused."""
+        """The end of the given order, or None where a line of it is refused."""
         made = [self.make(step) for step in self.steps]
-        network = None if any(why for _, why in made) else self.standing.saved()
+        found = None if any(why for _, why in made) else End(self.standing.saved(), edits_of(self.steps))
         self.take_back(sum(count for count, _ in made))
-        return network
+        return found
 
     def progress(self, front):
         self.tried += 1
@@ -167,7 +173,7 @@ class Search:
         """The least order of the steps that are left, behind the network that stands, with at most `spare` failing ones; or None."""
         if len(front) > len(self.longest):
             self.longest = front
-        if not rest and self.wanted in (None, network):
+        if not rest and (self.wanted is None or self.wanted.network == network):
             return front
         if not rest:
             self.other_end = self.other_end or front
@@ -193,7 +199,7 @@ class Search:
         return reason_of({line: why for line, why in now.items() if line not in then})
 
     def unkept_end(self):
-        return self.judge.unkept(self.wanted, self.all_edits, True)
+        return self.judge.unkept(self.wanted.network, self.wanted.edits, True)
 
     def beginning_with(self, step, front, others, network, spare):
         """The least order that goes on with a step from a network. Where there is none, the step is taken back."""
@@ -354,9 +360,10 @@ def main():
     network, lines = program.saved(script)
     refused, wanted = tell_refused(TOOL, words.script, lines), None
     if words.edits:
-        wanted, lines = program.saved(change)
+        new, lines = program.saved(change)
         refused = tell_refused(TOOL, words.edits, lines) or refused
-        change = cut([mstplan.line_of(it) for it in program.records("edits", network, wanted)[1:]], words.by)
+        wanted = End(new, [mstplan.line_of(it) for it in program.records("edits", network, new)[1:]])
+        change = cut(wanted.edits, words.by)
     try:
         found = searched(program, words, network, change, policy, wanted)
     except Stopped:
