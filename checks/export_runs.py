@@ -7,7 +7,8 @@ usage: export_runs.py PROGRAM [COUNT] [FIRST]    (so many pairs of networks of e
 Two networks are drawn by a number. The commands of the first one from nothing, and then those from the first to the second, go to
 sketches of Cisco's switches and of Open vSwitch's database; these print what tools/import/cisco.py and ovs.py read, and `mstplan edits` has
 nothing to set between what they make of it and the second network. So the forms agree with those of the importers; what a real switch
-says of them no sketch tells. The exit status is 1 where something differs.
+says of them no sketch tells. Numbers of ports, interfaces and bundles of a switch are different ones. A sketch of Linux bridges has the VLANs
+and the states of interfaces: what is shut are those of the cables that are down, one by one. The exit status is 1 where something differs.
 """
 
 import concurrent.futures
@@ -19,6 +20,7 @@ import re
 import shlex
 import subprocess
 import sys
+from dataclasses import dataclass
 
 TOP = os.path.join(os.path.dirname(os.path.abspath(__file__)), os.pardir)
 EXPORT = os.path.join(TOP, "tools", "export.py")
@@ -32,7 +34,7 @@ import ovs  # noqa: E402
 import sketch  # noqa: E402
 
 COUNT, IN_THE_GATE = 100, 12
-INTERFACE, SHORT = "GigabitEthernet1/0/{port}", "Gi1/0/{}"
+FULL, SHORT, EVERY = "GigabitEthernet1/0/{}", "Gi1/0/{}", frozenset(range(1, 4095))
 OF_IOS = {
     "cost": re.compile(r"spanning-tree mst ([0-9]+) cost ([0-9]+)"), "no cost": re.compile(r"no spanning-tree mst ([0-9]+) cost"),
     "priority": re.compile(r"spanning-tree mst ([0-9]+) port-priority ([0-9]+)"), "of bridge": re.compile(r"spanning-tree mst ([0-9]+) priority ([0-9]+)"),
@@ -46,24 +48,30 @@ LEFT = re.compile(r".*: (a cable.*|a new switch: .*|it has one cost in instance 
 # ---- a switch of Cisco's
 
 
-class Ios:
-    """What is set at a switch, by the commands that were typed."""
+def interface(vlans=EVERY):
+    """What is set of an interface that nothing was typed of."""
+    return {"cost": {}, "priority": {}, "vlans": vlans, "guard": False, "group": None, "shut": False}
 
-    def __init__(self, name, mac):
-        self.name, self.mac = name, mac
+
+class Ios:
+    """What is set at a switch, by the commands that were typed. What is typed at a bundle goes to its interfaces, too. `numbers` tells the number
+    of each interface in the spanning tree."""
+
+    def __init__(self, name, mac, numbers):
+        self.name, self.mac, self.numbers = name, mac, numbers
         self.priorities, self.limits, self.region, self.table, self.interfaces = {}, {}, {}, {}, {}
 
     def type(self, commands):
-        where = None
+        where, name = None, None
         for line in commands:
             command = line.strip()
             if not line.startswith(" "):
                 where = command if command.startswith(("interface ", "spanning-tree mst configuration")) else None
             if where and command == where:
+                name = cisco.short(where.removeprefix("interface "))
                 continue
             if where and where.startswith("interface "):
-                its = self.interfaces.setdefault(cisco.short(where.removeprefix("interface ")), {"cost": {}, "priority": {}, "vlans": None, "guard": False})
-                self.type_interface(its, command)
+                self.type_interface(name, command)
             elif not where and command != "!":
                 self.type_bridge(command)
             elif where and command != "exit":
@@ -74,6 +82,8 @@ class Ios:
             self.priorities[int(found[1])] = int(found[2])
         elif OF_IOS["limit"].fullmatch(command):
             self.limits[command.split()[2]] = command
+        elif command.startswith("default interface "):
+            self.interfaces.pop(cisco.short(command.removeprefix("default interface ")))
         elif command not in (f"hostname {self.name}", "spanning-tree mode mst"):
             raise ValueError(f"no command: {command}")
 
@@ -90,8 +100,25 @@ class Ios:
         else:
             raise ValueError(f"no command: {command}")
 
+    def type_interface(self, name, command):
+        its = self.interfaces.setdefault(name, interface())
+        word, *rest = command.split()
+        if word == "channel-group":
+            bundle = f"Po{rest[0]}"
+            if its["group"]:
+                raise ValueError(f"{name} is in {its['group']}: {command}")
+            its["group"] = bundle
+            self.interfaces.setdefault(bundle, interface())
+        elif command == "no channel-group":
+            its["group"] = None
+        elif command in ("shutdown", "no shutdown"):
+            its["shut"] = command == "shutdown"
+        elif command not in ("switchport mode trunk", "!"):
+            for one in (its, *(it for it in self.interfaces.values() if it["group"] == name)):
+                self.set(one, command)
+
     @staticmethod
-    def type_interface(its, command):
+    def set(its, command):
         if found := OF_IOS["cost"].fullmatch(command):
             its["cost"][int(found[1])] = int(found[2])
         elif found := OF_IOS["no cost"].fullmatch(command):
@@ -99,14 +126,18 @@ class Ios:
         elif found := OF_IOS["priority"].fullmatch(command):
             its["priority"][int(found[1])] = int(found[2])
         elif found := OF_IOS["vlans"].fullmatch(command):
-            vids = None if found[2] == "all" else set() if found[2] == "none" else set(sketch.numbers_in(found[2]))
+            vids = EVERY if found[2] == "all" else frozenset() if found[2] == "none" else frozenset(sketch.numbers_in(found[2]))
             its["vlans"] = its["vlans"] | vids if found[1] else vids
-        elif command.startswith("channel-group "):
-            its["group"] = command
-        elif command.startswith("spanning-tree guard "):
+        elif command in ("spanning-tree guard root", "spanning-tree guard none"):
             its["guard"] = command.endswith("root")
-        elif command not in ("switchport mode trunk", "!"):
+        else:
             raise ValueError(f"no command: {command}")
+
+    def bundled(self):
+        return {it["group"] for it in self.interfaces.values()}
+
+    def shut(self):
+        return {name for name, its in self.interfaces.items() if its["shut"]}
 
     def config(self):
         """What `show running-config` prints, as far as it is about this."""
@@ -116,12 +147,13 @@ class Ios:
             yield f" instance {tree} vlan {sketch.list_of(vid for vid, its in self.table.items() if its == tree)}"
         for name, its in self.interfaces.items():
             yield from ("!", f"interface {name}", " switchport mode trunk")
-            if its["vlans"] is not None:
+            if its["vlans"] != EVERY:
                 yield f" switchport trunk allowed vlan {sketch.list_of(its['vlans']) if its['vlans'] else 'none'}"
-            yield from [f" {it}" for it in (its.get("group"), "spanning-tree guard root" if its["guard"] else None) if it]
+            group = its["group"] and f"channel-group {its['group'].removeprefix('Po')} mode active"
+            yield from [f" {it}" for it in (group, "spanning-tree guard root" if its["guard"] else None) if it]
 
     def mst(self):
-        """What `show spanning-tree mst` prints. A bundle has its number as that of its port."""
+        """What `show spanning-tree mst` prints."""
         address = re.sub("(....)(....)(....)", r"\1.\2.\3", self.mac.replace(":", ""))
         for tree in sorted({0, *self.table.values()}):
             priority = self.priorities.get(tree, 32768)
@@ -129,13 +161,24 @@ class Ios:
             yield f"Bridge        address {address}  priority      {priority + tree} ({priority} sysid {tree})"
             yield "Interface        Role Sts Cost      Prio.Nbr Type"
             for name, its in self.interfaces.items():
-                if "group" not in its:
-                    number = re.fullmatch("[A-Za-z]+(?:1/0/)?([0-9]+)", name)[1]
-                    yield f"{name}          Desg FWD {its['cost'].get(tree, 20000)}     {its['priority'].get(tree, 128)}.{number}    P2p"
+                if not its["group"] and (not name.startswith("Po") or name in self.bundled()):
+                    yield f"{name}          Desg FWD {its['cost'].get(tree, 20000)}     {its['priority'].get(tree, 128)}.{self.numbers[name]}    P2p"
 
 
-def cisco_network(draws, cables):
-    """A network of Cisco's switches over these cables. Costs are those that the importer tells apart; a bundle is numbered as it numbers one."""
+@dataclass
+class Cable:
+    """A cable: its LAN, its ends as (switch, number of the port, of the interface), the bundles' numbers at these, or None where it is of
+    none, and whether it ever is of one. The first cable of a bundle has its settings."""
+    lan: str
+    ends: list
+    groups: tuple | None = None
+    is_bundled: bool = False
+    is_first: bool = True
+
+
+def cisco_network(draws, cables, kept):
+    """A network of Cisco's switches over these cables. Costs are those that the importer tells apart. About half of what is set of ports is as it
+    was in the network before, which `kept` has by switch, port and tree."""
     regions = [[f"1 {name}", {tree: draws.below(300) + 1 for tree in range(1, 1 + draws.below(4))}] for name in ("hq", "lab")]
     lines, trees = ["mstplan 2"], {}
     for place, bridge in enumerate("abcde"):
@@ -145,12 +188,15 @@ def cisco_network(draws, cables):
         lines += [f"setvid2mstid {bridge} {tree} {vid * 10}-{vid * 10 + 5},{vid * 10 + 7}" for tree, vid in table.items()]
         lines += [f"settreeprio {bridge} {tree} {draws.below(16) * 4096}" for tree in trees[bridge]]
         lines += [f"setmaxhops {bridge} {6 + draws.below(30)}", f"setmaxage {bridge} {6 + draws.below(30)}"]
-    for lan, ends, is_bundle in cables:
-        lines.append(f"addlan {lan}")
-        for bridge, port, key in ends:
-            lines += [f"addport {bridge} {port}", f"plug {bridge} {port} {lan}"] + [f"setkey {bridge} {port} {key}"] * is_bundle
-            if not is_bundle or port == key:
-                lines += [line for tree in trees[bridge] for line in of_port(draws, f"{bridge} {port}", tree, is_bundle)]
+    for it in cables:
+        lines += [f"addlan {it.lan}"] + [f"lan {it.lan} down"] * (draws.below(3) == 0)
+        for at, (bridge, port, _) in enumerate(it.ends):
+            lines += [f"addport {bridge} {port}", f"plug {bridge} {port} {it.lan}"]
+            lines += [f"setkey {bridge} {port} {it.groups[at]}"] if it.groups else []
+            for tree in trees[bridge] if it.is_first else ():
+                if (bridge, port, tree) not in kept or draws.below(2):
+                    kept[bridge, port, tree] = list(of_port(draws, f"{bridge} {port}", tree, it.is_bundled))
+                lines += kept[bridge, port, tree]
     return lines
 
 
@@ -161,31 +207,54 @@ def of_port(draws, port, tree, is_bundle):
     yield f"settreeportprio {port} {tree} {draws.below(16) * 16}"
     if not tree:
         yield f"setportpathcost {port} {cost}"
-        yield f"setportvlans {port} {draws.one_of(['all', 'all', 'none', '1-9,20', ','.join(map(str, range(1001, 1200, 2)))])}"
+        yield f"setportvlans {port} {vlans(draws)}"
         yield f"setportrestrrole {port} {draws.one_of(['no', 'no', 'yes'])}"
 
 
+def vlans(draws):
+    """VLANs of a port, of which some have no room in one line."""
+    return draws.one_of(["all", "all", "none", "1-9,20", ",".join(map(str, range(1001, 1200, 2)))])
+
+
 def cisco_cables(draws):
-    """Cables between pairs of switches, each as its LAN's name, its ends with the number of their bundle, and whether it is of one."""
-    numbers, cables = dict.fromkeys("abcde", 0), []
-    for one, other in itertools.combinations("abcde", 2):
+    """The cables between pairs of switches, in two lists for two networks. Between some pairs there are two, which are a bundle."""
+    numbers, bundled, found = dict.fromkeys("abcde", 0), set(), ([], [])
+    gaps = {it: draws.below(4) for it in numbers}
+    for pair in itertools.combinations("abcde", 2):
         if draws.below(3) == 0:
             continue
-        for bridge in (one, other):
-            numbers[bridge] += 1
-        ends, is_bundle = [(it, numbers[it], numbers[it]) for it in (one, other)], not any(it[2] for it in cables)
-        cables.append((f"{one}-{other}", ends, is_bundle))
-        if is_bundle:
-            cables.append((f"{one}-{other}.2", [(bridge, 4095, key) for bridge, _, key in ends], True))
-    return cables
+        is_bundle = (not bundled & {*pair},) * 2
+        groups = tuple(1 + draws.below(100) for _ in pair)
+        ends = []
+        for count in range(2):
+            for bridge in pair:
+                numbers[bridge] += 1
+            ends.append([(it, numbers[it] + gaps[it] if not count else 4095, numbers[it]) for it in pair])
+        if all(is_bundle):
+            ends[0] = [(it, 2088 + group, number) for (it, _, number), group in zip(ends[0], groups)]
+        bundled |= {*pair} if any(is_bundle) else set()
+        for cables, is_one in zip(found, is_bundle):
+            cables.append(Cable("-".join(pair), ends[0], groups if is_one else None, any(is_bundle)))
+            cables += [Cable(f"{'-'.join(pair)}.2", ends[1], groups, True, False)] if is_one else []
+    return found
+
+
+def numbers_at(bridge, *lists):
+    """The numbers that a switch prints: those of interfaces, and of each bundle that of its first cable's port."""
+    found = {}
+    for it in (it for cables in lists for it in cables):
+        for at, (name, port, number) in enumerate(it.ends):
+            if name == bridge and it.is_first:
+                found |= {SHORT.format(number): port} | ({f"Po{it.groups[at]}": port} if it.groups else {})
+    return found
 
 
 def cisco_files(switches, cables):
     """The files of the switches, as the importer reads them."""
     files = {}
     for name, its in switches.items():
-        heard = [(port, ends[1 - at]) for _, ends, _ in cables for at, (bridge, port, _) in enumerate(ends) if bridge == name]
-        cdp = [f"Device ID: {far}\nInterface: {SHORT.format(port)},  Port ID (outgoing port): {SHORT.format(other)}" for port, (far, other, _) in heard]
+        heard = [(number, it.ends[1 - at]) for it in cables for at, (bridge, _, number) in enumerate(it.ends) if bridge == name]
+        cdp = [f"Device ID: {far}\nInterface: {SHORT.format(number)},  Port ID (outgoing port): {SHORT.format(other)}" for number, (far, _, other) in heard]
         for ending, lines in (("config", its.config()), ("mst", its.mst()), ("cdp", cdp)):
             files[f"{name}.{ending}"] = "".join(f"{line}\n" for line in lines).encode()
     return files
@@ -193,17 +262,104 @@ def cisco_files(switches, cables):
 
 def faults_of_cisco(path, number):
     program, draws = mstplan.Program(path), sketch.Draws(number + 10**6)
-    cables = cisco_cables(draws)
-    first, second = (saved(program, cisco_network(draws, cables)) for _ in range(2))
-    switches = {bridge: Ios(bridge, f"02:00:00:00:00:{place + 1:02x}") for place, bridge in enumerate("abcde")}
+    lists, kept = cisco_cables(draws), {}
+    first, second, third = (saved(program, cisco_network(draws, cables, kept)) for cables in (*lists, lists[1]))
+    names = {f"{bridge} {port} {FULL.format(it)}" for cables in lists for cable in cables for bridge, port, it in cable.ends}
+    switches = {it: Ios(it, f"02:00:00:00:00:{place + 1:02x}", numbers_at(it, *lists)) for place, it in enumerate("abcde")}
     faults = []
     for old, new in ((b"", first), (first, second)):
-        printed, told = exported(path, old, new, "cisco", INTERFACE)
+        printed, told = exported(path, old, new, "cisco", "", names)
         faults += [f"cisco {number}: {it}" for it in told if not LEFT.fullmatch(it)]
         for name, commands in by_device(printed, "! ").items():
             switches[name].type(commands)
-    network, unread = cisco.read_files(cisco_files(switches, cables))
-    return faults + unread + differing(program, f"cisco {number}", network, second)
+    network, unread = cisco.read_files(cisco_files(switches, lists[1]))
+    faults += unread + shut_otherwise(f"cisco {number}", switches, lists[1], lans_down(second)) + differing(program, f"cisco {number}", network, all_up(second))
+    # what the importer's own script calls ports is enough for what comes behind; that all LANs are up there, no line changes
+    printed, told = exported(path, "".join(f"{it}\n" for it in network.script()).encode(), third, "cisco", "", ())
+    faults += [f"cisco {number}: {it}" for it in told if not LEFT.fullmatch(it)]
+    for name, commands in by_device(printed, "! ").items():
+        switches[name].type(commands)
+    network, unread = cisco.read_files(cisco_files(switches, lists[1]))
+    faults += unread + shut_otherwise(f"cisco {number}", switches, lists[1], lans_down(second) | lans_down(third))
+    return faults + differing(program, f"cisco {number}, imported", network, all_up(third))
+
+
+def shut_otherwise(what, switches, cables, down):
+    """Where other interfaces are shut than those of the cables whose LANs are down."""
+    shut = {(bridge, SHORT.format(it)) for cable in cables if cable.lan in down for bridge, _, it in cable.ends}
+    told = {(name, it) for name, its in switches.items() for it in its.shut()}
+    return [f"{what}: {sorted(told)} are shut in place of {sorted(shut)}"] if told != shut else []
+
+
+# ---- Linux bridges
+
+
+class Linux:
+    """The VLANs of interfaces and their states, by the commands that were typed; those of bonds are made beforehand."""
+
+    def __init__(self, bonds):
+        self.vlans, self.states, self.masters = dict.fromkeys(bonds, EVERY), {}, {}
+
+    def type(self, words):
+        if words[:2] == ["bridge", "vlan"] and words[3::2] == ["dev", "vid"]:
+            vids = frozenset(sketch.numbers_in(words[6]))
+            self.vlans[words[4]] = self.vlans[words[4]] | vids if words[2] == "add" else self.vlans[words[4]] - vids
+        elif words[:4] == ["ip", "link", "set", "dev"] and words[5] == "master":
+            self.masters[words[4]], self.vlans[words[4]] = words[6], frozenset([1])
+        elif words[:4] == ["ip", "link", "set", "dev"] and words[5:] == ["nomaster"]:
+            del self.masters[words[4]], self.vlans[words[4]]
+        elif words[:4] == ["ip", "link", "set", "dev"] and words[5] in ("up", "down"):
+            self.states[words[4]] = words[5]
+        elif words[:4] != ["ip", "link", "add", "name"] and words[5:6] != ["address"]:
+            raise ValueError(f"no command: {words}")
+
+
+def linux_network(draws, lans):
+    """A network of Linux bridges over these LANs, each with its ends as (bridge, port, key): VLANs, and states of the LANs."""
+    lines = ["mstplan 2", *(f"addbridge {it} 02:00:00:00:00:{place + 1:02x}" for place, it in enumerate("ABC"))]
+    for lan, ends in lans.items():
+        lines += [f"addlan {lan}"] + [f"lan {lan} down"] * draws.below(2)
+        for bridge, port, key in ends:
+            lines += [f"addport {bridge} {port}", f"setkey {bridge} {port} {key}", f"plug {bridge} {port} {lan}"]
+            lines += [f"setportvlans {bridge} {port} {vlans(draws)}"] if not key or port % 2 else []
+    return lines
+
+
+def linux_lans(draws):
+    """LANs between pairs of bridges; two are a bundle of its odd and its even port."""
+    numbers, lans = dict.fromkeys("ABC", 1), {}
+    for pair in itertools.combinations("ABC", 2):
+        is_bundle = draws.below(2)
+        for count in range(1 + is_bundle):
+            lans[f"{'-'.join(pair)}.{count}"] = [(it, numbers[it] + count, is_bundle * numbers[it]) for it in pair]
+        numbers |= {it: numbers[it] + 2 for it in pair}
+    return lans
+
+
+def faults_of_linux(path, number):
+    program, draws = mstplan.Program(path), sketch.Draws(number + 10**8)
+    lans = linux_lans(draws)
+    names = {(it, port): (f"{it}.{port}", f"{it}.bond{key}" if key else "") for ends in lans.values() for it, port, key in ends}
+    told, faults = {" ".join([it, str(port), *words]) for (it, port), words in names.items()}, []
+    first, second = (saved(program, linux_network(draws, lans)) for _ in range(2))
+    linux, states = Linux({bond for _, bond in names.values() if bond}), {}
+    for old, new in ((b"", first), (first, second)):
+        printed, _ = exported(path, old, new, "iproute2", "", told)
+        for command in (it for it in printed if not it.startswith("#")):
+            linux.type(shlex.split(command))
+        printed, _ = exported(path, old, new, "ovs", "", told)
+        states |= {it.split()[3]: it.split()[4] for it in printed if it.startswith("ovs-ofctl mod-port ")}
+    allowed = {tuple(it.split()[1:3]): it.split()[3] for it in second.decode().splitlines() if it.startswith("setportvlans ")}
+    wanted = {}
+    for bridge, port, key in (it for ends in lans.values() for it in ends):
+        its = allowed.get((bridge, str(port)), "all")
+        wanted |= {names[bridge, port][bool(key)]: EVERY if its == "all" else frozenset(sketch.numbers_in(its.replace("none", "-")))} if not key or port % 2 else {}
+    faults += [f"linux {number}: {it} has other VLANs" for it in wanted.keys() | linux.vlans.keys() if wanted.get(it) != linux.vlans.get(it)]
+    down = {names[end[:2]][0] for lan in lans_down(second) for end in lans[lan]}
+    for what, its in (("linux", linux.states), ("ovs", states)):
+        shut = {name for name, state in its.items() if state == "down"}
+        faults += [f"{what} {number}: {sorted(shut)} are down in place of {sorted(down)}"] if shut != down else []
+    return faults
 
 
 # ---- Open vSwitch's database
@@ -281,7 +437,7 @@ def faults_of_ovs(path, number):
     (first, _), (second, speeds) = ovs_network(draws), ovs_network(draws)
     first, second, faults = saved(program, first), saved(program, second), []
     for old, new in ((b"", first), (first, second)):
-        printed, told = exported(path, old, new, "ovs", "{bridge}-{port}")
+        printed, told = exported(path, old, new, "ovs", "{bridge}-{port}", ())
         faults += [f"ovs {number}: {it}" for it in told]
         for command in (it for it in printed if not it.startswith("#")):
             database.type(command)
@@ -289,7 +445,61 @@ def faults_of_ovs(path, number):
     return faults + unread + differing(program, f"ovs {number}", network, second)
 
 
-# ---- both
+# ---- all of them
+
+
+# Two switches with a bundle of two cables, whose interfaces and bundles the comments name: what some changes are at the first one, by hand.
+BUNDLE = """mstplan 2
+# a: 2089 is {0} of {2}, 4095 is {1} of {2}
+addbridge a 02:00:00:00:00:01
+# b: 2089 is {0} of {2}, 4095 is {1} of {2}
+addbridge b 02:00:00:00:00:02
+addlan l
+addlan m
+addport a 2089
+setkey a 2089 1
+setportvlans a 2089 10
+plug a 2089 l
+addport a 4095
+setkey a 4095 1
+plug a 4095 m
+addport b 2089
+setkey b 2089 1
+plug b 2089 l
+addport b 4095
+setkey b 4095 1
+plug b 4095 m
+"""
+CISCO, LINUX = ("Gi1/0/7", "Gi1/0/8", "Po1"), ("eth0", "eth1", "bond0")
+PASSING = "addbridge z 02:00:00:00:00:09\naddport z 9\nsetportpathcost z 9 7\nsetportvlans z 9 10\nsettreeprio z 0 4096\ndelport z 9\ndelbridge z\n"
+WORKED = [
+    ("cisco", CISCO, "lan l down\n", ["interface Gi1/0/7", " shutdown", "!"]),
+    ("cisco", CISCO, "lan m down\n", ["interface Gi1/0/8", " shutdown", "!"]),
+    ("cisco", CISCO, "setportvlans a 2089 10,11\n", ["interface Port-channel1", " switchport trunk allowed vlan 10-11", "!"]),
+    ("cisco", CISCO, PASSING, []),
+    ("arista", CISCO, "lan m down\n", ["interface Gi1/0/8", " shutdown", "!"]),
+    ("arista", CISCO, PASSING, []),
+    ("mstpctl", LINUX, "setportpathcost a 2089 7\n", ["mstpctl setportpathcost a bond0 7"]),
+    ("mstpctl", LINUX, PASSING, []),
+    ("iproute2", LINUX, "lan m down\n", ["ip link set dev eth1 down"]),
+    ("iproute2", LINUX, "setportvlans a 2089 none\n", ["bridge vlan del dev bond0 vid 1-4094"]),
+    ("iproute2", LINUX, PASSING, []),
+    ("ovs", LINUX, "lan l down\n", ["ovs-ofctl mod-port a eth0 down"]),
+    ("ovs", LINUX, "setportvlans a 2089 10,11\n", ["ovs-vsctl set port bond0 trunks=10,11"]),
+    ("ovs", LINUX, PASSING, []),
+]
+
+
+def faults_of_words(path):
+    """What differs of the changes that are worked by hand: nothing of them is left to hands."""
+    faults = []
+    for form, names, change, wanted in WORKED:
+        with mstplan.written(BUNDLE.format(*names).encode()) as script, mstplan.written(f"mstplan 2\n{change}".encode()) as edits:
+            words = [sys.executable, EXPORT, path, script, "--change", edits, "--to", form]
+            ran = subprocess.run(words, capture_output=True, text=True, check=False)
+        found = by_device(ran.stdout.splitlines(), "! " if form in ("cisco", "arista") else "# ").get("a", [])
+        faults += [f"{form} {change!r}: status {ran.returncode}, {found}, {ran.stderr[-300:]}"] if (found, ran.returncode, ran.stderr) != (wanted, 0, "") else []
+    return faults
 
 
 def saved(program, lines):
@@ -299,11 +509,21 @@ def saved(program, lines):
     return network
 
 
-def exported(path, old, new, form, interface):
-    """The lines that the tool prints, and what it tells."""
+def lans_down(network):
+    return {it.split()[1] for it in network.decode().splitlines() if it.startswith("lan ")}
+
+
+def all_up(network):
+    """A network with all its LANs up: no importer reads what is shut."""
+    return b"".join(it for it in network.splitlines(keepends=True) if not it.startswith(b"lan "))
+
+
+def exported(path, old, new, form, interface, names):
+    """The lines that the tool prints, and what it tells. `names` are lines that call ports by name."""
     with contextlib.ExitStack() as paths:
         files = [paths.enter_context(mstplan.written(it)) for it in (old, new)]
-        ran = subprocess.run([sys.executable, EXPORT, path, *files, "--to", form, "--interface", interface], capture_output=True, text=True, check=False)
+        words = ["--to", form, "--interface", interface, "--names", paths.enter_context(mstplan.written("\n".join([*names, ""]).encode()))]
+        ran = subprocess.run([sys.executable, EXPORT, path, *files, *words], capture_output=True, text=True, check=False)
     told = [it.removeprefix("export.py: by hand: ") for it in ran.stderr.splitlines()]
     return ran.stdout.splitlines(), told + ([] if ran.returncode == bool(told) else [f"status {ran.returncode}"])
 
@@ -328,7 +548,7 @@ def differing(program, what, network, wanted):
 def check(path, count, first=0):
     """What differs, of so many pairs of networks of each kind."""
     with concurrent.futures.ThreadPoolExecutor(os.cpu_count()) as pool:
-        found = [pool.map(lambda number, its=its: its(path, number), range(first, first + count)) for its in (faults_of_cisco, faults_of_ovs)]
+        found = [pool.map(lambda number, its=its: its(path, number), range(first, first + count)) for its in (faults_of_cisco, faults_of_linux, faults_of_ovs)]
         return list(itertools.chain.from_iterable(itertools.chain(*found)))
 
 

@@ -317,7 +317,7 @@ def check_bundles(program):
                                     "ports edge:1,edge:4095,south:7,south:4095"),
         (("cisco.py", ["cisco/campus"]), "lag core1-core2 8000.00:1b:21:aa:00:01.0001+8000.00:1b:21:aa:00:02.0001 speed 2000000 "
                                          "up core1-core2,core1-core2.2 lans core1-core2,core1-core2.2 "
-                                         "ports core1:1,core1:4095,core2:1,core2:4095"),
+                                         "ports core1:2089,core1:4095,core2:2089,core2:4095"),
     ):
         lines, _ = answers(program, imported(*words)[0] + "showlag\n")
         wrong += [] if lines == [wanted] else lines or [f"no bundle in {words[1][0]}"]

@@ -106,6 +106,7 @@ def main():
           for name, its in (("order.py", order_runs), ("promises.py", promises_runs), ("export.py", export_runs), ("ci.py", ci_runs), ("lacking.py", lacking_runs))),
         ("a campus of 50 switches: promises.py", promises_runs.faults_of_campus),
         ("samples and no answers: ci.py", ci_runs.faults_of_words),
+        ("changes by hand: export.py", export_runs.faults_of_words),
         ("samples: lacking.py", lacking_runs.faults_of_samples),
         ("short words: lacking.py", lacking_runs.faults_of_names),
     ):

@@ -4,12 +4,13 @@
 What is to be set is what `mstplan edits FILE NEW` prints, or the lines of a change that PROGRAM accepts. Commands come by step, and in a
 step by switch. An edit that no command says (a cable, a MAC address, a switch's power, and what such a device doesn't have) stands in a
 comment, is told by its line on standard error, and gives status 1. Ports are called as the comments of an importer's script call them,
-or as --names or --interface say.
+or as --names or --interface say. The settings of links that count as one stand at their bundle: Cisco's Port-channel has the number of
+their key, and elsewhere its name is told with the interface of each cable (`1 is eth0 of bond0`, or a fourth word in NAMES).
 
 Forms: cisco (IOS and IOS XE with MST), arista (EOS), mstpctl (mstpd), iproute2 (ip and bridge: links and VLANs alone) and ovs (Open
 vSwitch with RSTP). What is written for cisco and ovs is what import/cisco.py and import/ovs.py read. All are made by the documents of
-these devices; none was tried on a switch, and those of arista, mstpctl and iproute2 nowhere at all. Two of them may do together what one
-alone can't: --to mstpctl,iproute2.
+these devices; none was tried on a switch, and those of arista and mstpctl nowhere at all. Two of them may do together what one alone
+can't: --to mstpctl,iproute2.
 
 For example: export.py mstplan now.script wanted.script --to cisco --interface GigabitEthernet1/0/{port}
              export.py mstplan now.script --change ordered.change --to mstpctl,iproute2 --interface {bridge}.{port}
@@ -29,14 +30,14 @@ TOOL = "export.py"
 
 
 def names_in(text, path):
-    """The interfaces of a file of lines BRIDGE PORT INTERFACE, by (bridge, number)."""
+    """What a file of lines BRIDGE PORT INTERFACE or BRIDGE PORT INTERFACE BUNDLE calls ports, by (bridge, number)."""
     found = {}
     for number, line in enumerate(mstplan.lines_in(text), start=1):
         words = line.decode(errors="replace").split()
         if words and not words[0].startswith("#"):
-            if len(words) != 3 or not words[1].isdecimal():
-                raise mstplan.Failed(f"{name_of(path)}: line {number} isn't BRIDGE PORT INTERFACE")
-            found[words[0], int(words[1])] = words[2]
+            if len(words) not in (3, 4) or not words[1].isdecimal():
+                raise mstplan.Failed(f"{name_of(path)}: line {number} isn't BRIDGE PORT INTERFACE, nor with a BUNDLE behind it")
+            found[words[0], int(words[1])] = words[2], words[3] if words[3:] else None
     return found
 
 
@@ -53,7 +54,7 @@ class Export:
             self.standing.make(edit)
         before, now = Network(self.saved), Network(self.saved)
         self.saved = self.standing.saved()
-        devices = [FORMS[it](Network(self.saved), now, self.naming) for it in self.forms]
+        devices = [FORMS[it](before, now, Network(self.saved), self.naming) for it in self.forms]
         by_hand = []
         for number, edit in lines:
             whys = [it.tried(edit) for it in devices]
@@ -61,7 +62,7 @@ class Export:
                 whys = dict.fromkeys(it.removeprefix(f"{edit}: ") for it in whys)
                 by_hand.append(f"line {number} {edit}: {'; '.join(whys)}")
             now.make(edit)
-        by_hand += [left for it in devices for left in it.finish(before)]
+        by_hand += [left for it in devices for left in it.finish()]
         self.left += by_hand
         return [*(f"{self.comment} by hand: {it}" for it in by_hand), *(line for it in devices for line in it.lines())]
 
@@ -89,7 +90,7 @@ def words_of():
     parser.add_argument("--change", metavar="CHANGE", help="in place of NEW: the steps, with blank lines between")
     parser.add_argument("--to", metavar="FORM", required=True, help=f"one or some of {', '.join(FORMS)}, with commas between")
     parser.add_argument("--interface", metavar="NAME", default="", help="what a port is called, with {bridge} and {port} in it")
-    parser.add_argument("--names", metavar="NAMES", help="a file of lines BRIDGE PORT INTERFACE, which go before all else")
+    parser.add_argument("--names", metavar="NAMES", help="a file of lines BRIDGE PORT INTERFACE [BUNDLE], which go before all else")
     words = parser.parse_intermixed_args()
     if (words.new is None) == (words.change is None):
         parser.error("FILE NEW, or FILE --change CHANGE")
@@ -104,11 +105,11 @@ def words_of():
 
 
 def naming_of(words, files, scripts):
-    """What a port is called, by bridge and number; None where nothing says it."""
+    """What a port's interface and its bundle are called, by bridge and number; None where nothing says it."""
     told = interfaces_of(*scripts)
     if words.names:
         told |= names_in(files.bytes_of(words.names), words.names)
-    return lambda bridge, port: told.get((bridge, port)) or words.interface.format(bridge=bridge, port=port) or None
+    return lambda bridge, port: told.get((bridge, port)) or (words.interface.format(bridge=bridge, port=port) or None, None)
 
 
 def main():

@@ -77,7 +77,8 @@ class Network:
     """Bridges and LANs by name."""
 
     def __init__(self, saved):
-        self.bridges, self.lans = {}, {}
+        # the ports in each LAN are looked for when they are asked for, and again after an edit
+        self.bridges, self.lans, self.ends = {}, {}, None
         for line in mstplan.lines_in(saved):
             edit = mstplan.edit_in(line, 0)
             if edit is not None:
@@ -86,6 +87,7 @@ class Network:
     def make(self, edit):
         """Makes an edit of version 2."""
         word, name, *its = edit.split()
+        self.ends = None
         if word in ("addlan", "dellan", "lan", "speed"):
             self.make_lan(word, name, *its)
         elif word == "addbridge":
@@ -141,7 +143,12 @@ class Network:
 
     def plugs(self, lan):
         """The ports in a LAN, each as (bridge, number)."""
-        return [(name, number) for name, bridge in sorted(self.bridges.items()) for number, port in sorted(bridge.ports.items()) if port.lan == lan]
+        if self.ends is None:
+            self.ends = {}
+            for name, bridge in sorted(self.bridges.items()):
+                for number, port in sorted(bridge.ports.items()):
+                    self.ends.setdefault(port.lan, []).append((name, number))
+        return self.ends.get(lan, [])
 
     def far(self, bridge, number):
         """The names of the other bridges in a port's LAN."""
@@ -154,6 +161,13 @@ class Network:
         if not ports[number].key or len(far) != 1:
             return number
         return min((it for it, port in ports.items() if port.key == ports[number].key and self.far(bridge, it) == far), default=number)
+
+    def stands(self, bridge, number):
+        """The port whose settings a port's bundle has, as a device has one: of those with its key the first that is plugged, or else the first. One without a key
+        stands for itself."""
+        ports = self.bridges[bridge].ports
+        bundled = [it for it, port in ports.items() if port.key == ports[number].key] if ports[number].key else [number]
+        return min([it for it in bundled if ports[it].lan] or bundled)
 
     def region(self, bridge):
         """What the bridges of its region have in common."""
@@ -171,7 +185,8 @@ class Network:
 
 
 def interfaces_of(*scripts):
-    """What comments that importers put before `addbridge` call ports: interfaces by (bridge, number)."""
+    """What comments that importers put before `addbridge` call ports, by (bridge, number): the interface of its cable, and the bundle that
+    this is of, or None."""
     found = {}
     for script in scripts:
         told = ""
@@ -181,6 +196,8 @@ def interfaces_of(*scripts):
                 continue
             if line.startswith("addbridge ") and ": " in told:
                 name = line.split()[1]
-                found |= {(name, int(number)): its for number, its in NAMED.findall(told.split(": ", 1)[1])}
+                for number, its in NAMED.findall(told.split(": ", 1)[1]):
+                    interface, _, bundle = its.partition(" of ")
+                    found[name, int(number)] = interface, bundle or None
             told = ""
     return found

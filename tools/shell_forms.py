@@ -8,11 +8,27 @@ from settings import HIGHEST_VID, automatic, lists, vids_of
 
 # What an interface or a bridge may be called in Linux, so that no name is a command of its own.
 LINUX = re.compile(r"[A-Za-z0-9][A-Za-z0-9_.-]{0,14}")
+EVERY = f"1-{HIGHEST_VID}"
 
 
 class Shell(Device):
-    """Commands of a shell, in the order of the edits."""
+    """Commands of a shell, in the order of the edits. A bundle is made by hand, and has a name of its own."""
     called = LINUX
+
+    def cable(self, bridge, number):
+        if self.port(bridge, number).key:
+            self.bundle(bridge, number, None)
+        return super().cable(bridge, number)
+
+    def bundle(self, bridge, number, key):
+        _, found = self.naming(bridge, int(number))
+        if not found:
+            raise Why(f"it isn't told what {bridge}:{number} and its bundle are called; --names tells both")
+        return self.checked(found)
+
+    def of_no_bundle(self, bridge, number):
+        if self.port(bridge, number).key:
+            raise Why("it comes into a bundle, which is made by hand")
 
     def run(self, bridge, *commands):
         if not LINUX.fullmatch(bridge):
@@ -59,24 +75,24 @@ class Mstpctl(Shell):
         self.same("settreeprio", bridge, tree, str(int(priority) // 4096))
 
     def setportpathcost(self, bridge, number, cost):
-        self.same("setportpathcost", bridge, self.name(bridge, number), cost)
+        self.same("setportpathcost", bridge, self.at(bridge, number), cost)
 
     def settreeportcost(self, bridge, number, tree, cost):
         self.of_tree(bridge, tree)
-        self.same("settreeportcost", bridge, self.name(bridge, number), tree, cost)
+        self.same("settreeportcost", bridge, self.at(bridge, number), tree, cost)
 
     def settreeportprio(self, bridge, number, tree, priority):
         self.of_tree(bridge, tree)
-        self.same("settreeportprio", bridge, self.name(bridge, number), tree, str(int(priority) // 16))
+        self.same("settreeportprio", bridge, self.at(bridge, number), tree, str(int(priority) // 16))
 
     def setportrestrrole(self, bridge, number, restricted):
-        self.same("setportrestrrole", bridge, self.name(bridge, number), restricted)
+        self.same("setportrestrrole", bridge, self.at(bridge, number), restricted)
 
 
 class Iproute2(Shell):
     """Links, VLANs and states, by ip and bridge; the spanning tree is mstpd's."""
 
-    def finish(self, before):
+    def finish(self):
         return []
 
     def addbridge(self, bridge, mac):
@@ -90,26 +106,28 @@ class Iproute2(Shell):
         self.run(bridge, f"ip link set dev {bridge} {'up' if power == 'on' else 'down'}")
 
     def addport(self, bridge, number):
-        name = self.name(bridge, number)
-        self.run(bridge, f"ip link set dev {name} master {bridge}", f"bridge vlan add dev {name} vid 1-{HIGHEST_VID}", f"ip link set dev {name} up")
+        self.of_no_bundle(bridge, number)
+        name = self.cable(bridge, number)
+        self.run(bridge, f"ip link set dev {name} master {bridge}", f"bridge vlan add dev {name} vid {EVERY}", f"ip link set dev {name} up")
 
     def delport(self, bridge, number):
-        self.run(bridge, f"ip link set dev {self.name(bridge, number)} nomaster")
+        self.run(bridge, f"ip link set dev {self.cable(bridge, number)} nomaster")
 
     def setportvlans(self, bridge, number, vids):
-        name, every = self.name(bridge, number), f"1-{HIGHEST_VID}"
-        some = [] if vids == "none" else [every] if vids == "all" else vids.split(",")
-        self.run(bridge, *[f"bridge vlan del dev {name} vid {every}"] * (vids != "all"), *(f"bridge vlan add dev {name} vid {it}" for it in some))
+        name = self.at(bridge, number)
+        some = [] if vids == "none" else [EVERY] if vids == "all" else vids.split(",")
+        self.run(bridge, *[f"bridge vlan del dev {name} vid {EVERY}"] * (vids != "all"), *(f"bridge vlan add dev {name} vid {it}" for it in some))
 
     def lan(self, lan, state):
         for bridge, number in self.network.plugs(lan):
-            self.run(bridge, f"ip link set dev {self.name(bridge, number)} {state}")
+            self.run(bridge, f"ip link set dev {self.cable(bridge, number)} {state}")
 
 
 class Ovs(Shell):
-    """Open vSwitch with RSTP. A cable is named in external_ids:mstplan-lan. Costs are written out: its automatic ones are others."""
+    """Open vSwitch with RSTP. A cable is named in external_ids:mstplan-lan. Costs are written out: its automatic ones are others. It runs no
+    spanning tree on a bond, so nothing is set of one but by a line that says so."""
 
-    def finish(self, before):
+    def finish(self):
         return []
 
     def run(self, bridge, *commands):
@@ -141,28 +159,30 @@ class Ovs(Shell):
         self.run(bridge, f"set bridge {bridge} other_config:rstp-max-age={limit}")
 
     def addport(self, bridge, number):
-        name = self.name(bridge, number)
+        self.of_no_bundle(bridge, number)
+        name = self.cable(bridge, number)
         self.run(bridge, f"add-port {bridge} {name}", f"set port {name} other_config:rstp-port-num={number}")
 
     def delport(self, bridge, number):
-        self.run(bridge, f"del-port {bridge} {self.name(bridge, number)}")
+        if self.port(bridge, number).key:
+            raise Why("it is of a bond, which is taken apart by hand")
+        self.run(bridge, f"del-port {bridge} {self.cable(bridge, number)}")
 
     def plug(self, bridge, number, lan):
-        name = self.name(bridge, number)
-        self.run(bridge, f"set interface {name} external_ids:mstplan-lan={lan}")
+        self.run(bridge, f"set interface {self.cable(bridge, number)} external_ids:mstplan-lan={lan}")
         self.automatic(bridge, number)
 
     def unplug(self, bridge, number):
-        self.run(bridge, f"remove interface {self.name(bridge, number)} external_ids mstplan-lan")
+        self.run(bridge, f"remove interface {self.cable(bridge, number)} external_ids mstplan-lan")
 
     def automatic(self, bridge, number):
         """The cost of a port, where it is that of its cable's speed."""
         port = self.port(bridge, number)
-        if not port.external and port.lan:
+        if not port.external and port.lan and not port.key:
             self.cost(bridge, number, automatic(self.network.lans[port.lan].speed))
 
     def cost(self, bridge, number, cost):
-        self.run(bridge, f"set port {self.name(bridge, number)} other_config:rstp-path-cost={cost}")
+        self.run(bridge, f"set port {self.at(bridge, number)} other_config:rstp-path-cost={cost}")
 
     def addlan(self, lan):
         """A cable is named at its ends alone."""
@@ -184,17 +204,17 @@ class Ovs(Shell):
 
     def settreeportprio(self, bridge, number, tree, priority):
         self.of_tree(tree)
-        self.run(bridge, f"set port {self.name(bridge, number)} other_config:rstp-port-priority={priority}")
+        self.run(bridge, f"set port {self.at(bridge, number)} other_config:rstp-port-priority={priority}")
 
     def setportvlans(self, bridge, number, vids):
         if vids == "none":
             raise Why("a port without VLANs is a port of all VLANs there")
-        name = self.name(bridge, number)
+        name = self.at(bridge, number)
         self.run(bridge, f"clear port {name} trunks" if vids == "all" else f"set port {name} trunks={','.join(map(str, sorted(vids_of(vids))))}")
 
     def lan(self, lan, state):
         for bridge, number in self.network.plugs(lan):
-            self.add(bridge, "", f"ovs-ofctl mod-port {bridge} {self.name(bridge, number)} {state}")
+            self.add(bridge, "", f"ovs-ofctl mod-port {bridge} {self.cable(bridge, number)} {state}")
 
 
 FORMS = {"cisco": Cisco, "arista": Arista, "mstpctl": Mstpctl, "iproute2": Iproute2, "ovs": Ovs}

@@ -458,6 +458,8 @@ class Switches:
             if len(ends) == 1:
                 alone.setdefault(ends[0][0], []).append(ends[0][1])
             if cables:
+                for (_, bundle), (bridge, number) in zip(sorted(ends), ports):
+                    bridge.ports[number].key = int(bundle.removeprefix("Po"))
                 self.network.add_bundle(ports, [([near[1], far[1]], None, None) for near, far in cables])
             else:
                 self.network.add_lan(ports, None)

@@ -128,9 +128,9 @@ def parsed(text):
 
 @dataclass
 class Port:
-    """A bridge's port. A cost of None is the automatic one, `vlans` is a set of VIDs or None for all, and a key of 0 stands for
-    none. By MSTI, `priorities` and `costs` are those that are set. By tree, `says` is what the device says: the role and whether
-    the port forwards, each None where it doesn't."""
+    """A bridge's port by what its device calls its interface, and the bundle that this is of, if it is of one. A cost of None is the
+    automatic one, `vlans` is a set of VIDs or None for all, and a key of 0 stands for none. By MSTI, `priorities` and `costs` are
+    those that are set. By tree, `says` is what the device says: the role and whether the port forwards, each None where it doesn't."""
     label: str
     priority: int = DEFAULT_PORT_PRIORITY
     cost: int | None = None
@@ -141,6 +141,12 @@ class Port:
     priorities: dict[int, int] = field(default_factory=dict)
     costs: dict[int, int] = field(default_factory=dict)
     says: dict[int, tuple[str | None, bool | None]] = field(default_factory=dict)
+    bundle: str | None = None
+
+    @property
+    def named(self):
+        """What comments call it: the interface, and the bundle behind it."""
+        return f"{self.label} of {self.bundle}" if self.bundle else self.label
 
 
 @dataclass
@@ -278,7 +284,7 @@ def shortened(parts):
 
 def where_of(ends):
     """These ports, each as (bridge, number), as a line names them."""
-    return " and ".join(f"{bridge.label} {bridge.ports[number].label}" for bridge, number in ends)
+    return " and ".join(f"{bridge.label} {bridge.ports[number].named}" for bridge, number in ends)
 
 
 class Network:
@@ -361,11 +367,13 @@ class Network:
         self.lans.append(Lan(name, speed, ends))
 
     def add_bundle(self, ends, cables):
-        """LANs with a key, which count as one link between two ports of different bridges. `ends` are these ports; a cable is the
-        labels of its two ports, its speed, and the name that is wanted for it or None. The first cable has the ports themselves;
-        each other one has ports of the highest numbers that are free, since the lowest number is the link's."""
-        for bridge, number in ends:
-            bridge.ports[number].key = number
+        """LANs with a key, which count as one link between two ports of different bridges. `ends` are these ports, which are called
+        as the bundles are; those without a key get their number for one. A cable is the labels of its two interfaces, its speed, and
+        the name that is wanted for it or None. The first cable has the ports themselves; each other one has ports of the highest
+        numbers that are free, since the lowest number is the link's."""
+        for (bridge, number), label in zip(ends, cables[0][0]):
+            port = bridge.ports[number]
+            port.bundle, port.label, port.key = port.label, label, port.key or number
         for count, (labels, speed, wanted) in enumerate(cables):
             numbers = [number for _, number in ends]
             if count:
@@ -380,7 +388,7 @@ class Network:
         """Another port of the bundle that this port is of: its number, or None where none is free."""
         spare = next((it for it in range(HIGHEST_PORT, number, -1) if it not in bridge.ports), None)
         if spare is not None:
-            bridge.ports[spare] = Port(f"{bridge.ports[number].label} {label}", key=number)
+            bridge.ports[spare] = Port(label, key=bridge.ports[number].key, bundle=bridge.ports[number].bundle)
         return spare
 
     def script(self):
@@ -401,7 +409,7 @@ class Network:
 
     @staticmethod
     def bridge_lines(bridge):
-        numbers = ", ".join(f"{number} is {port.label}" for number, port in sorted(bridge.ports.items()))
+        numbers = ", ".join(f"{number} is {port.named}" for number, port in sorted(bridge.ports.items()))
         yield from comment(f"{bridge.label}: {numbers or 'no ports'}")
         yield f"addbridge {bridge.name} {bridge.mac}"
         if bridge.region is None:
@@ -446,7 +454,7 @@ class Network:
             for number, port in sorted(bridge.ports.items()):
                 for tree, says in sorted(port.says.items()):
                     role = roles.get((tree, bridge.name, number), "Disabled")
-                    where = f"{bridge.label} {port.label}" + (f" in tree {tree}" if tree else "")
+                    where = f"{bridge.label} {port.bundle or port.label}" + (f" in tree {tree}" if tree else "")
                     pairs.append((where, says, (role, role in ("Root", "Designated", "Master"))))
             for where, says, plans in pairs:
                 for said, plan in zip(says, plans):
