@@ -13,6 +13,7 @@ and the states of interfaces: what is shut are those of the cables that are down
 
 import concurrent.futures
 import contextlib
+import copy
 import itertools
 import json
 import os
@@ -54,11 +55,12 @@ def interface(vlans=EVERY):
 
 
 class Ios:
-    """What is set at a switch, by the commands that were typed. What is typed at a bundle goes to its interfaces, too. `numbers` tells the number
-    of each interface in the spanning tree."""
+    """What is set at a switch, by the commands that were typed. What is typed at a bundle goes to its interfaces, too. A bundle that a
+    `channel-group` makes has what its first interface has, or nothing: the documents of different releases say either. `numbers` tells
+    the number of each interface in the spanning tree."""
 
-    def __init__(self, name, mac, numbers):
-        self.name, self.mac, self.numbers = name, mac, numbers
+    def __init__(self, name, mac, inherits, numbers):
+        self.name, self.mac, self.inherits, self.numbers = name, mac, inherits, numbers
         self.priorities, self.limits, self.region, self.table, self.interfaces = {}, {}, {}, {}, {}
 
     def type(self, commands):
@@ -108,7 +110,7 @@ class Ios:
             if its["group"]:
                 raise ValueError(f"{name} is in {its['group']}: {command}")
             its["group"] = bundle
-            self.interfaces.setdefault(bundle, interface())
+            self.interfaces.setdefault(bundle, {**copy.deepcopy(its), "group": None, "shut": False} if self.inherits else interface())
         elif command == "no channel-group":
             its["group"] = None
         elif command in ("shutdown", "no shutdown"):
@@ -217,13 +219,14 @@ def vlans(draws):
 
 
 def cisco_cables(draws):
-    """The cables between pairs of switches, in two lists for two networks. Between some pairs there are two, which are a bundle."""
+    """Two lists of cables between pairs of switches. Between some pairs there are two, which are a bundle; in one of the lists there may be
+    only the first of them, by itself."""
     numbers, bundled, found = dict.fromkeys("abcde", 0), set(), ([], [])
     gaps = {it: draws.below(4) for it in numbers}
     for pair in itertools.combinations("abcde", 2):
         if draws.below(3) == 0:
             continue
-        is_bundle = (not bundled & {*pair},) * 2
+        is_bundle = draws.one_of([(True, True), (False, True), (True, False)]) if not bundled & {*pair} else (False, False)
         groups = tuple(1 + draws.below(100) for _ in pair)
         ends = []
         for count in range(2):
@@ -265,7 +268,7 @@ def faults_of_cisco(path, number):
     lists, kept = cisco_cables(draws), {}
     first, second, third = (saved(program, cisco_network(draws, cables, kept)) for cables in (*lists, lists[1]))
     names = {f"{bridge} {port} {FULL.format(it)}" for cables in lists for cable in cables for bridge, port, it in cable.ends}
-    switches = {it: Ios(it, f"02:00:00:00:00:{place + 1:02x}", numbers_at(it, *lists)) for place, it in enumerate("abcde")}
+    switches = {it: Ios(it, f"02:00:00:00:00:{place + 1:02x}", draws.below(2), numbers_at(it, *lists)) for place, it in enumerate("abcde")}
     faults = []
     for old, new in ((b"", first), (first, second)):
         printed, told = exported(path, old, new, "cisco", "", names)
@@ -476,6 +479,8 @@ WORKED = [
     ("cisco", CISCO, "lan l down\n", ["interface Gi1/0/7", " shutdown", "!"]),
     ("cisco", CISCO, "lan m down\n", ["interface Gi1/0/8", " shutdown", "!"]),
     ("cisco", CISCO, "setportvlans a 2089 10,11\n", ["interface Port-channel1", " switchport trunk allowed vlan 10-11", "!"]),
+    ("cisco", CISCO, "setkey a 2089 0\n", ["interface Gi1/0/7", " no channel-group", " switchport trunk allowed vlan 10", "!",
+                                           "interface Port-channel1", " switchport trunk allowed vlan all", "!"]),
     ("cisco", CISCO, PASSING, []),
     ("arista", CISCO, "lan m down\n", ["interface Gi1/0/8", " shutdown", "!"]),
     ("arista", CISCO, PASSING, []),

@@ -10,6 +10,8 @@ LONGEST_LIST = 180
 OF_LANS = ("addlan", "dellan", "lan", "speed")
 OF_BRIDGES = ("addbridge", "delbridge", "bridge", "kind", "setsyspri", "setmstconfid", "setvid2mstid", "setmaxhops", "setmaxage", "settreeprio")
 TAKING = ("delbridge", "delport", "unplug")
+# What stands at a port where nothing is set: automatic costs, and all VLANs.
+DEFAULTS = {"cost": 0, "port-priority": 128, "vlans": None, "guard": False}
 # What an interface and a region may be called, so that no name is a command of its own; and what a bundle of Cisco's is called.
 INTERFACE, REGION = re.compile(r"[A-Za-z][A-Za-z-]* ?[0-9][0-9/.:]*"), re.compile(r"[A-Za-z0-9][A-Za-z0-9_.:+/@-]*")
 BUNDLE = re.compile(r"po(rt-channel)? ?[0-9]+", re.IGNORECASE)
@@ -61,6 +63,23 @@ class Device:
         return self.bundle(bridge, number, key) if key else self.cable(bridge, number)
 
     @staticmethod
+    def spot(network, bridge, number):
+        """Where the settings of a port stand in a network, without a name: the port's number or its bundle's key, or None where another
+        port stands for that."""
+        key = network.bridges[bridge].ports[number].key
+        if network.stands(bridge, number) != number:
+            return None
+        return ("bundle", key) if key else ("port", number)
+
+    def moved(self):
+        """The ports that were there, and whose settings come to stand somewhere else, each as (bridge, number)."""
+        for name, its in self.network.bridges.items():
+            old = self.before.bridges.get(name)
+            for number in sorted(its.ports.keys() & old.ports.keys()) if old else ():
+                if self.spot(self.network, name, number) not in (None, self.spot(self.before, name, number)):
+                    yield name, number
+
+    @staticmethod
     def region_name(name):
         if not REGION.fullmatch(name):
             raise Why("the name has marks that mean something where it is typed")
@@ -89,15 +108,20 @@ class Device:
         """The trees of a bridge that something can be set of."""
         return its.trees()
 
-    def finish(self):
-        """Puts what a step brings about that none of its lines says: what was set of a tree before a bridge came to have it. Lines of
-        what has no command are returned."""
-        left = []
+    def trees_that_come(self):
+        """What a bridge comes to have, as (its name, itself, the tree)."""
         for name, its in self.network.bridges.items():
             old = self.before.bridges.get(name)
             for tree in sorted(self.trees_of(its) - self.trees_of(old)) if old else ():
-                left += [it for it in map(self.tried, lines_of_tree(name, its, tree)) if it]
-        return left
+                yield name, its, tree
+
+    def finish(self):
+        """Puts what a step brings about that none of its lines says: what was set of a tree before a bridge came to have it, and of a port
+        whose settings come to stand somewhere else. Lines of what has no command are returned."""
+        lines = [line for name, its, tree in self.trees_that_come() for line in (*lines_of_tree(name, its, tree), *lines_of_ports(name, its, tree))]
+        for name, number in self.moved():
+            lines += lines_of_port(name, number, self.network.bridges[name])
+        return [it for it in map(self.tried, dict.fromkeys(lines)) if it]
 
     def tried(self, line):
         """Why a line has no command, with the line; None where it has."""
@@ -109,9 +133,13 @@ class Device:
 
 
 def lines_of_tree(name, its, tree):
-    """The edits that set what stands of a tree at a bridge."""
+    """The edits that set what stands of a tree at a bridge itself."""
     if tree in its.priorities:
         yield f"settreeprio {name} {tree} {its.priorities[tree]}"
+
+
+def lines_of_ports(name, its, tree):
+    """The edits that set what stands of a tree at the ports of a bridge."""
     for number, port in sorted(its.ports.items()):
         if tree and port.internal.get(tree):
             yield f"settreeportcost {name} {number} {tree} {port.internal[tree]}"
@@ -119,9 +147,28 @@ def lines_of_tree(name, its, tree):
             yield f"settreeportprio {name} {number} {tree} {port.priorities[tree]}"
 
 
+def lines_of_port(name, number, its):
+    """The edits that set what stands at a port, but for its VLANs: costs, priorities, and whether its role is restricted."""
+    port = its.ports[number]
+    if port.external:
+        yield f"setportpathcost {name} {number} {port.external}"
+    for tree in sorted(its.trees()):
+        if port.internal.get(tree):
+            yield f"settreeportcost {name} {number} {tree} {port.internal[tree]}"
+        if tree in port.priorities:
+            yield f"settreeportprio {name} {number} {tree} {port.priorities[tree]}"
+    if port.is_restricted:
+        yield f"setportrestrrole {name} {number} yes"
+
+
 class Cisco(Device):
-    """IOS and IOS XE with MST."""
+    """IOS and IOS XE with MST. What is set of a port is put in the end, by what stood at its interface before and what is to stand there."""
     comment, max_age, max_hops, highest_key, mode = "!", "spanning-tree mst max-age", "spanning-tree mst max-hops", 128, "mst"
+
+    def __init__(self, *its):
+        super().__init__(*its)
+        # the ports of which it is told that their settings have no place, and those whose interfaces are set back
+        self.told, self.reset = set(), set()
 
     def trees_of(self, its):
         return its.trees() if its.kind == "mstp" else set()
@@ -153,8 +200,14 @@ class Cisco(Device):
         return name
 
     def section(self, bridge, number):
-        """The part of the configuration that a port's settings stand in."""
-        return f"interface {self.at(bridge, number)}"
+        """The part of the configuration that a port's settings stand in, which begins with the first line about it."""
+        try:
+            where = f"interface {self.at(bridge, number)}"
+        except Why:
+            self.told.add((bridge, int(number)))
+            raise
+        self.add(bridge, where)
+        return where
 
     def addbridge(self, bridge, mac):
         self.add(bridge, "", f"hostname {bridge}", f"spanning-tree mode {self.mode}")
@@ -196,6 +249,7 @@ class Cisco(Device):
 
     def delport(self, bridge, number):
         self.add(bridge, "", f"default interface {self.cable(bridge, number)}")
+        self.reset.add((bridge, int(number)))
 
     def setkey(self, bridge, number, key):
         where, old = f"interface {self.cable_of_bundle(bridge, number)}", self.now.bridges[bridge].ports[int(number)].key
@@ -205,31 +259,29 @@ class Cisco(Device):
         if int(key):
             self.add(bridge, f"interface Port-channel{key}", "switchport mode trunk")
 
-    def cost(self, bridge, number, tree, cost, which):
+    def cost(self, bridge, number, tree, which):
         self.of_tree(bridge, tree)
         counts = "internal" if int(tree) else self.network.counting(bridge, int(number))[0]
         if counts != which:
             told = f"the {counts} one counts there" if counts else f"{bridge}:{number} leads to no switch, or into its region and another one"
             raise Why(f"it has one cost in instance 0, and {told}")
-        command = f"spanning-tree mst {tree} cost {cost}" if int(cost) else f"no spanning-tree mst {tree} cost"
-        self.add(bridge, self.section(bridge, number), command)
+        self.section(bridge, number)
 
-    def setportpathcost(self, bridge, number, cost):
-        self.cost(bridge, number, 0, cost, "external")
+    def setportpathcost(self, bridge, number, _):
+        self.cost(bridge, number, 0, "external")
 
-    def settreeportcost(self, bridge, number, tree, cost):
-        self.cost(bridge, number, tree, cost, "internal")
+    def settreeportcost(self, bridge, number, tree, _):
+        self.cost(bridge, number, tree, "internal")
 
-    def settreeportprio(self, bridge, number, tree, priority):
+    def settreeportprio(self, bridge, number, tree, _):
         self.of_tree(bridge, tree)
-        self.add(bridge, self.section(bridge, number), f"spanning-tree mst {tree} port-priority {priority}")
+        self.section(bridge, number)
 
-    def setportrestrrole(self, bridge, number, restricted):
-        self.add(bridge, self.section(bridge, number), "spanning-tree guard root" if restricted == "yes" else "spanning-tree guard none")
+    def setportrestrrole(self, bridge, number, _):
+        self.section(bridge, number)
 
-    def setportvlans(self, bridge, number, vids):
-        some = [vids] if vids in ("all", "none") else lists(vids_of(vids), LONGEST_LIST)
-        self.add(bridge, self.section(bridge, number), *(f"switchport trunk allowed vlan {'add ' * bool(at)}{it}" for at, it in enumerate(some)))
+    def setportvlans(self, bridge, number, _):
+        self.section(bridge, number)
 
     def lan(self, lan, state):
         for bridge, number in self.network.plugs(lan):
@@ -238,28 +290,76 @@ class Cisco(Device):
             self.add(bridge, f"interface {name}", "shutdown" if state == "down" else "no shutdown")
 
     def finish(self):
-        """Besides the cost in instance 0, where another one counts behind the step than before it, since regions or cables are others."""
-        left = super().finish()
-        for name, its in self.network.bridges.items():
-            old = self.before.bridges.get(name)
-            same = sorted(its.ports.keys() & old.ports.keys()) if old and its.kind == "mstp" else []
-            for number in (it for it in same if self.network.stands(name, it) == it):
-                was, (which, cost) = self.before.counting(name, number)[1], self.network.counting(name, number)
-                if which and (was or 0) != cost:
-                    left += self.cost_left(name, number, cost, which)
+        """Puts, for all ports, what differs of their settings from what stood where they come to stand. That is so where a line sets them;
+        where an interface comes into a bundle or leaves it, or another port stands for the bundle; of a tree that the bridge comes to have; and
+        where another cost in instance 0 counts, since regions or cables are others."""
+        lines = [line for name, its, tree in self.trees_that_come() for line in lines_of_tree(name, its, tree)]
+        left, old = [it for it in map(self.tried, lines) if it], self.standing(self.before)
+        for (name, spot), (number, wanted) in self.standing(self.network).items():
+            stood = [old[it][1] if it in old else {} for it in self.earlier(name, spot, number)]
+            left += self.settled(name, number, wanted, stood or [{}])
         return left
 
-    def cost_left(self, name, number, cost, which):
+    def earlier(self, bridge, spot, number):
+        """Where what may stand at a port's spot has stood before a step, each as in `standing`: there, since a bundle has had it or an
+        interface begins with it, and where the port's own settings were. There is none where the switch or the interface is a new one."""
+        its, was = self.network.bridges[bridge], self.before.bridges.get(bridge)
+        is_reset = (bridge, number) in self.reset
+        if was is None or was.mac != its.mac or is_reset and spot == ("port", number):
+            return []
+        spots = [spot] + [self.spot(self.before, bridge, self.before.stands(bridge, number))] * (number in was.ports and not is_reset)
+        return [(bridge, it) for it in dict.fromkeys(spots)]
+
+    def standing(self, network):
+        """What stands at the interfaces of a network, or is to stand there, by switch and spot: the port that says it, and its settings."""
+        found = {}
+        for name, its in network.bridges.items():
+            trees = self.instances(name) if network is self.network else self.trees_of(its)
+            for number in sorted(its.ports):
+                spot = self.spot(network, name, number)
+                if spot:
+                    found[name, spot] = number, self.settings(network, name, number, trees)
+        return found
+
+    @staticmethod
+    def settings(network, bridge, number, trees):
+        """What stands at a port, by what it sets: `cost` and `port-priority` with the tree behind them, `vlans` and `guard`."""
+        port, found = network.bridges[bridge].ports[number], {}
+        for tree in sorted(trees):
+            cost = port.internal.get(tree, 0) if tree else network.counting(bridge, number)[1]
+            found |= {("cost", tree): cost} if cost is not None else {}
+            found["port-priority", tree] = port.priorities.get(tree, DEFAULTS["port-priority"])
+        return found | {("vlans", None): port.vids, ("guard", None): port.is_restricted}
+
+    def settled(self, bridge, number, wanted, stood):
+        """Puts what is wanted at a port, where any of what may stand there is something else; a line where that has no place is returned."""
+        commands = []
+        for what, value in wanted.items():
+            olds = [it.get(what, DEFAULTS[what[0]]) for it in stood]
+            commands += self.commands(*what, value) if any(it != value for it in olds) else []
+        if not commands or (bridge, number) in self.told:
+            return []
         try:
-            self.cost(name, number, 0, cost, which)
+            self.add(bridge, self.section(bridge, number), *commands)
         except Why as why:
-            return [f"the cost of {name}:{number} in instance 0 is to be {cost or 'automatic'}: {why}"]
+            return [f"{bridge}:{number} is to have {'; '.join(commands)}: {why}"]
         return []
+
+    @staticmethod
+    def commands(word, tree, value):
+        """The commands that set something of a port."""
+        if word == "vlans":
+            some = lists(value, LONGEST_LIST) if value else ["none" if value is not None else "all"]
+            return [f"switchport trunk allowed vlan {'add ' * bool(at)}{it}" for at, it in enumerate(some)]
+        if word == "guard":
+            return [f"spanning-tree guard {'root' if value else 'none'}"]
+        return [f"no spanning-tree mst {tree} cost" if word == "cost" and not value else f"spanning-tree mst {tree} {word} {value}"]
 
     def lines(self):
         """All commands, by switch: those of the whole switch first, then the region, then interfaces."""
-        for bridge, sections in self.put.items():
-            yield f"! {bridge}"
+        for bridge, its in self.put.items():
+            sections = {where: commands for where, commands in its.items() if commands}
+            yield from [f"! {bridge}"] * bool(sections)
             for where, commands in sorted(sections.items(), key=lambda it: (it[0] != "", not it[0].startswith("spanning-tree"))):
                 yield from [where] * bool(where)
                 yield from (" " * bool(where) + it for it in commands)

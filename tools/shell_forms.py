@@ -93,7 +93,21 @@ class Iproute2(Shell):
     """Links, VLANs and states, by ip and bridge; the spanning tree is mstpd's."""
 
     def finish(self):
-        return []
+        """A port that comes out of a bundle, or stands for one, is put into the bridge anew, with its VLANs."""
+        left = []
+        for bridge, number in self.moved():
+            port = self.port(bridge, number)
+            is_down = not port.key and port.lan and self.network.lans[port.lan].state == "down"
+            try:
+                self.enslave(bridge, self.at(bridge, number), port.vids, "down" if is_down else "up")
+            except Why as why:
+                left.append(f"{bridge}:{number} is to be a port of its bridge, with its VLANs: {why}")
+        return left
+
+    def enslave(self, bridge, name, vids, state):
+        """Makes an interface a port of a bridge that is a member of these VLANs, None for all."""
+        self.run(bridge, f"ip link set dev {name} master {bridge}", f"bridge vlan add dev {name} vid {EVERY}")
+        self.run(bridge, *vlan_commands(name, vids), f"ip link set dev {name} {state}")
 
     def addbridge(self, bridge, mac):
         self.run(bridge, f"ip link add name {bridge} type bridge vlan_filtering 1 stp_state 1", f"ip link set dev {bridge} address {mac}",
@@ -107,20 +121,25 @@ class Iproute2(Shell):
 
     def addport(self, bridge, number):
         self.of_no_bundle(bridge, number)
-        name = self.cable(bridge, number)
-        self.run(bridge, f"ip link set dev {name} master {bridge}", f"bridge vlan add dev {name} vid {EVERY}", f"ip link set dev {name} up")
+        self.enslave(bridge, self.cable(bridge, number), None, "up")
 
     def delport(self, bridge, number):
         self.run(bridge, f"ip link set dev {self.cable(bridge, number)} nomaster")
 
     def setportvlans(self, bridge, number, vids):
         name = self.at(bridge, number)
-        some = [] if vids == "none" else [EVERY] if vids == "all" else vids.split(",")
-        self.run(bridge, *[f"bridge vlan del dev {name} vid {EVERY}"] * (vids != "all"), *(f"bridge vlan add dev {name} vid {it}" for it in some))
+        if (bridge, int(number)) not in self.moved():
+            self.run(bridge, *vlan_commands(name, None if vids == "all" else set() if vids == "none" else vids_of(vids)))
 
     def lan(self, lan, state):
         for bridge, number in self.network.plugs(lan):
             self.run(bridge, f"ip link set dev {self.cable(bridge, number)} {state}")
+
+
+def vlan_commands(name, vids):
+    """The commands that make an interface a member of these VLANs alone, None for all."""
+    some = [EVERY] if vids is None else [it for its in lists(vids, LONGEST_LIST) for it in its.split(",") if it]
+    return [*[f"bridge vlan del dev {name} vid {EVERY}"] * (vids is not None), *(f"bridge vlan add dev {name} vid {it}" for it in some)]
 
 
 class Ovs(Shell):
