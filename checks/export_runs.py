@@ -8,7 +8,8 @@ Two networks are drawn by a number. The commands of the first one from nothing, 
 sketches of Cisco's switches and of Open vSwitch's database; these print what tools/import/cisco.py and ovs.py read, and `mstplan edits` has
 nothing to set between what they make of it and the second network. So the forms agree with those of the importers; what a real switch
 says of them no sketch tells. Numbers of ports, interfaces and bundles of a switch are different ones. A sketch of Linux bridges has the VLANs
-and the states of interfaces: what is shut are those of the cables that are down, one by one. The exit status is 1 where something differs.
+and the states of interfaces. In none of them is a VLAN out for a moment that is there before and afterwards, and what is shut are the
+interfaces of the cables that are down, one by one. The exit status is 1 where something differs.
 """
 
 import concurrent.futures
@@ -39,7 +40,7 @@ FULL, SHORT, EVERY = "GigabitEthernet1/0/{}", "Gi1/0/{}", frozenset(range(1, 409
 OF_IOS = {
     "cost": re.compile(r"spanning-tree mst ([0-9]+) cost ([0-9]+)"), "no cost": re.compile(r"no spanning-tree mst ([0-9]+) cost"),
     "priority": re.compile(r"spanning-tree mst ([0-9]+) port-priority ([0-9]+)"), "of bridge": re.compile(r"spanning-tree mst ([0-9]+) priority ([0-9]+)"),
-    "vlans": re.compile(r"switchport trunk allowed vlan (add )?(\S+)"), "instance": re.compile(r"(no )?instance ([0-9]+) vlan (\S+)"),
+    "vlans": re.compile(r"switchport trunk allowed vlan (add |remove )?(\S+)"), "instance": re.compile(r"(no )?instance ([0-9]+) vlan (\S+)"),
     "limit": re.compile(r"spanning-tree mst max-(?:age|hops) [0-9]+"),
 }
 # What is left to hands in a round trip: cables and MAC addresses, of two costs of a port the one that doesn't count, and trees that go.
@@ -56,15 +57,16 @@ def interface(vlans=EVERY):
 
 class Ios:
     """What is set at a switch, by the commands that were typed. What is typed at a bundle goes to its interfaces, too. A bundle that a
-    `channel-group` makes has what its first interface has, or nothing: the documents of different releases say either. `numbers` tells
-    the number of each interface in the spanning tree."""
+    `channel-group` makes has what its first interface has, or nothing: the documents of different releases say either. `out` is what was
+    out for a moment. `numbers` tells the number of each interface in the spanning tree."""
 
     def __init__(self, name, mac, inherits, numbers):
         self.name, self.mac, self.inherits, self.numbers = name, mac, inherits, numbers
-        self.priorities, self.limits, self.region, self.table, self.interfaces = {}, {}, {}, {}, {}
+        self.priorities, self.limits, self.region, self.table, self.interfaces, self.out = {}, {}, {}, {}, {}, []
 
     def type(self, commands):
-        where, name = None, None
+        where, name, before = None, None, {name: its["vlans"] for name, its in self.interfaces.items()}
+        least = dict(before)
         for line in commands:
             command = line.strip()
             if not line.startswith(" "):
@@ -78,6 +80,10 @@ class Ios:
                 self.type_bridge(command)
             elif where and command != "exit":
                 self.type_region(command)
+            # what comes into a bundle or out of one, or is set back, begins anew
+            begins = {name} if "channel-group" in command else set()
+            least = {it: vlans & self.interfaces[it]["vlans"] for it, vlans in least.items() if it in self.interfaces.keys() - begins}
+        self.out += [f"{self.name} {it} is out" for it, vlans in least.items() if before[it] & self.interfaces[it]["vlans"] - vlans]
 
     def type_bridge(self, command):
         if found := OF_IOS["of bridge"].fullmatch(command):
@@ -129,7 +135,7 @@ class Ios:
             its["priority"][int(found[1])] = int(found[2])
         elif found := OF_IOS["vlans"].fullmatch(command):
             vids = EVERY if found[2] == "all" else frozenset() if found[2] == "none" else frozenset(sketch.numbers_in(found[2]))
-            its["vlans"] = its["vlans"] | vids if found[1] else vids
+            its["vlans"] = {"add ": its["vlans"] | vids, "remove ": its["vlans"] - vids}.get(found[1], vids)
         elif command in ("spanning-tree guard root", "spanning-tree guard none"):
             its["guard"] = command.endswith("root")
         else:
@@ -214,8 +220,10 @@ def of_port(draws, port, tree, is_bundle):
 
 
 def vlans(draws):
-    """VLANs of a port, of which some have no room in one line."""
-    return draws.one_of(["all", "all", "none", "1-9,20", ",".join(map(str, range(1001, 1200, 2)))])
+    """VLANs of a port, of which most have no room in one line."""
+    begin, step = draws.one_of([1001, 1001, 1003]), draws.one_of([2, 2, 3])
+    some = ",".join(map(str, range(begin, 1200 + draws.below(3), step)))
+    return draws.one_of(["all", "none", "1-9,20", some, some, f"{some},2000-3000"])
 
 
 def cisco_cables(draws):
@@ -284,6 +292,7 @@ def faults_of_cisco(path, number):
         switches[name].type(commands)
     network, unread = cisco.read_files(cisco_files(switches, lists[1]))
     faults += unread + shut_otherwise(f"cisco {number}", switches, lists[1], lans_down(second) | lans_down(third))
+    faults += [f"cisco {number}: {it}" for its in switches.values() for it in its.out]
     return faults + differing(program, f"cisco {number}, imported", network, all_up(third))
 
 
@@ -301,9 +310,17 @@ class Linux:
     """The VLANs of interfaces and their states, by the commands that were typed; those of bonds are made beforehand."""
 
     def __init__(self, bonds):
-        self.vlans, self.states, self.masters = dict.fromkeys(bonds, EVERY), {}, {}
+        self.vlans, self.states, self.masters, self.least = dict.fromkeys(bonds, EVERY), {}, {}, {}
 
-    def type(self, words):
+    def type(self, commands):
+        before = dict(self.vlans)
+        self.least = dict(before)
+        for command in commands:
+            self.type_one(shlex.split(command))
+            self.least = {name: its & self.vlans[name] for name, its in self.least.items() if name in self.vlans}
+        return [f"{name} is out" for name, its in self.least.items() if before[name] & self.vlans[name] - its]
+
+    def type_one(self, words):
         if words[:2] == ["bridge", "vlan"] and words[3::2] == ["dev", "vid"]:
             vids = frozenset(sketch.numbers_in(words[6]))
             self.vlans[words[4]] = self.vlans[words[4]] | vids if words[2] == "add" else self.vlans[words[4]] - vids
@@ -348,8 +365,7 @@ def faults_of_linux(path, number):
     linux, states = Linux({bond for _, bond in names.values() if bond}), {}
     for old, new in ((b"", first), (first, second)):
         printed, _ = exported(path, old, new, "iproute2", "", told)
-        for command in (it for it in printed if not it.startswith("#")):
-            linux.type(shlex.split(command))
+        faults += [f"linux {number}: {it}" for it in linux.type(it for it in printed if not it.startswith("#"))]
         printed, _ = exported(path, old, new, "ovs", "", told)
         states |= {it.split()[3]: it.split()[4] for it in printed if it.startswith("ovs-ofctl mod-port ")}
     allowed = {tuple(it.split()[1:3]): it.split()[3] for it in second.decode().splitlines() if it.startswith("setportvlans ")}
@@ -487,7 +503,8 @@ WORKED = [
     ("mstpctl", LINUX, "setportpathcost a 2089 7\n", ["mstpctl setportpathcost a bond0 7"]),
     ("mstpctl", LINUX, PASSING, []),
     ("iproute2", LINUX, "lan m down\n", ["ip link set dev eth1 down"]),
-    ("iproute2", LINUX, "setportvlans a 2089 none\n", ["bridge vlan del dev bond0 vid 1-4094"]),
+    ("iproute2", LINUX, "setportvlans a 2089 10,11\n", ["bridge vlan add dev bond0 vid 11"]),
+    ("iproute2", LINUX, "setportvlans a 2089 none\n", ["bridge vlan del dev bond0 vid 10"]),
     ("iproute2", LINUX, PASSING, []),
     ("ovs", LINUX, "lan l down\n", ["ovs-ofctl mod-port a eth0 down"]),
     ("ovs", LINUX, "setportvlans a 2089 10,11\n", ["ovs-vsctl set port bond0 trunks=10,11"]),

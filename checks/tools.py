@@ -54,7 +54,7 @@ CASES = [
     ("export.py", [CAMPUS, CHANGED, "--to", "cisco", "--interface", "Gi1/0/{port}"], 0, "spanning-tree mst 0 priority 8192"),
     ("export.py", [CAMPUS, CHANGED, "--to", "arista", "--interface", "Ethernet{port}"], 0, "spanning-tree mst 0 priority 8192"),
     ("export.py", [CAMPUS, CHANGED, "--to", "cisco"], 1, "! by hand: line 2 setportvlans acc2 2 10,20: no interface's name is known for acc2:2; --interface or --names tells it"),
-    ("export.py", [CAMPUS, CHANGED, "--to", "mstpctl,iproute2", "--interface", "{bridge}.{port}"], 0, "bridge vlan add dev acc2.2 vid 10"),
+    ("export.py", [CAMPUS, CHANGED, "--to", "mstpctl,iproute2", "--interface", "{bridge}.{port}"], 0, "bridge vlan del dev acc2.2 vid 11-19"),
     ("export.py", [CAMPUS, CHANGED, "--to", "iproute2", "--interface", "{bridge}.{port}"], 1, "# by hand: line 3 settreeprio core1 0 8192: there is no such command"),
     ("export.py", [CAMPUS, "--change", CHANGE, "--to", "cisco", "--interface", "Gi1/0/{port}"], 1, "! step 1 lines 2-2"),
     ("export.py", [CAMPUS, CAMPUS, "--to", "ovs"], 0, ""),

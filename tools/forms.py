@@ -3,7 +3,7 @@ console (Cisco's IOS and IOS XE, Arista's EOS). They are those of the makers' do
 
 import re
 
-from settings import lists, vids_of
+from settings import HIGHEST_VID, lists, vids_of
 
 LONGEST_LIST = 180
 # Edits of LANs and of bridges, all others being of ports; and those that take something away.
@@ -336,7 +336,7 @@ class Cisco(Device):
         commands = []
         for what, value in wanted.items():
             olds = [it.get(what, DEFAULTS[what[0]]) for it in stood]
-            commands += self.commands(*what, value) if any(it != value for it in olds) else []
+            commands += self.commands(*what, value, olds) if any(it != value for it in olds) else []
         if not commands or (bridge, number) in self.told:
             return []
         try:
@@ -346,11 +346,10 @@ class Cisco(Device):
         return []
 
     @staticmethod
-    def commands(word, tree, value):
-        """The commands that set something of a port."""
+    def commands(word, tree, value, olds):
+        """The commands that set something of a port, where one of these stood."""
         if word == "vlans":
-            some = lists(value, LONGEST_LIST) if value else ["none" if value is not None else "all"]
-            return [f"switchport trunk allowed vlan {'add ' * bool(at)}{it}" for at, it in enumerate(some)]
+            return vlan_commands(value, olds)
         if word == "guard":
             return [f"spanning-tree guard {'root' if value else 'none'}"]
         return [f"no spanning-tree mst {tree} cost" if word == "cost" and not value else f"spanning-tree mst {tree} {word} {value}"]
@@ -364,6 +363,19 @@ class Cisco(Device):
                 yield from [where] * bool(where)
                 yield from (" " * bool(where) + it for it in commands)
                 yield from [" exit" if where.startswith("spanning-tree") else "!"] * bool(where)
+
+
+def vlan_commands(vids, olds):
+    """The commands that set a trunk's VLANs (None for all), where one of these stood. A list that is one line takes the place of what stands,
+    at once; of a longer one what differs is added and removed, so that no VLAN that stays is out in between."""
+    word, whole = "switchport trunk allowed vlan", lists(vids or (), LONGEST_LIST)
+    if not vids:
+        return [f"{word} {'none' if vids is not None else 'all'}"]
+    if len(whole) == 1 or any(it != olds[0] for it in olds):
+        return [f"{word} {'add ' * bool(at)}{it}" for at, it in enumerate(whole)]
+    old = set(range(1, HIGHEST_VID + 1)) if olds[0] is None else olds[0]
+    parts = ("add", lists(vids - old, LONGEST_LIST)), ("remove", lists(old - vids, LONGEST_LIST))
+    return [f"{word} {how} {it}" for how, its in parts for it in its if it]
 
 
 class Arista(Cisco):

@@ -107,7 +107,7 @@ class Iproute2(Shell):
     def enslave(self, bridge, name, vids, state):
         """Makes an interface a port of a bridge that is a member of these VLANs, None for all."""
         self.run(bridge, f"ip link set dev {name} master {bridge}", f"bridge vlan add dev {name} vid {EVERY}")
-        self.run(bridge, *vlan_commands(name, vids), f"ip link set dev {name} {state}")
+        self.run(bridge, *vlan_commands(name, None, vids), f"ip link set dev {name} {state}")
 
     def addbridge(self, bridge, mac):
         self.run(bridge, f"ip link add name {bridge} type bridge vlan_filtering 1 stp_state 1", f"ip link set dev {bridge} address {mac}",
@@ -127,19 +127,20 @@ class Iproute2(Shell):
         self.run(bridge, f"ip link set dev {self.cable(bridge, number)} nomaster")
 
     def setportvlans(self, bridge, number, vids):
-        name = self.at(bridge, number)
+        name, old = self.at(bridge, number), self.now.bridges[bridge].ports[int(number)].vids
         if (bridge, int(number)) not in self.moved():
-            self.run(bridge, *vlan_commands(name, None if vids == "all" else set() if vids == "none" else vids_of(vids)))
+            self.run(bridge, *vlan_commands(name, old, None if vids == "all" else set() if vids == "none" else vids_of(vids)))
 
     def lan(self, lan, state):
         for bridge, number in self.network.plugs(lan):
             self.run(bridge, f"ip link set dev {self.cable(bridge, number)} {state}")
 
 
-def vlan_commands(name, vids):
-    """The commands that make an interface a member of these VLANs alone, None for all."""
-    some = [EVERY] if vids is None else [it for its in lists(vids, LONGEST_LIST) for it in its.split(",") if it]
-    return [*[f"bridge vlan del dev {name} vid {EVERY}"] * (vids is not None), *(f"bridge vlan add dev {name} vid {it}" for it in some)]
+def vlan_commands(name, old, new):
+    """The commands that make one set of VLANs of another one, None for all. None that stays is out in between."""
+    old, new = (set(range(1, HIGHEST_VID + 1)) if it is None else it for it in (old, new))
+    for word, some in (("add", new - old), ("del", old - new)):
+        yield from (f"bridge vlan {word} dev {name} vid {it}" for it in lists(some, LONGEST_LIST) for it in it.split(",") if it)
 
 
 class Ovs(Shell):
