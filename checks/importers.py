@@ -13,6 +13,7 @@ a quarter of a minute.
 
 import json
 import os
+import re
 import shutil
 import subprocess
 import sys
@@ -180,8 +181,8 @@ STRANGE_LINES = [
     "setportrestrrole a 1026 yes", "setportpathcost a 1 4", "plug a 1 a-b.2", "plug b 1 a-b.2",
     "plug a 4095 a-b.3", "plug b 4095 a-b.3", "setkey a 1 1", "setkey a 4095 1", "setkey b 1 1", "setkey b 4095 1",
     "plug a 1026 a-b", "plug b 2 a-b", "plug b 3 b-eth3",
-    "plug distributio.br10 1 di.br10-dis.br10",
-    "plug distribut.2.br10 1 di.br10-dis.br10",
+    "plug distributio.br10 1 di.br10-d.2.br10",
+    "plug distribut.2.br10 1 di.br10-d.2.br10",
 ]
 
 
@@ -349,13 +350,29 @@ def check_cisco(program):
     return wrong + ([] if told == refused else told)
 
 
+def check_names(_):
+    """In the names of cables between switches stand the numbers of just these switches, and a mark where there are more cables; and each
+    cable has another name."""
+    wrong = []
+    for importer, sample, count in (("lldp.py", "lab", 8), ("cisco.py", "cisco/campus", 10)):
+        plugs = {}
+        for words in map(str.split, imported(importer, [sample])[0].splitlines()):
+            if words[0] == "plug":
+                plugs.setdefault(words[3], []).append(words[1])
+        links = {lan: its for lan, its in plugs.items() if len(its) == 2}
+        marked = {lan: re.findall("[0-9]+", re.sub("[.][0-9]$", "", lan)) for lan in links}
+        wrong += [f"{lan} joins {its}" for lan, its in links.items() if marked[lan] != re.findall("[0-9]+", " ".join(its))]
+        wrong += [] if len(links) == count else [f"{len(links)} cables in {sample}, and not {count}"]
+    return wrong
+
+
 def main():
     if len(sys.argv) != 2:
         sys.exit(__doc__)
     program = os.path.abspath(sys.argv[1])
     checks = [(" ".join([importer, *words]), check_sample(program, importer, words, *more)) for importer, words, *more in SAMPLES]
     others = {"made-up hosts": check_strange, "a table": check_table, "words": check_words, "bundles": check_bundles,
-              "Cisco's roles": check_cisco}
+              "Cisco's roles": check_cisco, "names of cables": check_names}
     checks += [(name, its(program)) for name, its in others.items()]
     checks += [(f"{fuzz.INPUTS} inputs of {importer}", fuzz.check(program, importer)) for importer in fuzz.IMPORTERS]
     for name, wrong in checks:

@@ -6,7 +6,10 @@ which escape what isn't printable; a device's word stands in a script's command 
 two interfaces one's word alone doesn't join them where the other says otherwise (`agreed`).
 """
 
+import collections
 import errno
+import functools
+import itertools
 import json
 import os
 import re
@@ -268,18 +271,35 @@ def comment(text):
     return textwrap.wrap(printable(text), 120, initial_indent="# ", subsequent_indent="# ")
 
 
-def cut(part):
-    """A part of a name without one letter: the last one before its last full stop, while two stand there."""
-    head, stop, tail = part.rpartition(".")
-    return head[:-1] + stop + tail if len(head) > 1 else part[:-1]
+@functools.lru_cache
+def forms(name):
+    """A name, and what may stand for it, each form shorter than the one before: without a letter of its longest run of letters while
+    one has two, and without the marks between; last come the ends of what is left."""
+    found = [name]
+    while runs := list(re.finditer("[A-Za-z]{2,}", found[-1])):
+        end = max(runs, key=lambda it: len(it[0])).end()
+        found.append(found[-1][:end - 1] + found[-1][end:])
+    while mark := re.search("[_.-]", found[-1]):
+        found.append(found[-1][:mark.start()] + found[-1][mark.end():])
+    return found + [found[-1][at:] for at in range(1, len(found[-1]))]
 
 
-def shortened(parts):
-    """These parts with - between, the longest ones cut until they fit into a name."""
-    while len("-".join(parts)) > LONGEST_NAME:
-        longest = max(parts, key=len)
-        parts[parts.index(longest)] = cut(longest)
-    return "-".join(parts)
+@functools.lru_cache
+def distinct(names):
+    """Of each of these names its forms that no other one has."""
+    counts = collections.Counter(it for name in set(names) for it in forms(name))
+    return {name: [it for it in forms(name) if it == name or counts[it] == 1] for name in names}
+
+
+def shortened(parts, most):
+    """Forms with - between, one of each list, that have so many letters at most: the longest is shortened first. None where there are none."""
+    places = [0] * len(parts)
+    while len("-".join(its[at] for its, at in zip(parts, places))) > most:
+        longest = max((it for it in range(len(parts)) if places[it] + 1 < len(parts[it])), key=lambda it: len(parts[it][places[it]]), default=None)
+        if longest is None:
+            return None
+        places[longest] += 1
+    return "-".join(its[at] for its, at in zip(parts, places))
 
 
 def where_of(ends):
@@ -354,10 +374,7 @@ class Network:
 
     def add_lan(self, ends, speed, wanted=None):
         """A LAN of these ports. If no name is wanted it is named by its first two bridges, or by its one port."""
-        parts = list(dict.fromkeys(bridge.name for bridge, _ in ends))[:2]
-        if len(ends) == 1:
-            parts.append(ends[0][0].ports[ends[0][1]].label)
-        name = self.name("LAN", wanted or shortened(parts))
+        name = self.name("LAN", wanted) if wanted else self.name_by_ends(ends)
         if wanted and name != wanted:
             self.tell(f"LAN {wanted} is named {name}")
         if speed is not None:
@@ -365,6 +382,21 @@ class Network:
         for bridge, number in ends:
             bridge.ports[number].lan = name
         self.lans.append(Lan(name, speed, ends))
+
+    def name_by_ends(self, ends):
+        """A name of a LAN that no other one has, with forms of the names of its first two bridges, or of its one bridge and port, which
+        aren't those of others. Where they have no room it is called lan."""
+        its, names = distinct(tuple(it.name for it in self.bridges)), self.names["LAN"]
+        parts = [its[name] for name in list(dict.fromkeys(bridge.name for bridge, _ in ends))[:2]]
+        if len(ends) == 1:
+            labels = [NOT_IN_NAMES.sub("-", it.label) for it in ends[0][0].ports.values()]
+            parts.append(distinct(tuple(labels))[NOT_IN_NAMES.sub("-", ends[0][0].ports[ends[0][1]].label)])
+        for count in itertools.count(1):
+            mark = f".{count}" if count > 1 else ""
+            name = (shortened(parts, LONGEST_NAME - len(mark)) or "lan") + mark
+            if name not in names:
+                names[name] = 1
+                return name
 
     def add_bundle(self, ends, cables):
         """LANs with a key, which count as one link between two ports of different bridges. `ends` are these ports, which are called
