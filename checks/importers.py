@@ -155,6 +155,12 @@ def strange_hosts():
     }
 
 
+# What is left out, which is told first, and what else is told.
+STRANGE_LOST = [
+    "b.link has no eth9, which is to hear of c: that is left out",
+    "d br0 has the MAC address of a br0: it is left out",
+    "b eth3 hears of a eth0, which hears of another one, and that of it: this is left out",
+]
 STRANGE_TOLD = [
     "a br0 is run by a daemon: its priorities and costs may be others than the kernel's",
     "a br0 filters VLANs, and no a.vlan tells which",
@@ -162,13 +168,10 @@ STRANGE_TOLD = [
     "a br0 eth2 shuts itself where it hears a BPDU: that isn't in the script",
     "b br0 has priority 36865, which is no multiple of 4096: 36864 stands for it",
     "c has no bridge with STP on (in the JSON of ip -j -d link)",
-    "d br0 has the MAC address of a br0: it is left out",
     "b eth2 hears of c eth1, and not the other way round",
     "a br0 eth3 has no link: it is in no LAN",
     "a br0 eth2 and b br0 eth2: the speed isn't told",
     "b.lldp is of lldpctl -f json, where a neighbour's name can make up others: -f json0 can't",
-    "b.link has no eth9, which is to hear of c: that is left out",
-    "b eth3 hears of a eth0, which hears of another one, and that of it: this is left out",
     *(f"distribution-e-{it} br{vid} is named distributio.br{vid}" for it, vid in ((1, 10), (1, 20))),
     *(f"distribution-e-2 br{vid} is named distribut.2.br{vid}" for vid in (10, 20)),
     *(f"distribution-e-{it} eno2 hears of core{letter}\"1\\x1b[2J up\\u202e\\u2028\\x07link\\nlan x down, which is no interface of "
@@ -198,11 +201,12 @@ def answers(program, script):
     return ran.stdout.splitlines(), ran.returncode
 
 
-def check_sample(program, importer, words, read, says, wanted):
-    """What is wrong with a sample, as a list."""
+def check_sample(program, importer, words, read, says, wanted, lost=()):
+    """What is wrong with a sample, as a list. What is lost is told first, with status 1."""
     script, told, status = imported(importer, words)
-    wrong = [] if status == 0 else [f"status {status}"]
-    wrong += [f"told, and not wanted: {line}" for line in told if line not in wanted]
+    wrong = [] if status == bool(lost) else [f"status {status}"]
+    wrong += [] if told[:len(lost)] == list(lost) else [f"told first: {told[:len(lost)]}"]
+    wrong += [f"told, and not wanted: {line}" for line in told[len(lost):] if line not in wanted]
     wrong += [f"wanted, and not told: {line}" for line in wanted if line not in told]
     refused, _ = answers(program, script)
     wrong += refused
@@ -224,7 +228,7 @@ def check_strange(program):
                     file.write(text)
         with open(os.path.join(folder, "b.vlan"), "w", encoding="utf-8") as file:
             json.dump([{"ifname": "eth2", "vlans": [{"vlan": 1, "flags": ["PVID"]}, {"vlan": 10, "vlanEnd": 20}]}], file)
-        wrong = check_sample(program, "lldp.py", [folder], None, 0, STRANGE_TOLD)
+        wrong = check_sample(program, "lldp.py", [folder], None, 0, STRANGE_TOLD, STRANGE_LOST)
         lines = imported("lldp.py", [folder])[0].splitlines()
         wrong += [f"not in the script: {line}" for line in STRANGE_LINES if line not in lines]
         os.remove(os.path.join(folder, "a.lldp"))

@@ -21,7 +21,8 @@ bridge's root port isn't heard, its way to the root is one made-up LAN of the co
 isn't heard has a bridge that stands for it. Ports that block get a cost at which they do.
 
 What couldn't be known is told on standard error: bridges that only listen aren't in the script, nor are speeds, VLANs of ports and
-ports that are down. A file that can't be read is told there, too, with status 1; wrong words have status 2.
+ports that are down. A file that can't be read is told there first, with status 1; so it is where no bridge is heard. Wrong words have
+status 2.
 """
 
 import argparse

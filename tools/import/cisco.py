@@ -430,7 +430,7 @@ class Switches:
                     self.network.tell(f"{host} {interface} hears of {device} {far_interface}, and {why}: that is left out")
                     continue
                 pairs[one, other] = ends
-        for one, other in agreed(pairs, self.network.tell):
+        for one, other in agreed(pairs, self.network):
             self.lans.join(*pairs[one, other])
             self.far.setdefault(one, set()).add(other)
             self.far.setdefault(other, set()).add(one)

@@ -25,8 +25,8 @@ and: links.py examples/import/campus/links.txt | mstplan run -
 
 What a table doesn't say is what a new switch has, and switches without a MAC address get 02:00:00:00:00:01 and on, in the order in
 which they come; add lines to the script for what isn't so. What was assumed is told on standard error. A line that can't be read or
-is out of range is told there too, with its number and its text, and left out, with status 1. Status 2 stands for wrong words, 3 for
-a file that can't be read and for standard output that can't be written.
+is out of range is told there first, with its number and its text, and left out, with status 1; so it is of a table without a switch.
+Status 2 stands for wrong words, 3 for a file that can't be read and for standard output that can't be written.
 """
 
 import re
@@ -36,7 +36,7 @@ from dataclasses import dataclass, field
 sys.dont_write_bytecode = True
 
 from network import (  # noqa: E402
-    HIGHEST_KEY, HIGHEST_PORT, HIGHEST_SPEED, HIGHEST_VID, MAC, MOST_BRIDGES, MOST_LANS, MOST_PORTS, MOST_TREES, STATUS_FAULT,
+    HIGHEST_KEY, HIGHEST_PORT, HIGHEST_SPEED, HIGHEST_VID, MAC, MOST_BRIDGES, MOST_LANS, MOST_PORTS, MOST_TREES, NOTHING_READ, STATUS_FAULT,
     STATUS_UNREAD, Region, called, contents, decoded, guarded, put, region_lines, runs, vids_of, warn,
 )
 
@@ -281,9 +281,10 @@ def read_data(data, path):
     table = read(decoded(data, path, told.append))
     for line in script(table):
         put(line)
-    for line in (*told, *assumed(table), *table.unread):
+    is_empty = not table.links and not table.switches
+    for line in (*table.unread, *told, *([NOTHING_READ] if is_empty else assumed(table))):
         warn(line)
-    if table.unread:
+    if table.unread or is_empty:
         sys.stdout.flush()
         sys.exit(STATUS_UNREAD)
 

@@ -24,9 +24,10 @@ in kb/s; a cost is set where it isn't the automatic one. No kernel with bonds or
 forms of iproute2's source.
 
 LLDP isn't authenticated: what isn't printable in a neighbour's words is escaped. Where just one of two interfaces hears of the
-other, that is told, and where the other and a third one hear of each other, the one's word is left out. What couldn't be told, what
-was assumed and which names were changed is told on standard error, with status 0; a file that can't be read is told there too, with
-status 1. Status 2 stands for wrong words, 3 for a folder that can't be read and for standard output that can't be written.
+other, that is told, and where the other and a third one hear of each other, the one's word is left out. Standard error tells first
+which files can't be read, and what leaves a bridge, a port or a link out, with status 1; behind that what couldn't be told, what was
+assumed and which names were changed, with status 0. The status is 1, too, where no bridge is read. Status 2 stands for wrong words, 3
+for a folder that can't be read and for standard output that can't be written.
 """
 
 import re
@@ -191,13 +192,13 @@ def speed(current):
 class Hosts:
     """What the files say, bytes by name: for each host its links by name, and its neighbours as (interface, neighbour)."""
 
-    def __init__(self, files, tell):
-        self.unread, self.files, self.tell = [], files, tell
+    def __init__(self, files, network):
+        self.unread, self.files, self.tell, self.lose = [], files, network.tell, network.lose
         self.links, self.heard, self.vlans = {}, {}, {}
         for host in sorted({it.rpartition(".")[0] for it in files if it.endswith((".link", ".lldp"))}):
             lldp = f"{host}.lldp"
             self.links[host] = self.read(f"{host}.link", link_table) or {}
-            heard = self.read(lldp, lambda text, name=lldp: neighbour_list(text, lambda line: tell(f"{name} {line}"))) or []
+            heard = self.read(lldp, lambda text, name=lldp: neighbour_list(text, lambda line: self.tell(f"{name} {line}"))) or []
             self.heard[host] = [it for it in heard if self.has(host, *it)]
             if f"{host}.vlan" in files:
                 self.vlans[host] = self.read(f"{host}.vlan", vlan_table)
@@ -221,7 +222,7 @@ class Hosts:
     def has(self, host, name, neighbour):
         """Whether a host has the interface that heard of a neighbour."""
         if self.links[host] and name not in self.links[host]:
-            self.tell(f"{host}.link has no {name}, which is to hear of {neighbour.name or neighbour.chassis}: that is left out")
+            self.lose(f"{host}.link has no {name}, which is to hear of {neighbour.name or neighbour.chassis}: that is left out")
         return name in self.links[host]
 
     def interface(self, neighbour):
@@ -254,7 +255,7 @@ class Reader:
 
     def __init__(self, files):
         self.network = Network()
-        self.hosts = Hosts(files, self.network.tell)
+        self.hosts = Hosts(files, self.network)
         # the bridge and the number of each port; what is in one LAN, as (host, interface, VIDs); and who hears of whom
         self.ports, self.lans, self.far = {}, Joined(), {}
 
@@ -298,7 +299,7 @@ class Reader:
         number, priority = int(says["id"], 16) & 0xFFF, int(says["id"], 16) >> 12 << 4
         if not number or number in bridge.ports:
             why = f"the number of {bridge.ports[number].label}" if number else "port number 0"
-            self.network.tell(f"{bridge.label} {name} has {why}: it is left out")
+            self.network.lose(f"{bridge.label} {name} has {why}: it is left out")
             return
         if number != int(says["no"], 16):
             self.network.tell(f"{bridge.label} {name} has number {number} and priority {priority}, as its identifier is read")
@@ -370,7 +371,7 @@ class Reader:
                     who = neighbour.name or neighbour.chassis
                     port = neighbour.description or neighbour.port
                     self.network.tell(f"{host} {name} hears of {who} {port}, which is no interface of these hosts")
-        for one, other in agreed(pairs, self.network.tell):
+        for one, other in agreed(pairs, self.network):
             self.join(one, other)
             self.far.setdefault(one, set()).add(other)
             self.far.setdefault(other, set()).add(one)

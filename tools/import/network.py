@@ -25,6 +25,7 @@ MOST_BRIDGES, MOST_LANS, MOST_PORTS, MOST_TREES = 1024, 8192, 16384, 64
 MAC = re.compile(r"[0-9a-f]{2}(:[0-9a-f]{2}){5}")
 NOT_IN_NAMES = re.compile(r"[^A-Za-z0-9_.-]")
 STATUS_UNREAD, STATUS_WORDS, STATUS_FAULT, STATUS_INTERRUPTED = 1, 2, 3, 130
+NOTHING_READ = "no bridge is read: the network is empty"
 
 
 def printable(text):
@@ -205,18 +206,18 @@ class Joined:
             self.next[other] = one
 
 
-def agreed(pairs, tell):
+def agreed(pairs, network):
     """Those of the pairs that are believed, each an interface that hears of another one, both as (host, interface). Where only one
-    hears of the other, that is told; and where the other and a third one hear of each other, it is left out besides."""
+    hears of the other, the network tells that; and where the other and a third one hear of each other, it is left out besides."""
     both, found = {one for one, other in pairs if (other, one) in pairs}, []
     for one, other in pairs:
         where = "{} {} hears of {} {}".format(*one, *other)
         if (other, one) in pairs:
             found.append((one, other))
         elif other in both:
-            tell(f"{where}, which hears of another one, and that of it: this is left out")
+            network.lose(f"{where}, which hears of another one, and that of it: this is left out")
         else:
-            tell(f"{where}, and not the other way round")
+            network.tell(f"{where}, and not the other way round")
             found.append((one, other))
     return found
 
@@ -308,10 +309,10 @@ def where_of(ends):
 
 
 class Network:
-    """The bridges and LANs, and what is to be told of them, each line once."""
+    """The bridges and LANs, and what is to be told of them, each line once: first what is left out."""
 
     def __init__(self):
-        self.bridges, self.lans, self.lines = [], [], {}
+        self.bridges, self.lans, self.lines, self.lost = [], [], {}, {}
         # the bridge with a MAC address; of bridges and LANs the names, each with how often it was wanted
         self.macs, self.names = {}, {"bridge": {}, "LAN": {}}
 
@@ -319,9 +320,13 @@ class Network:
         """Something that couldn't be told from what was read, or was assumed."""
         self.lines[text] = None
 
+    def lose(self, text):
+        """Something that was read, and leaves a bridge, a port or a link out of the network."""
+        self.lost[text] = None
+
     @property
     def told(self):
-        return list(self.lines)
+        return [*self.lost, *self.lines]
 
     def name(self, kind, wanted, last=""):
         """A name that the language takes and no other bridge or LAN has, as near as may be to the wanted one with `last` behind
@@ -350,7 +355,7 @@ class Network:
             why = f"no MAC address, but {mac}"
             if MAC.fullmatch(mac):
                 why = f"the MAC address of {self.macs[mac].label}" if mac in self.macs else f"{MOST_BRIDGES} bridges before it"
-            self.tell(f"{label} has {why}: it is left out")
+            self.lose(f"{label} has {why}: it is left out")
             return None
         name = self.name("bridge", wanted, last)
         if name != wanted + last:
@@ -411,7 +416,7 @@ class Network:
             if count:
                 numbers = [self.add_member(*end, label) for end, label in zip(ends, labels)]
             if None in numbers:
-                self.tell(f"{where_of(ends)}: no number is left for {' and '.join(labels)}: the cable is left out")
+                self.lose(f"{where_of(ends)}: no number is left for {' and '.join(labels)}: the cable is left out")
             else:
                 self.add_lan([(bridge, number) for (bridge, _), number in zip(ends, numbers)], speed, wanted)
 
@@ -517,11 +522,14 @@ def planned(texts):
 
 
 def write(network, unread):
-    """An importer's end: the script, and on standard error what couldn't be told and what couldn't be read, with status 1."""
+    """An importer's end: the script, and on standard error what couldn't be read, what is left out, and what couldn't be told. The status is
+    1 where something is left out, or nothing was read."""
+    count = 0
     for line in network.script():
         put(line)
-    for line in network.told + unread:
+        count += line.startswith("addbridge ")
+    for line in unread + network.told + [NOTHING_READ] * (not count):
         warn(line)
-    if unread:
+    if unread or network.lost or not count:
         sys.stdout.flush()
         sys.exit(STATUS_UNREAD)

@@ -24,8 +24,8 @@ Open vSwitch itself runs no spanning tree on a bond, and that is told. A bridge 
 passes BPDUs on (other_config:forward-bpdu), and else left out.
 
 What couldn't be told, what was assumed and which names were changed is told on standard error, with status 0; a file that can't
-be read is told there too, with status 1. Status 2 stands for wrong words, 3 for standard output that can't be written. Speeds are
-in kb/s, those of the database in b/s.
+be read and a bridge that is left out for its MAC address are told there first, with status 1, and so it is where no bridge is read.
+Status 2 stands for wrong words, 3 for standard output that can't be written. Speeds are in kb/s, those of the database in b/s.
 """
 
 import json
