@@ -143,6 +143,11 @@ def switches():
     return samples(*names[:-1], "cisco/campus/acc2.lldp")
 
 
+def nexus():
+    """Two switches with NX-OS, one of them with a text of CDP and one with one of LLDP."""
+    return samples(*(f"cisco/nexus/CORE-NX-0{it}" for it in ("1.mst", "1.config", "1.cdp", "2.mst", "2.config", "2.lldp")))
+
+
 def of_network(reader):
     """What runs an importer that makes a network of files, bytes by name."""
     return lambda files: write(*reader.read_files(files))
@@ -152,7 +157,7 @@ def of_network(reader):
 IMPORTERS = {
     "links.py": ([samples(f"campus/{name}.txt") for name in ("links", "switches")], lambda its: links.read_data(*its.popitem()[::-1])),
     "lldp.py": ([hosts()], of_network(lldp)),
-    "cisco.py": ([switches()], of_network(cisco)),
+    "cisco.py": ([switches(), nexus()], of_network(cisco)),
     "ovs.py": ([samples(f"ovs/{name}") for name in ("stp", "bonds", "settings")], of_network(ovs)),
 }
 

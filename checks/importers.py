@@ -4,7 +4,7 @@ and a plan is to fit what the sample's devices say of themselves.
 
 usage: importers.py PROGRAM
 
-The samples: campus/ is made up, and so is cisco/, by the documented forms of the texts; lab/, ovs/rstp and ovs/stp are of the
+The samples: campus/ is made up, and so is cisco/, by the documented forms of the texts (nexus/ has two switches with NX-OS); lab/, ovs/rstp and ovs/stp are of the
 networks that the scripts of lab/ make; ovs/bonds is of one too, whose bridge behind a bond
 is a root that no plan has, and ovs/settings of ovsdb-server alone, whose devices say nothing of a spanning tree. What no lab
 has is in a few made-up hosts (strange_hosts). Then each importer reads 2,000 inputs that are no device's (fuzz.py). It takes about
@@ -41,7 +41,20 @@ SAMPLES = [
         "acc1: spanning-tree bpduguard enable isn't planned",
         "core2.cdp line 32 isn't understood: Weather: fair",
         "dist2.config line 6 isn't understood: spanning-tree colour blue",
-        "acc1: these hear of no port of these switches, and each has a LAN of its own: Gi1/0/10",
+        "ports that hear of no port of these switches have LANs of their own: acc1 Gi1/0/10",
+        "speeds aren't told: all costs are those that the switches print",
+    ]),
+    ("cisco.py", ["cisco/nexus"], cisco.read, 72, [
+        "DIST-2 Gi1/0/7 is P2p Bound(PVST) *PVST_Inc: its neighbour has a tree for each VLAN, and those aren't planned",
+        "old-sw is no switch of this folder, and is heard of at DIST-2 Gi1/0/7",
+        "CORE-NX-01 Po1 has port number 4096, and these end at 4095: 2048 stands for it (and 1 more such)",
+        "DIST-2 Gi1/0/7 is BKN P2p Bound(PVST) *PVST_Inc in MST0, MST1: the plan has it take part, and it isn't compared",
+        "CORE-NX-01, CORE-NX-02: spanning-tree port type edge bpduguard default isn't planned",
+        "DIST-1, DIST-2: spanning-tree loopguard default isn't planned",
+        "cables of routers' ports and of those for management are left out: CORE-NX-01 mgmt0, DIST-1 Gi1/0/5",
+        "VLANs that a switch hasn't count as carried where its trunks allow them: CORE-NX-01, CORE-NX-02",
+        "ports that hear of no port of these switches have LANs of their own: DIST-1 Gi1/0/5, DIST-2 Gi1/0/7",
+        "neighbours that are no switches by their own word are left out: 2, at DIST-1, DIST-2",
         "speeds aren't told: all costs are those that the switches print",
     ]),
     ("lldp.py", ["lab"], lldp.read, 52, [
@@ -240,6 +253,7 @@ def check_strange(program):
     return wrong
 
 
+EMPTY = "no bridge is read: the network is empty"
 TABLE = """one a:1 b:1 10G 7 vlans=10,20-29
 two a:2 b:4096
 three a:2 b:2 0
@@ -323,6 +337,9 @@ def check_bundles(program):
         (("cisco.py", ["cisco/campus"]), "lag core1-core2 8000.00:1b:21:aa:00:01.0001+8000.00:1b:21:aa:00:02.0001 speed 2000000 "
                                          "up core1-core2,core1-core2.2 lans core1-core2,core1-core2.2 "
                                          "ports core1:2089,core1:4095,core2:2089,core2:4095"),
+        (("cisco.py", ["cisco/nexus"]), "lag C-N-01-C-NX-02.2 8000.00:de:fb:10:00:01.0001+8000.00:de:fb:10:00:02.0001 speed 2000000 "
+                                        "up C-N-01-C-NX-02.2,C-NX-01-CO-NX-02 lans C-N-01-C-NX-02.2,C-NX-01-CO-NX-02 "
+                                        "ports CORE-NX-01:2048,CORE-NX-01:4095,CORE-NX-02:2048,CORE-NX-02:4095"),
     ):
         lines, _ = answers(program, imported(*words)[0] + "showlag\n")
         wrong += [] if lines == [wanted] else lines or [f"no bundle in {words[1][0]}"]
@@ -345,20 +362,62 @@ def check_cisco(program):
         for where, status, lines in (
             ("cisco/campus", 0, ["114 values compared, 0 differ"]),
             (folder, 1, [*other, "114 values compared, 2 differ"]),
+            ("cisco/nexus", 0, ["72 values compared, 0 differ"]),
             ("cisco/per-vlan", 1, ["0 values compared, 0 differ"]),
         ):
             out, told, its = imported("cisco.py", ["--check", program, where])
             if (out.splitlines(), its) != (lines, status):
                 wrong.append(f"{where}: status {its}, {out}")
-    refused = ["core1 is left out: its mode is rapid-pvst, which has a tree for each VLAN, and those aren't planned"]
+    refused = ["core1 is left out: its mode is rapid-pvst, which has a tree for each VLAN, and those aren't planned", EMPTY]
     return wrong + ([] if told == refused else told)
+
+
+# Changes of the sample nexus, each of a file, that leave something out; and what is told first then.
+LEFT_OUT = [
+    ("DIST-1.mst", "Te1/0/2          Altn BLK 2000 ", "Te1/0/2          Altn 2000 ", [
+        "DIST-1.mst line 15 stands among ports, and isn't understood: Te1/0/2          Altn 2000      128.2    P2p",
+        "CORE-NX-02 Eth1/11 hears of DIST-1.campus.example Te1/0/2, and DIST-1 Te1/0/2 isn't in MST0: that is left out",
+        "DIST-1 Te1/0/2 hears of CORE-NX-02(FDO21410002) Eth1/11, and DIST-1 Te1/0/2 isn't in MST0: that is left out",
+    ]),
+    ("DIST-2.mst", "128.2    P2p", "128.1    P2p", [
+        "DIST-2 Te1/0/2 has the number of Te1/0/1: it is left out",
+        "CORE-NX-02 Eth1/12 hears of 7035.0910.0200 Te1/0/2, and DIST-2 Te1/0/2 isn't in MST0: that is left out",
+        "DIST-2 Te1/0/2 hears of CORE-NX-02 Eth1/12, and DIST-2 Te1/0/2 isn't in MST0: that is left out",
+    ]),
+    ("DIST-2.config", " instance 2 vlan 20, 40\n", "", ["DIST-2: MST2 is in DIST-2.mst, and not in DIST-2.config: it is left out"]),
+    ("CORE-NX-02.lldp", "Local Port id: Eth1/49\n", "", ["CORE-NX-02.lldp line 51: the entry before it names no neighbour"]),
+    ("DIST-1.mst", "Bridge        address 7035.0910.0100", "Bridge        address 7035.0910.0200", ["DIST-2 has the MAC address of DIST-1: it is left out"]),
+    ("DIST-1.mst", "##### MST0", "", ["DIST-1 is left out: DIST-1.mst has no MST0 with a line of its bridge"]),
+]
+
+
+def check_left_out(_):
+    """What is told first where the sample of NX-OS is changed, and of nothing at all; and the status, which is 1."""
+    wrong = []
+    for name, old, new, wanted in LEFT_OUT:
+        with tempfile.TemporaryDirectory() as folder:
+            shutil.copytree(os.path.join(FILES, "cisco", "nexus"), folder, dirs_exist_ok=True)
+            with open(os.path.join(folder, name), "r+", encoding="utf-8") as file:
+                text = file.read().replace(old, new, 1)
+                file.seek(0)
+                file.truncate()
+                file.write(text)
+            _, told, status = imported("cisco.py", [folder])
+            if status != 1 or told[:len(wanted)] != wanted:
+                wrong.append(f"{name} without {old!r}: status {status}, {told[:len(wanted)]}")
+    with tempfile.TemporaryDirectory() as folder:
+        for importer in ("cisco.py", "lldp.py"):
+            _, told, status = imported(importer, [folder])
+            wrong += [] if (told, status) == ([EMPTY], 1) else [f"{importer} of nothing: status {status}, {told}"]
+    _, told, status = imported("links.py", [os.devnull])
+    return wrong + ([] if (told, status) == ([EMPTY], 1) else [f"links.py of nothing: status {status}, {told}"])
 
 
 def check_names(_):
     """In the names of cables between switches stand the numbers of just these switches, and a mark where there are more cables; and each
     cable has another name."""
     wrong = []
-    for importer, sample, count in (("lldp.py", "lab", 8), ("cisco.py", "cisco/campus", 10)):
+    for importer, sample, count in (("lldp.py", "lab", 8), ("cisco.py", "cisco/campus", 10), ("cisco.py", "cisco/nexus", 6)):
         plugs = {}
         for words in map(str.split, imported(importer, [sample])[0].splitlines()):
             if words[0] == "plug":
@@ -376,7 +435,7 @@ def main():
     program = os.path.abspath(sys.argv[1])
     checks = [(" ".join([importer, *words]), check_sample(program, importer, words, *more)) for importer, words, *more in SAMPLES]
     others = {"made-up hosts": check_strange, "a table": check_table, "words": check_words, "bundles": check_bundles,
-              "Cisco's roles": check_cisco, "names of cables": check_names}
+              "Cisco's roles": check_cisco, "what is left out": check_left_out, "names of cables": check_names}
     checks += [(name, its(program)) for name, its in others.items()]
     checks += [(f"{fuzz.INPUTS} inputs of {importer}", fuzz.check(program, importer)) for importer in fuzz.IMPORTERS]
     for name, wrong in checks:

@@ -1,5 +1,5 @@
 #!/usr/bin/env python3
-"""Makes a script of what Cisco switches with MST (IOS, IOS XE) print of themselves, and compares its plan with their roles.
+"""Makes a script of what Cisco switches with MST (IOS, IOS XE, NX-OS) print of themselves, and compares its plan with their roles.
 
 usage: cisco.py FOLDER    or: cisco.py --check PROGRAM FOLDER
 
@@ -14,20 +14,22 @@ For example: cisco.py examples/import/cisco/campus | mstplan run -
 
 The forms of these texts are those of Cisco's documents; no text of a real switch was at hand, and the samples are made up. So each
 line of HOST.mst, HOST.cdp and HOST.lldp that isn't understood is told, and each of HOST.config that is about spanning trees, VLANs
-of ports or bundles; other lines of a configuration aren't looked at.
+of ports or bundles; other lines of a configuration aren't looked at. What many lines or switches have in common is told once.
 
 Each switch becomes a bridge named by its host, with its region, its priorities, Max Hops and Max Age. Its ports are those of MST0,
-with their numbers, priorities and costs as printed; the external cost of a port is taken to be that of MST0. Interfaces that hear
-of each other are in one LAN; those of a channel-group are links with a key, which count as one. A port that hears of no other
-switch gets a LAN of its own. Speeds aren't told: all costs are set. A switch in mode pvst or rapid-pvst has a tree for each VLAN,
-which isn't planned: it is refused.
+with their numbers, priorities and costs as printed; the external cost of a port is taken to be that of MST0. NX-OS numbers its
+bundles from 4096 on: another number stands for one, behind those of all other ports. Interfaces that hear of each other are in one
+LAN; those of a channel-group are links with the group's number as their key, which count as one. A port that hears of no other
+switch gets a LAN of its own. Speeds aren't told: all costs are set. Neighbours that say of themselves that they are phones or
+hosts are counted. A switch in mode pvst or rapid-pvst has a tree for each VLAN, which isn't planned: it is refused.
 
 --check runs PROGRAM, an mstplan, on the script, and prints each root and role that a switch prints otherwise than the plan.
 
 CDP and LLDP aren't authenticated: what isn't printable in a neighbour's words is escaped. Where just one of two interfaces hears of
-the other, that is told, and where the other and a third one hear of each other, the one's word is left out. What couldn't be told, what was assumed
-and which names were changed is told on standard error, with status 0; a switch that is refused and a file that can't be read are
-told there too, with status 1, and so does --check end where something differs. Status 2 stands for wrong words, 3 for a folder or a
+the other, that is told, and where the other and a third one hear of each other, the one's word is left out. Standard error tells
+first what leaves a switch, a port, a tree or a link out, with status 1: a switch that is refused, a file or a line of a port that can't
+be read, a neighbour without a name or an interface, or whose port no switch prints. Behind it comes what was assumed and which names were
+changed, with status 0. --check ends with status 1 where something differs, too. Status 2 stands for wrong words, 3 for a folder or a
 program that can't be read or run, and for standard output that can't be written.
 """
 
@@ -41,7 +43,7 @@ sys.path.append(os.path.join(os.path.dirname(os.path.abspath(__file__)), os.pard
 
 import mstplan  # noqa: E402
 from network import (  # noqa: E402
-    DEFAULT_MAX_AGE, DEFAULT_MAX_HOPS, HIGHEST_COST, HIGHEST_KEY, HIGHEST_PORT, HIGHEST_VID, MOST_TREES, STATUS_FAULT,
+    DEFAULT_MAX_AGE, DEFAULT_MAX_HOPS, HIGHEST_COST, HIGHEST_KEY, HIGHEST_PORT, HIGHEST_VID, MOST_TREES, NOTHING_READ, STATUS_FAULT,
     STATUS_UNREAD, STATUS_WORDS, Joined, Network, Port, Region, agreed, called, decoded, files_of, guarded, identifier, put, runs,
     vids_of, warn, write,
 )
@@ -59,8 +61,14 @@ STATES = {"FWD": True, "BLK": False}
 PER_VLAN = ("pvst", "rapid-pvst")
 NO_NAME = "no-name"
 NUMBER, ADDRESS = "([0-9]{1,9})", "([0-9a-fA-F]{4}[.][0-9a-fA-F]{4}[.][0-9a-fA-F]{4})"
+# What stands for a port's number that is above the highest is so much less, or else the next that is free.
+NUMBERS_LESS = 2048
+# The VLANs that each switch has.
+ALWAYS_THERE = {1, 1002, 1003, 1004, 1005}
+# How many of what many have in common are named.
+MOST_NAMED = 4
 # Lines that are in any of the texts and tell nothing.
-NOTHING = re.compile(r"\s*|[A-Za-z0-9][A-Za-z0-9_.-]*[#>].*|-+( -+)*\s*|Load for .*|Time source is .*")
+NOTHING = re.compile(r"\s*|[A-Za-z0-9][A-Za-z0-9_.-]*[#>].*|-+( +-+)*\s*|Load for .*|Time source is .*")
 INSTANCE = re.compile(rf"#+ MST{NUMBER}\s+vlans mapped:\s*([0-9,-]*|none)\s*")
 MORE_VLANS = re.compile(r"\s{10,}([0-9,-]+)\s*")
 BRIDGE = re.compile(rf"Bridge\s+address {ADDRESS}\s+priority\s+[0-9]+\s+\({NUMBER} sysid {NUMBER}\)\s*")
@@ -68,44 +76,72 @@ ROOT = re.compile(rf"Root\s+address {ADDRESS}\s+priority\s+[0-9]+\s+\({NUMBER} s
 ROOT_HERE = re.compile(r"Root\s+this switch for .*")
 ROOT_COST = re.compile(rf"\s+port\s+\S+\s+(?:path )?cost\s+{NUMBER}(?:\s+rem hops [0-9]+)?\s*")
 CONFIGURED = re.compile(rf"Configured\s+hello time.*max age {NUMBER}, max hops\s+{NUMBER}\s*")
-PORT = re.compile(rf"(\S+)\s+(Root|Desg|Altn|Back|Mstr|Disa)\s+([A-Z]+)\*?\s+{NUMBER}\s+{NUMBER}\.{NUMBER}\s+(.*?)\s*")
-OF_MST = re.compile(r"(Regional Root|IST master) .*|\s+(internal|path) cost\s.*|Operational\s.*|Interface\s+Role Sts Cost .*")
+PORTS = re.compile(r"Interface\s+Role Sts Cost .*")
+# the state's column has three letters and a mark, behind which the cost may stand at once
+PORT = re.compile(rf"(\S+)\s+(Root|Desg|Altn|Back|Mstr|Disa)\s+([A-Z]+)(?:\*\s*|\s+){NUMBER}\s+{NUMBER}\.{NUMBER}\s+(.*?)\s*")
+OF_MST = re.compile(r"(Regional Root|IST master) .*|\s+(internal|path) cost\s.*|Operational\s.*"
+                    r"|Name +\[.*\]|Revision +[0-9]+ +Instances configured.*|Instance +Vlans mapped|[0-9]+ {3,}[0-9,-]+")
 PER_VLAN_TREE = re.compile(r"VLAN[0-9]{4}")
 OF_CDP = re.compile(
-    r"(Entry address|\s+IP(v6)? address|Platform|Holdtime|advertisement version|Protocol Hello|VTP Management Domain|Native VLAN"
-    r"|Duplex|Management address|Power|Spare|Unidirectional|MTU|Peer Source MAC|Second Port Status|Technical Support|Copyright"
-    r"|Total cdp entries displayed|\s+(OUI|payload|Power)|Physical [Ll]ocation|(Local|Remote) Interface MAC)"
-    r".*")
+    r"((Entry|Interface|Management|Mgmt) address|\s+IP(v[46])? address|System Name|Platform|Holdtime|advertisement version|Protocol Hello"
+    r"|VTP Management Domain|Native VLAN|Duplex|Power|Spare|Unidirectional|MTU|Peer Source MAC|Second Port Status|Technical Support"
+    r"|Copyright|Total cdp entries displayed|\s+(OUI|payload|Power)|Physical location|(Local|Remote) Interface MAC)"
+    r".*", re.IGNORECASE)
 OF_LLDP = re.compile(
-    r"(Chassis [Ii][Dd]|Port Description|Time remaining|(System|Enabled) Capabilities|Management Addresses|\s+(IP|IPV6|Other)"
+    r"(Chassis [Ii][Dd]|Port Description|System Name:?( -)? not advertised|Time remaining|(System|Enabled) Capabilities"
+    r"|Management Address|\s+(IP|IPV6|Other)"
     r"|Auto Negotiation|Physical media|\s+[0-9]+base|\s+other|Media Attachment|Vlan ID|Peer Source MAC|PoE|MED|Device type|Power"
-    r"|Network Policies|Location|Inventory|Capabilities|[HFS]/W|Serial|Manufacturer|Model|Asset|Total entries displayed).*")
-# Lines of a configuration that are looked at; of these, those that change nothing, and those that do what isn't planned.
-LOOKED_AT = re.compile(r"\s*(spanning-tree|switchport|channel-group|shutdown|hostname|interface)\b.*")
+    r"|Network Policies|Location|Inventory|Capabilit(ies|y codes)|[HFS]/W|Serial|Manufacturer|Model|Asset|Total entries displayed"
+    r"|\s+\([A-Z]\) |Device ID +Local Intf).*")
+# Lines of a configuration that are looked at; of these, those that change nothing, and those that do what isn't planned. A banner is
+# free text up to its mark.
+LOOKED_AT = re.compile(r"\s*(spanning-tree|switchport|channel-group|shutdown|hostname|interface|vlan|vpc)\b.*")
 OF_CONFIG = re.compile(
     r"spanning-tree (extend system-id|pathcost method long|logging|etherchannel guard misconfig|portfast (edge )?default"
-    r"|mst [0-9,-]+ (priority|root) .*|mst (hello-time|forward-time) .*|mst simulate pvst global|vlan .*)"
-    r"|spanning-tree (portfast( edge| network| trunk| disable)*|link-type .*|mst [0-9,-]+ (cost|port-priority) .*|cost .*"
-    r"|port-priority .*|mst simulate pvst( disable)?)"
-    r"|switchport|switchport (nonegotiate|trunk (native vlan|encapsulation|pruning) .*|port-security.*|host|block .*)")
-UNPLANNED = re.compile(r"spanning-tree (bpduguard|bpdufilter|guard loop|loopguard|portfast (edge )?(bpduguard|bpdufilter)"
-                       r"|backbonefast|uplinkfast|mst pre-standard).*")
+    r"|mst [0-9,-]+ (priority|root) .*|mst (hello-time|forward-time) .*|mst simulate pvst global|vlan .*|bridge assurance"
+    r"|port type (edge|network|normal) default)"
+    r"|spanning-tree (portfast( edge| network| trunk| disable)*|port type (edge|network|normal)( trunk)?|link-type .*"
+    r"|mst [0-9,-]+ (cost|port-priority) .*|cost .*|port-priority .*|mst simulate pvst( disable)?)"
+    r"|switchport|switchport (nonegotiate|trunk (native vlan|encapsulation|pruning) .*|port-security.*|host|block .*)"
+    r"|(interface|shutdown|spanning-tree mst configuration|vlan)\b.*")
+UNPLANNED = re.compile(r"spanning-tree (bpduguard|bpdufilter|guard loop|loopguard|(portfast|port type) (edge )?(bpduguard|bpdufilter)"
+                       r"|backbonefast|uplinkfast|mst pre-standard).*|vpc .*")
+# What makes a port one of a router, or one for management.
+OF_ROUTER = re.compile(r"\s+(no switchport|ip address|ip unnumbered|ipv6 address|(ip )?vrf (member|forwarding))\b.*")
+BANNER = re.compile(r"banner \S+ (\^C|\S)(.*)")
 
 
 @dataclass
 class Form:
-    """A text of neighbours: lines that name the device, its interface and the own one, which of these an entry begins with, other
-    lines, and what begins a text that is free."""
+    """A text of neighbours: lines that name the device, its interface, the own one or what the device can do, other lines, what begins a
+    text that is free and goes up to an empty line, and what ends it besides; and which devices are phones and hosts, by what they can do."""
     named: re.Pattern
-    first: str
     others: re.Pattern
     free: str
+    free_to: re.Pattern
+    ends: re.Pattern
 
 
-CDP = Form(re.compile(r"Device ID: ?(?P<device>\S+)\s*|Interface: (?P<own>[^,]+), +Port ID \(outgoing port\): (?P<far>.+)"),
-           "device", OF_CDP, "Version")
-LLDP = Form(re.compile(r"System Name: ?(?P<device>\S+)\s*|Local Intf: (?P<own>.+)|Port id: (?P<far>.+)"), "own", OF_LLDP,
-            "System Description")
+CDP = Form(
+    re.compile(r"Device ID: ?(?P<device>\S+)\s*|Interface: (?P<own>[^,]+), +Port ID \(outgoing port\): (?P<far>.+)"
+               r"|Platform: .*, +Capabilities:(?P<can>.*)"),
+    OF_CDP, "Version", re.compile(r"(?!)"), re.compile(r"(?!.*Switch).*\S.*"))
+# the capabilities are letters: B is a bridge, T a phone, W an access point and S a host
+LLDP = Form(
+    re.compile(r"System Name: ?(?P<device>\S+)\s*|(Local Intf|Local Port id): (?P<own>.+)|Port id: (?P<far>.+)"
+               rf"|Chassis id: (?P<address>{ADDRESS})\s*|(System|Enabled) Capabilities:(?P<can>.*)"),
+    OF_LLDP, "System Description", re.compile("Time remaining: [0-9]+ seconds"), re.compile(r".*[TWS].*|(?!.*B).*[A-Z].*"))
+
+
+@dataclass
+class Neighbour:
+    """What an interface hears of: the own interface, the device, its interface, its MAC address where that is told, and whether it says that
+    it is a phone, a host or another thing that is no switch."""
+    own: str
+    device: str
+    far: str
+    address: str | None
+    is_end: bool
 
 
 @dataclass
@@ -123,17 +159,18 @@ class Instance:
 @dataclass
 class Interface:
     """What a configuration sets of an interface: its mode, its VIDs as an access port and on a trunk (None for all), its bundle's
-    number, and whether its role is restricted."""
+    number, and whether its role is restricted, or it is no port of a switch at all but one of a router."""
     mode: str | None = None
     access: set[int] = field(default_factory=set)
     vlans: set[int] | None = None
     group: int | None = None
     restricted: bool = False
+    routed: bool = False
 
 
 @dataclass
 class Switch:
-    """What the files of a switch say. Of a neighbour: the own interface, the device and its interface."""
+    """What the files of a switch say. `vlans` are those that it has, None where it doesn't tell."""
     host: str
     instances: dict[int, Instance] = field(default_factory=dict)
     mode: str | None = None
@@ -142,7 +179,8 @@ class Switch:
     interfaces: dict[str, Interface] = field(default_factory=dict)
     max_hops: int = DEFAULT_MAX_HOPS
     max_age: int = DEFAULT_MAX_AGE
-    neighbours: list[tuple[str, str, str]] = field(default_factory=list)
+    neighbours: list[Neighbour] = field(default_factory=list)
+    vlans: set[int] | None = None
 
     def logical(self, interface):
         """The interface that stands for this one in the tree: the bundle that it is of, or itself."""
@@ -167,22 +205,71 @@ def vids(text):
     return set() if text == "none" else vids_of(text)
 
 
+def listed(places):
+    """A few of these places, and how many more there are."""
+    its = list(dict.fromkeys(places))
+    return ", ".join(its[:MOST_NAMED]) + (f" and {len(its) - MOST_NAMED} more" if len(its) > MOST_NAMED else "")
+
+
+def and_more(places):
+    """How many more of what is told there are, where there are more."""
+    return f" (and {len(places) - 1} more such)" if len(places) > 1 else ""
+
+
+def alone(places):
+    """Ports, each as (switch, interface), by their switches."""
+    ports = {}
+    for host, interface in places:
+        ports.setdefault(host, []).append(interface)
+    return listed(f"{host} {' '.join(its) if len(its) <= MOST_NAMED else f'{len(its)} ports'}" for host, its in ports.items())
+
+
+# What lines, switches and ports have in common, in the order of its weight: how it is told, of what it is and where it is so.
+REMARKS = {
+    "foreign": lambda device, places: f"{device} is no switch of this folder, and is heard of at {listed(places)}",
+    "numbers": lambda _, places: f"{places[0]}{and_more(places)}",
+    "states": lambda what, places: f"{what} in {listed(places)}: the plan has it take part, and it isn't compared",
+    "bytes": lambda _, places: f"{listed(places)} {'has' if len(places) == 1 else 'have'} bytes that aren't UTF-8: they are replaced",
+    "lines": lambda _, places: f"{places[0]}{and_more(places)}",
+    "unplanned": lambda line, places: f"{listed(places)}: {line} isn't planned",
+    "routed": lambda _, places: f"cables of routers' ports and of those for management are left out: {listed(places)}",
+    "vlans": lambda _, places: f"VLANs that a switch hasn't count as carried where its trunks allow them: {listed(places)}",
+    "alone": lambda _, places: f"ports that hear of no port of these switches have LANs of their own: {alone(places)}",
+    "ends": lambda _, places: f"neighbours that are no switches by their own word are left out: {len(places)}, at {listed(places)}",
+}
+
+
+class Remarks:
+    """What is so of many lines, switches or ports, each once."""
+
+    def __init__(self):
+        self.found = {kind: {} for kind in REMARKS}
+
+    def add(self, kind, where, what=""):
+        self.found[kind].setdefault(what, []).append(where)
+
+    def told(self):
+        return [REMARKS[kind](what, places) for kind, its in self.found.items() for what, places in its.items()]
+
+
 class Reader:
     """Reads the files of a switch, line by line: what isn't understood is told."""
 
-    def __init__(self, host, files, tell):
-        self.switch, self.files, self.tell = Switch(host), files, tell
+    def __init__(self, host, files, network, remarks):
+        self.switch, self.files, self.network, self.remarks = Switch(host), files, network, remarks
 
     def lines(self, ending):
         """The lines of a file, each with its name and number, and without those that tell nothing."""
         name = f"{self.switch.host}.{ending}"
-        text = decoded(self.files.get(name, b""), name, self.tell)
+        text = decoded(self.files.get(name, b""), name, lambda _: self.remarks.add("bytes", name))
         for number, line in enumerate(text.split("\n"), start=1):
             line = line.rstrip("\r")
             yield f"{name} line {number}", "" if NOTHING.fullmatch(line) else line
 
-    def not_understood(self, where, line):
-        self.tell(f"{where} isn't understood: {line.strip()}")
+    def not_understood(self, where, line, why=""):
+        """Tells of a line, once for all that are the same but for numbers."""
+        line = line.strip()
+        self.remarks.add("lines", f"{where} isn't understood{why}: {line}", re.sub("[0-9]+", "#", line))
 
     def read(self):
         self.read_mst()
@@ -192,14 +279,20 @@ class Reader:
         return self.switch
 
     def read_mst(self):
-        it = None
+        """Instances: a heading begins a table of ports, which goes from its first line up to an empty one."""
+        it, is_headed, is_of_ports = None, False, False
         for where, line in self.lines("mst"):
+            is_of_ports = bool(line) and (is_headed or is_of_ports)
+            is_headed = bool(PORTS.fullmatch(line)) or is_headed and not line
             if found := INSTANCE.fullmatch(line):
                 it = self.switch.instances.setdefault(int(found[1]), Instance(found[2]))
             elif PER_VLAN_TREE.fullmatch(line.strip()):
                 self.switch.mode = self.switch.mode or PER_VLAN[0]
             elif line and not (it and self.line_of_instance(it, line)) and self.switch.mode is None:
-                self.not_understood(where, line)
+                if is_of_ports:
+                    self.network.lose(f"{where} stands among ports, and isn't understood: {line.strip()}")
+                else:
+                    self.not_understood(where, line)
 
     def line_of_instance(self, it, line):
         """Takes what a line tells of an instance; whether it is understood."""
@@ -218,12 +311,17 @@ class Reader:
         elif (found := MORE_VLANS.fullmatch(line)) and it.mac is None:
             it.vids += found[1]
         else:
-            return OF_MST.fullmatch(line)
+            return OF_MST.fullmatch(line) or PORTS.fullmatch(line)
         return True
 
     def read_config(self):
-        block, interface = None, None
+        block, interface, banner = None, None, None
         for where, line in self.lines("config"):
+            if banner:
+                banner = None if banner[1] in line else banner
+                continue
+            if (found := BANNER.fullmatch(line)) and found[1] not in found[2]:
+                banner = where, found[1]
             if line[:1] not in ("", " "):
                 block, words = line.strip(), line.split()
                 interface = None
@@ -232,12 +330,16 @@ class Reader:
             try:
                 if block == "spanning-tree mst configuration" and line.startswith(" "):
                     is_understood = self.line_of_region(line)
+                elif interface and OF_ROUTER.fullmatch(line):
+                    interface.routed = is_understood = True
                 else:
                     is_understood = not LOOKED_AT.fullmatch(line) or self.line_of_config(line, interface)
                 if not is_understood:
                     self.not_understood(where, line)
             except ValueError as why:
-                self.tell(f"{where} isn't understood ({why}): {line.strip()}")
+                self.not_understood(where, line, f" ({why})")
+        if banner:
+            self.network.lose(f"{banner[0]} begins a banner without an end: what stands behind it isn't read")
 
     def line_of_region(self, line):
         """Takes what a line tells of the region; whether it is understood."""
@@ -266,10 +368,12 @@ class Reader:
             switch.max_hops = int(found[1])
         elif found := re.fullmatch(rf"spanning-tree mst max-age {NUMBER}", line):
             switch.max_age = int(found[1])
+        elif found := re.fullmatch(r"vlan ([0-9,-]+)", line):
+            switch.vlans = (switch.vlans or set()) | vids(found[1])
         elif UNPLANNED.fullmatch(line):
-            self.tell(f"{switch.host}: {line} isn't planned")
+            self.remarks.add("unplanned", switch.host, line)
         elif interface is None or not self.line_of_interface(line, interface):
-            return line.startswith(("interface", "shutdown", "spanning-tree mst configuration")) or OF_CONFIG.fullmatch(line)
+            return OF_CONFIG.fullmatch(line)
         return True
 
     @staticmethod
@@ -283,7 +387,7 @@ class Reader:
             its.vlans = None
         elif found := re.fullmatch(r"switchport trunk allowed vlan (add )?([0-9].*|none)", line):
             its.vlans = (its.vlans or set() if found[1] else set()) | vids(found[2])
-        elif found := re.fullmatch(rf"channel-group {NUMBER} mode (active|passive|on|desirable|auto).*", line):
+        elif (found := re.fullmatch(rf"channel-group {NUMBER}( force)?( mode (active|passive|on|desirable|auto).*)?", line)) and 1 <= int(found[1]) <= HIGHEST_KEY:
             its.group = int(found[1])
         elif line == "spanning-tree guard root":
             its.restricted = True
@@ -292,34 +396,40 @@ class Reader:
         return True
 
     def read_neighbours(self, ending, form):
-        """Neighbours, each of the three lines that name the device, its interface and the own one; text that is free goes up to an
-        empty line."""
+        """Neighbours: an entry begins where a line tells again what the one before it has told. Text that is free goes up to an empty line."""
         entry, is_free, where = {}, False, ""
         for where, line in self.lines(ending):
-            if is_free and line:
+            if is_free and line and not form.free_to.fullmatch(line):
                 continue
             is_free, found = line.startswith(form.free), form.named.fullmatch(line)
             its = {key: it.strip() for key, it in found.groupdict().items() if it} if found else {}
-            if entry and form.first in its:
-                self.tell(f"{where}: the entry before it names no neighbour")
+            if entry.keys() & (its.keys() - {"can"}):
+                self.add_neighbour(entry, form, f"{where}: the entry before it")
                 entry = {}
             entry |= its
             if line and not found and not is_free and not form.others.fullmatch(line):
                 self.not_understood(where, line)
-            if len(entry) == 3:
-                self.switch.neighbours.append((short(entry["own"]), entry["device"], short(entry["far"])))
-                entry = {}
         if entry:
-            self.tell(f"{where}: the last entry names no neighbour")
+            self.add_neighbour(entry, form, f"{where}: the last entry")
+
+    def add_neighbour(self, entry, form, where):
+        is_end, address = bool(form.ends.fullmatch(entry.get("can", ""))), entry.get("address")
+        own, device, far = entry.get("own"), entry.get("device") or address, entry.get("far")
+        if own and device and far:
+            self.switch.neighbours.append(Neighbour(short(own), device, short(far), address and mac(address), is_end))
+        elif is_end:
+            self.remarks.add("ends", self.switch.host)
+        else:
+            self.network.lose(f"{where} names no neighbour")
 
 
 class Switches:
     """Makes a network of what switches say."""
 
     def __init__(self, files):
-        self.network, self.unread, self.switches = Network(), [], {}
+        self.network, self.remarks, self.unread, self.switches = Network(), Remarks(), [], {}
         for host in sorted({it.rpartition(".")[0] for it in files}):
-            its = Reader(host, files, self.network.tell).read()
+            its = Reader(host, files, self.network, self.remarks).read()
             why = self.refusal(its, files)
             if why:
                 self.unread.append(f"{host} is left out: {why}")
@@ -352,6 +462,8 @@ class Switches:
             self.add_switch(its)
         self.join_neighbours()
         self.add_lans()
+        for line in self.remarks.told():
+            self.network.tell(line)
         if self.network.lans:
             self.network.tell("speeds aren't told: all costs are those that the switches print")
         return self.network, self.unread
@@ -369,20 +481,35 @@ class Switches:
             self.network.tell(f"{its.host}: its region has no name: {NO_NAME} stands for it")
         for tree, it in its.instances.items():
             if tree and tree not in bridge.region.table:
-                self.network.tell(f"{its.host}: MST{tree} is in {its.host}.mst, and not in {its.host}.config: it is left out")
+                self.network.lose(f"{its.host}: MST{tree} is in {its.host}.mst, and not in {its.host}.config: it is left out")
             elif tree:
                 bridge.priorities[tree] = self.network.fit(f"{its.host} MST{tree}", "priority", it.priority, 0, 61440, 4096)
                 if it.vids and it.vids != runs(bridge.region.table[tree]):
                     self.network.tell(f"{its.host}: MST{tree} has other VLANs in {its.host}.mst than in {its.host}.config: these count")
-        for interface, line in mst.ports.items():
+        # those with a number above the highest come last, so that none of theirs is another one's
+        for interface, line in sorted(mst.ports.items(), key=lambda it: max(it[1][4] - HIGHEST_PORT, 0)):
             self.add_port(its, bridge, interface, line)
+        if its.vlans and any(port.vlans is None or port.vlans - its.vlans - ALWAYS_THERE for port in bridge.ports.values()):
+            self.remarks.add("vlans", its.host)
+
+    def number(self, where, bridge, number):
+        """The number of a port, or what stands for one above the highest: a free one, behind those of all ports that were added; None where
+        it has none."""
+        if 1 <= number <= HIGHEST_PORT and number not in bridge.ports:
+            return number
+        free = range(max([number - NUMBERS_LESS, *(it + 1 for it in bridge.ports)]), HIGHEST_PORT + 1)
+        if number > HIGHEST_PORT and free:
+            self.remarks.add("numbers", f"{where} has port number {number}, and these end at {HIGHEST_PORT}: {free[0]} stands for it")
+            return free[0]
+        why = f"the number of {bridge.ports[number].label}" if number in bridge.ports else f"port number {number}"
+        self.network.lose(f"{where} has {why}: it is left out")
+        return None
 
     def add_port(self, switch, bridge, interface, line):
         """A port of a line of MST0, and what the other instances print of it."""
-        _, _, cost, priority, number, _ = line
-        if not 1 <= number <= HIGHEST_PORT or number in bridge.ports:
-            why = f"the number of {bridge.ports[number].label}" if number in bridge.ports else f"port number {number}"
-            self.network.tell(f"{switch.host} {interface} has {why}: it is left out")
+        _, _, cost, priority, printed, _ = line
+        number = self.number(f"{switch.host} {interface}", bridge, printed)
+        if number is None:
             return
         its = switch.interfaces.get(interface, Interface())
         port = Port(interface, priority, cost, its.restricted, its.vlans)
@@ -391,7 +518,7 @@ class Switches:
         self.network.add_port(bridge, number, port)
         for tree, it in switch.instances.items():
             if interface in it.ports and (not tree or tree in bridge.region.table):
-                self.add_tree(port, f"{switch.host} {interface} in MST{tree}", tree, it.ports[interface])
+                self.add_tree(port, f"{switch.host} {interface}", tree, it.ports[interface])
         self.ports[switch.host, interface] = bridge, number
 
     def add_tree(self, port, where, tree, line):
@@ -400,40 +527,54 @@ class Switches:
         if state in STATES:
             port.says[tree] = ROLES[role], STATES[state]
         else:
-            self.network.tell(f"{where} is {state} {kind}: that isn't compared")
+            self.remarks.add("states", f"MST{tree}", f"{where} is {state} {kind}")
         if "PVST" in kind:
             self.network.tell(f"{where} is {kind}: its neighbour has a tree for each VLAN, and those aren't planned")
+        where = f"{where} in MST{tree}"
         port.costs[tree] = self.network.fit(where, "path cost", cost, 1, HIGHEST_COST)
         if tree:
             port.priorities[tree] = self.network.fit(where, "priority", priority, 0, 240, 16)
 
-    def host_of(self, device):
-        """The switch that a neighbour's name is: with a domain behind it, or a serial number in brackets."""
-        device = device.partition("(")[0]
+    def host_of(self, neighbour):
+        """The switch that a neighbour's name is, with a domain behind it or a serial number in brackets, or else its MAC address; or None."""
+        device = neighbour.device.partition("(")[0]
         for host, its in self.switches.items():
             if any(it and (device == it or device.startswith(it + ".")) for it in (host, its.hostname)):
                 return host
-        return None
+        return next((host for host, its in self.switches.items() if its.instances[0].mac == neighbour.address), None)
 
     def join_neighbours(self):
         pairs = {}
         for host, its in self.switches.items():
-            for interface, device, far_interface in its.neighbours:
-                other, one = (self.host_of(device), far_interface), (host, interface)
-                if other[0] is None:
-                    self.network.tell(f"{host} {interface} hears of {device} {far_interface}, which is no switch of this folder")
-                    continue
-                ends = [(end[0], self.switches[end[0]].logical(end[1])) for end in (one, other)]
-                absent = [end for end in ends if end not in self.ports]
-                if absent or ends[0] == ends[1]:
-                    why = "{} {} isn't in MST0".format(*absent[0]) if absent else "both are one"
-                    self.network.tell(f"{host} {interface} hears of {device} {far_interface}, and {why}: that is left out")
-                    continue
-                pairs[one, other] = ends
+            for neighbour in its.neighbours:
+                one, other = (host, neighbour.own), (self.host_of(neighbour), neighbour.far)
+                if other[0] is None and neighbour.is_end:
+                    self.remarks.add("ends", host)
+                elif other[0] is None:
+                    self.remarks.add("foreign", f"{host} {neighbour.own}", neighbour.device)
+                else:
+                    ends = [(end[0], self.switches[end[0]].logical(end[1])) for end in (one, other)]
+                    if self.is_link(f"{host} {neighbour.own}", f"{neighbour.device} {neighbour.far}", ends):
+                        pairs[one, other] = ends
         for one, other in agreed(pairs, self.network):
             self.lans.join(*pairs[one, other])
             self.far.setdefault(one, set()).add(other)
             self.far.setdefault(other, set()).add(one)
+
+    def is_link(self, where, other, ends):
+        """Whether what is heard is a link of the spanning tree. Where one end should be a port of it, and isn't, a link is lost."""
+        absent = [end for end in ends if end not in self.ports]
+        if ends[0] == ends[1]:
+            self.network.tell(f"{where} hears of {other}, and both are one: that is left out")
+        elif absent and all(self.is_routed(*it) for it in absent):
+            self.remarks.add("routed", where)
+        elif absent:
+            self.network.lose(f"{where} hears of {other}, and {' '.join(absent[0])} isn't in MST0: that is left out")
+        return not absent and ends[0] != ends[1]
+
+    def is_routed(self, host, interface):
+        its = self.switches[host].interfaces.get(interface)
+        return interface.lower().startswith("mgmt") or its is not None and its.routed
 
     def cables(self, ends):
         """The cables of two bundles of two bridges, each the labels of its ends; None where not each has one end at both."""
@@ -449,23 +590,20 @@ class Switches:
         return sorted(found) if self.ports[ends[0]][0] is not self.ports[ends[1]][0] else None
 
     def add_lans(self):
-        lans, alone = {}, {}
+        lans = {}
         for end in self.ports:
             lans.setdefault(self.lans.end(end), []).append(end)
         for ends in lans.values():
             cables = self.cables(sorted(ends)) if len(ends) == 2 else None
             ports = [self.ports[end] for end in (sorted(ends) if cables else ends)]
             if len(ends) == 1:
-                alone.setdefault(ends[0][0], []).append(ends[0][1])
+                self.remarks.add("alone", ends[0])
             if cables:
                 for (_, bundle), (bridge, number) in zip(sorted(ends), ports):
                     bridge.ports[number].key = int(bundle.removeprefix("Po"))
                 self.network.add_bundle(ports, [([near[1], far[1]], None, None) for near, far in cables])
             else:
                 self.network.add_lan(ports, None)
-        for host, interfaces in alone.items():
-            its = " ".join(interfaces)
-            self.network.tell(f"{host}: these hear of no port of these switches, and each has a LAN of its own: {its}")
 
 
 def read_files(files):
@@ -494,10 +632,10 @@ def check(program, network, unread):
     refused = [line for line in texts if line.startswith("line ")]
     for line in (*refused, *others, f"{compared} values compared, {len(others)} differ"):
         put(line)
-    for line in network.told + unread:
+    for line in unread + network.told + [NOTHING_READ] * (not network.bridges):
         warn(line)
     sys.stdout.flush()
-    sys.exit(STATUS_UNREAD if others or unread or refused or status else 0)
+    sys.exit(STATUS_UNREAD if others or unread or network.lost or not network.bridges or refused or status else 0)
 
 
 def main():
