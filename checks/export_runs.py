@@ -34,6 +34,8 @@ import cisco  # noqa: E402
 import mstplan  # noqa: E402
 import ovs  # noqa: E402
 import sketch  # noqa: E402
+from network import comment  # noqa: E402
+from settings import interfaces_of  # noqa: E402
 
 COUNT, IN_THE_GATE = 100, 12
 FULL, SHORT, EVERY = "GigabitEthernet1/0/{}", "Gi1/0/{}", frozenset(range(1, 4095))
@@ -512,9 +514,18 @@ WORKED = [
 ]
 
 
+def faults_of_comments():
+    """What differs of what an importer's comment calls the ports of a bridge, over several lines, when it is read again."""
+    names = {number: (f"eth-very-{number}", f"bond-{number}-x") for number in range(1, 30)}
+    told = ", ".join(f"{number} is {interface} of {bundle}" for number, (interface, bundle) in names.items())
+    text = "\n".join([*comment(f"h: {told}"), "addbridge h 02:00:00:00:00:01", ""])
+    found = interfaces_of(text.encode())
+    return [f"comments: {found}"] if found != {("h", number): its for number, its in names.items()} else []
+
+
 def faults_of_words(path):
-    """What differs of the changes that are worked by hand: nothing of them is left to hands."""
-    faults = []
+    """What differs of comments, and of the changes that are worked by hand: nothing of these is left to hands."""
+    faults = faults_of_comments()
     for form, names, change, wanted in WORKED:
         with mstplan.written(BUNDLE.format(*names).encode()) as script, mstplan.written(f"mstplan 2\n{change}".encode()) as edits:
             words = [sys.executable, EXPORT, path, script, "--change", edits, "--to", form]

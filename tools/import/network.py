@@ -268,8 +268,8 @@ def vids_of(text):
 
 
 def comment(text):
-    """A comment's lines, each short enough for the language, whatever the devices' words have in them."""
-    return textwrap.wrap(printable(text), 120, initial_indent="# ", subsequent_indent="# ")
+    """A comment's lines, each short enough for the language, whatever the devices' words have in them. A word with hyphens isn't broken."""
+    return textwrap.wrap(printable(text), 120, initial_indent="# ", subsequent_indent="# ", break_on_hyphens=False)
 
 
 @functools.lru_cache
