@@ -2,8 +2,8 @@
 """Prints a policy of what a network does now: its first one, to read, to cut and to keep.
 
 Each line is a guess that `mstplan verify` has judged to hold: roots and which bridge comes next, also after a failure; regions; which
-bridges each VLAN joins, also after each single failure; bridges that no traffic crosses; ports that block; how VLANs are parted over
-links; depths and limits. A guess that doesn't hold is left out, and so is what would be too much: comments tell of it. Names are
+bridges each VLAN joins, also after each single failure, and where VLANs are pruned, that what is joined stays so; bridges that no traffic
+crosses; ports that block; how VLANs are parted over links; depths and limits. A guess that doesn't hold is left out, and so is what would be too much: comments tell of it. Names are
 written by their beginnings (acc*) where these have no others, so that a new bridge of such a name is asked for the same.
 
 For example: promises.py mstplan campus.script > campus.policy && mstplan verify campus.script campus.policy
@@ -178,10 +178,23 @@ class Guesser:
             largest = max(islands, key=len)
             if 1 < len(largest) < len(self.asked.every):
                 apart.setdefault(largest, set()).add(vid)
+        self.together(weak, always)
         for scope, sets in (("always ", always), ("", now)):
             for bridges, vids in self.joined(sets):
                 self.guesses.add(f"{scope}reach {listed(vids)} {self.names.list(bridges)}")
         self.apart(sorted(apart.items(), key=lambda it: -len(it[1])))
+
+    def together(self, weak, always):
+        """What stays joined after each single failure, where VLANs are pruned: all that is; or else in the VLANs that no failure cuts, and of the
+        bridges that none parts from others. It isn't asked where each VLAN is to join all bridges."""
+        every = frozenset(self.asked.every)
+        joined = {vid for vid, islands in self.asked.islands.items() if any(len(it) > 1 for it in islands)}
+        if not joined or always.get(every) == joined:
+            return
+        strong, whole = every - set().union(*weak.values()), joined - weak.keys()
+        self.guesses.add(f"always together 1-{HIGHEST_VID} *", *[f"always together {listed(whole)} *"] * bool(whole))
+        if weak and len(strong) > 1:
+            self.guesses.add(f"always together 1-{HIGHEST_VID} {self.names.list(strong)}")
 
     def joined(self, sets):
         """The sets of bridges with the most VIDs; of the others what all of them have, as one."""
