@@ -64,6 +64,11 @@ def unescaped(text):
     return re.sub("%([0-9A-F]{2})", lambda it: chr(int(it[1], 16)), text)
 
 
+def first(most, reasons):
+    """So many of these reasons, and how many more there are."""
+    return reasons[:most] + [f"and {len(reasons) - most} more"] * (len(reasons) > most)
+
+
 def cases_in(path):
     """The test cases of XML by (file, line), with their reasons, and the counts that the suite tells."""
     suite = xml.etree.ElementTree.parse(path).getroot()[0]
@@ -100,12 +105,12 @@ def faults_of_run(program, what, script, policy):
     faults += differing(f"{what} end", [len(kept) + failures, len(kept)], counts)
     noted = [re.match("::error file=(.*),line=([0-9]+),title=[^:,]*::(.*)", it) for it in text.decode().splitlines() if it.startswith("::")]
     annotated = {(os.path.basename(unescaped(it[1])), int(it[2])): unescaped(it[3]).split("\n")[1:] for it in noted}
-    shortened = {place: its[:5] + [f"and {len(its) - 5} more"] * (len(its) > 5) for place, its in wanted.items()}
-    faults += differing(f"{what} annotations", annotated, shortened)
+    faults += differing(f"{what} annotations", annotated, {place: first(5, its) for place, its in wanted.items()})
     places = {(os.path.basename(it["location"]["path"]), it["location"]["lines"]["begin"]) for it in issues}
     faults += differing(f"{what} issues", (places, len({it["fingerprint"] for it in issues})), (set(wanted), len(wanted)))
-    end = text.decode().splitlines()[-1 - len(noted)]
-    return faults + differing(f"{what} told", end, f"{counts[1]} of {counts[0]} promises are kept")
+    behind = [f"    {it}" for place in sorted(wanted) for it in first(200, wanted[place])[5:]]
+    told = [it for it in text.decode().splitlines() if not it.startswith("::")]
+    return faults + differing(f"{what} told", told, [*behind, f"{counts[1]} of {counts[0]} promises are kept"])
 
 
 def faults_of(program, number):
@@ -114,6 +119,18 @@ def faults_of(program, number):
     every = [it.encode() for it in verify_runs.lines_of(verify_runs.Judged(text, text))]
     lines = [draws.one_of([b"", b"always "]) + draws.one_of(every) for _ in range(8)] + [draws.one_of(ODD) for _ in range(4)]
     return faults_of_run(program, f"network {number}", "\n".join([*script, ""]).encode(), b"\n".join([*lines, b""]))
+
+
+def faults_of_recipe(program):
+    """What differs of the lines of USING that make a report, under `bash -e`: they come to the report, and the status is 1."""
+    page = read(os.path.join(TOP, "docs", "USING.md")).decode()
+    lines = re.search(r"\n    \$ (mstplan verify --json .*)\n    \$ (python3 tools/ci.py .*)\n", page).groups()
+    with tempfile.TemporaryDirectory() as folder:
+        for name in ("examples", "tools"):
+            os.symlink(os.path.abspath(os.path.join(TOP, name)), os.path.join(folder, name))
+        its = subprocess.run(["bash", "-ec", "\n".join([f"mstplan() {{ '{program}' \"$@\"; }}", *lines])], cwd=folder, capture_output=True, check=False)
+        is_there = os.path.exists(os.path.join(folder, "report.xml"))
+    return differing("the recipe", (is_there, its.returncode, its.stderr), (True, 1, b""))
 
 
 def faults_of_words(program):
@@ -126,7 +143,7 @@ def faults_of_words(program):
     answer, _, _ = ran(program, "verify", "--json", os.path.join(SAMPLES, "campus.script"), os.path.join(SAMPLES, "keep.policy"))
     for what, lines in (("no answer", b""), ("no JSON", b"verify expectations 1 hold 1\n"), ("of another policy", answer), ("half an answer", answer[:40])):
         faults += differing(what, ran(sys.executable, CI, "-", path, given=lines)[:2], (b"", 3))
-    return faults + differing("words", ran(sys.executable, CI, "-")[1], 2)
+    return faults + faults_of_recipe(program) + differing("words", ran(sys.executable, CI, "-")[1], 2)
 
 
 def check(program, count, first=0):

@@ -3,9 +3,9 @@
 
 LINES is what `mstplan verify --json FILE POLICY` has printed. Each line of the policy is a test case, by its number and its words; why
 it isn't kept is its failure, and that it is refused its error; one that is judged in no network (`together` without a scope) is skipped.
-Refused lines of FILE are errors, too, and so is a policy of which nothing was judged. Without an option, and with --github, the same
-stands on standard output for people. The status is that of `verify` (take care that a pipe doesn't hide another one: an empty LINES is
-status 3).
+Refused lines of FILE are errors, too, and so is a policy of which nothing was judged. Without an option the same stands on standard output
+for people; with --github as annotations, and what has no room in one behind it. The status is that of `verify` (take care that a pipe
+doesn't hide another one: an empty LINES is status 3).
 
 For example: mstplan verify --json campus.script campus.policy | ci.py - campus.policy --script campus.script --junit report.xml
 """
@@ -140,12 +140,11 @@ def escaped(text, marks="%\r\n"):
     return "".join(f"%{ord(it):02X}" if it in marks else it for it in text)
 
 
-def annotations(verified):
-    """GitHub's workflow commands, one for each line that isn't as wanted."""
-    for it in verified.wrong():
-        text = escaped("\n".join(printable(line) for line in [it.title, *it.texts(MOST_ANNOTATED)]))
-        path, title = (escaped(printable(word), "%\r\n:,") for word in (it.path, f"mstplan verify: {TYPES[it.kind]}"))
-        yield f"::error file={path},line={it.line},title={title}::{text}"
+def annotation(case):
+    """GitHub's workflow command of a line that isn't as wanted."""
+    text = escaped("\n".join(printable(line) for line in [case.title, *case.texts(MOST_ANNOTATED)]))
+    path, title = (escaped(printable(word), "%\r\n:,") for word in (case.path, f"mstplan verify: {TYPES[case.kind]}"))
+    return f"::error file={path},line={case.line},title={title}::{text}"
 
 
 def quality(verified):
@@ -158,11 +157,11 @@ def quality(verified):
     } for it in verified.wrong()]
 
 
-def told(verified):
-    """The same for people."""
+def told(verified, is_annotated):
+    """The same for people, or for GitHub: an annotation, and behind it the reasons that have no room there."""
     for it in verified.wrong():
-        yield printable(f"{it.path}:{it.line}: {it.name}")
-        yield from (printable(f"    {text}") for text in it.texts(MOST_REASONS))
+        yield annotation(it) if is_annotated else printable(f"{it.path}:{it.line}: {it.name}")
+        yield from (printable(f"    {text}") for text in it.texts(MOST_REASONS)[MOST_ANNOTATED * is_annotated:])
     yield f"{verified.counts[1]} of {verified.counts[0]} promises are kept"
 
 
@@ -197,7 +196,7 @@ def main():
     if words.gitlab:
         put(words.gitlab, json.dumps(quality(verified), indent=1) + "\n")
     if "-" not in (words.junit, words.gitlab):
-        write("".join(f"{it}\n" for it in (*told(verified), *(annotations(verified) if words.github else ()))))
+        write("".join(f"{it}\n" for it in told(verified, words.github)))
     return TOLD if verified.wrong() else OK
 
 
