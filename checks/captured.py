@@ -265,9 +265,11 @@ def check_sample():
         its = file.read().splitlines()
     wanted = ["# " + its[0], RST.ljust(43, b"\0").hex(), "# " + its[8], (RST[:4] + b"\x38" + RST[5:]).ljust(43, b"\0").hex()]
     wrong = [] if (written, telling, status) == (wanted, told(other=1), 0) else [f"triangle.tcpdump: {status} {telling} {written}"]
+    # of several files each comment begins with its file
+    wanted = [it.replace("# ", f"# {sample}: ", 1) for it in wanted]
     written, telling, status = ran([CAPTURES, SAMPLES, os.path.join(SAMPLES, "no-such-file"), sample])
     if status != 1 or written != wanted or len(telling) != 3 or "directory" not in telling[0]:
-        wrong.append(f"files that can't be read: {status} {telling}")
+        wrong.append(f"files that can't be read: {status} {telling} {written}")
     for program in (CAPTURES, DIGEST, LEARN):
         written, telling, status = ran([program, "--help"])
         if status or telling or not any(line.startswith("usage: ") for line in written):

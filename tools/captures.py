@@ -30,7 +30,7 @@ known there by the VLAN's number behind the BPDU, and a provider bridge's only w
 read as `-x` and `-xx` are. `triangle.tcpdump` is a sample of `tcpdump -x`.
 
 Other lines of a text, as tcpdump's line of a frame, go before it as comments; of a capture's frame one with its number, its time
-and its interface. What was left out is counted on standard error, and so is what was written, where Ctrl-C ended it or there was
+and its interface. Of several files each comment begins with the file's name. What was left out is counted on standard error, and so is what was written, where Ctrl-C ended it or there was
 nothing. The status is 1 where a file, or the rest of it, can't be read, or nothing can be written; standard error tells why.
 """
 
@@ -122,7 +122,7 @@ class Writer:
     """Writes the lines of frames, and counts the rest."""
 
     def __init__(self):
-        self.counts, self.written = dict.fromkeys(COUNTED, 0), 0
+        self.counts, self.written, self.source = dict.fromkeys(COUNTED, 0), 0, None
 
     def write(self, frame):
         """Writes the line of a frame that is a BPDU, after its comments."""
@@ -139,6 +139,8 @@ class Writer:
         comments = list(frame.comments)
         if its.vids and frame.link is not None:
             comments[-1] += f" tagged {','.join(map(str, its.vids))}"
+        if self.source:
+            comments = [f"{self.source}: {it}" for it in comments] or [self.source]
         octets = (its.header + its.bpdu)[:LONGEST]
         try:
             sys.stdout.write("".join(f"# {comment}\n" for comment in comments) + octets.hex() + "\n")
@@ -154,6 +156,11 @@ class Writer:
                 tell(f"{COUNTED[kind]}: {count}")
         if stopped or not self.written:
             tell(f"BPDUs written: {self.written}")
+
+
+def called(name):
+    """A file's name as it stands in a line."""
+    return "standard input" if name == "-" else "".join(it if it.isprintable() else "?" for it in name)
 
 
 def tell(text):
@@ -179,12 +186,13 @@ def read_all(names, writer, stop):
     """Reads the files, and returns the status. Raises Unwritten."""
     status = 0
     for name in names:
+        writer.source = called(name) if len(names) > 1 else None
         try:
             read(name, writer, stop)
         except (frames.Unread, OSError, ValueError) as why:
             if isinstance(why, frames.EndsEarly) and stop.until is not None:
                 continue
-            tell(f"{'standard input' if name == '-' else name}: {why.strerror if isinstance(why, OSError) else why}")
+            tell(f"{called(name)}: {why.strerror if isinstance(why, OSError) else why}")
             status = 1
     return status
 
