@@ -465,6 +465,8 @@ def definition_of(value):
     first, *_ = value
     if "records" in value:
         kind = kind_of(value["query"], {key: it for key, it in value.items() if key not in ("line", "query", "records")}, True)
+    elif value.get("kind") == "version":
+        return "Version"
     elif first == "kind":
         kind = kind_of(value["kind"], dict(itertools.islice(value.items(), 1, None)))
     else:
@@ -783,6 +785,7 @@ CAPTURES = "\n".join([
     sent([MESSAGE.replace("8001020000000001", "8001020000000002")]),
     sent([MESSAGE, MESSAGE.replace("8001", "8002")]),
     sent([MESSAGE, MESSAGE]),
+    sent([MESSAGE, MESSAGE.replace("8001", "8fff")]),
     sent([]),
     sent([MESSAGE]).replace("8002 0000", "8009 0000"),
     "",
@@ -949,6 +952,7 @@ def main():
     if unmet():
         print(f"FAILED kinds of lines that no script came to: {sorted(unmet())}")
     passed.append(not unmet())
+    PRINTED.update(run(program, ["--version", "--json"], "")[1].splitlines())
     faults = list(schema_faults())
     for fault in faults[:MOST_TOLD]:
         print(f"FAILED by the schema: {fault}")

@@ -205,6 +205,11 @@ FORMS = {
     "mac": form(f"{OCTET}(:{OCTET}){{5}}"), "digest": form("[0-9a-f]{32}"), "error": form("[A-Z][0-9]{2}"),
     "old_vector": ref("Vector"), "new_vector": ref("Vector"), "old_region": ref("RegionSide"), "new_region": ref("RegionSide"),
 }
+# What is known of a key of one kind alone: a message that is compared with no tree may say any number of 12 bits.
+FORMS_OF = {("CaptureLine", "Unplanned", "tree"): number(0, 4095)}
+# What `--version` prints, which no table has.
+VERSION = closed({"kind": {"const": "version"}, "release": form("[0-9]+\\.[0-9]+\\.[0-9]+"), "json": number(1), "script": number(1)},
+                 title="mstplan --version --json")
 # The kinds that nothing prints as JSON: records of `check` stand alone, and so do hints.
 UNPRINTED = {("Query", "Check"), ("RefusalLine", "Hinted")}
 # What is refused of a script, what of a question, and the kinds whose records stand alone.
@@ -215,7 +220,7 @@ def values(kind, table):
     """What each member of a record of a kind is."""
     for key, word, _, null in members(kind):
         its, meaning = table[key]
-        plain = {"const": word} if word else FORMS.get(key) or SCHEMAS[its]
+        plain = {"const": word} if word else FORMS_OF.get((kind.enum, kind.name, key)) or FORMS.get(key) or SCHEMAS[its]
         yield key, {"description": meaning, **(NULL if null == "is" else any_of(plain, NULL) if null else plain)}
 
 
@@ -234,8 +239,8 @@ def schema():
     """The schema: a definition for each kind, and one for each sort of objects, whose kinds it names."""
     table = {key: its for key, *its in keys()}
     kinds = [kind for _, its in groups() for kind in its if (kind.enum, kind.name) not in UNPRINTED]
-    sorts = {"Answer": [], "RecordAlone": [], "Refused": [], "Unanswered": [], "Record": []}
-    made = {}
+    sorts = {"Answer": [], "RecordAlone": [ref("Version")], "Refused": [], "Unanswered": [], "Record": []}
+    made = {"Version": VERSION}
     for kind in kinds:
         name = kind.enum + kind.name
         made[name] = definition(kind, table)
