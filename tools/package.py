@@ -77,8 +77,8 @@ what the law allows without a licence.
 """
 CHANGES = """mstplan ({version}) unstable; urgency=medium
 
-  * This package has no changelog of its own: what has changed is told by the
-    history of the repository.
+  * What has changed is told release by release in CHANGELOG.md, beside this
+    file.
 
  -- {maintainer}  {date}
 """
