@@ -406,7 +406,8 @@ class Reader:
             if entry.keys() & (its.keys() - {"can"}):
                 self.add_neighbour(entry, form, f"{where}: the entry before it")
                 entry = {}
-            entry |= its
+            # of LLDP what it can do and what is enabled of that, which may leave out that a router is a switch
+            entry |= {**its, "can": entry.get("can", "") + its["can"]} if "can" in its else its
             if line and not found and not is_free and not form.others.fullmatch(line):
                 self.not_understood(where, line)
         if entry:
