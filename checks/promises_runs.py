@@ -50,7 +50,9 @@ def faults_of_campus(path):
     program, script = mstplan.Program(path), ("\n".join(campus.campus(4, 10)) + "\n").encode()
     faults = faults_of_script(path, "campus", script) + faults_of_script(path, "campus", script, "--trees", "9", "--vlans", "99", "--links", "99")
     policy, _, _ = made(path, script)
-    for edits in (b"lan d0a-a0.0 down\nlan d0b-a0.0 down\n", b"settreeprio c2 0 0\n", b"setportvlans c1 2 1-9\n"):
+    # each access switch has a VLAN of its own, which is of more sets of bridges than have lines
+    faults += [] if b"\nalways together 1-4094 *\n" in policy else ["campus: nothing stays together"]
+    for edits in (b"lan d0a-a0.0 down\nlan d0b-a0.0 down\n", b"settreeprio c2 0 0\n", b"setportvlans c1 2 1-9\n", b"setportvlans a3.7 2 1,10-13\n"):
         *broken, _ = program.records("verify", script + edits, policy)
         faults += [] if broken else [f"campus: {edits} breaks no promise"]
     return faults
