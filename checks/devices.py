@@ -30,6 +30,8 @@ sys.dont_write_bytecode = True
 import line_runs  # noqa: E402
 
 SECONDS = 60
+# How many damaged captures a run reads.
+AT_A_TIME = 30
 READ_FAULT, WRITE_FAULT = b"mstplan: read fault\n", b"mstplan: write fault\n"
 
 # Two bridges on a LAN. Its query is answered by a run alone, and its last line is refused.
@@ -217,7 +219,8 @@ def runs(program, folder):
     of_script, alone = (program, "check", "-", capture), (program, "run", "-")
     yield from ((script_wrongly, of_script, alone, place, text) for place, text in damaged(REGION))
     for text in (REGION, CAPTURE):
-        yield captures_wrongly, (program, "check", region, "-"), [it for _, it in damaged(text)]
+        texts = [it for _, it in damaged(text)]
+        yield from ((captures_wrongly, (program, "check", region, "-"), texts[at : at + AT_A_TIME]) for at in range(0, len(texts), AT_A_TIME))
 
 
 def made(run):
