@@ -193,7 +193,7 @@ class Guesser:
             return
         strong, whole = every - set().union(*weak.values()), joined - weak.keys()
         self.guesses.add(f"always together 1-{HIGHEST_VID} *", *[f"always together {listed(whole)} *"] * bool(whole))
-        if weak and len(strong) > 1:
+        if any(len(island & strong) > 1 for vid in weak for island in self.asked.islands.get(vid, ())):
             self.guesses.add(f"always together 1-{HIGHEST_VID} {self.names.list(strong)}")
 
     def joined(self, sets):
