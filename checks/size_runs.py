@@ -1,8 +1,11 @@
 """More large runs of the program, for program.py, beside those of large_runs.py: long policies and policies of long lists, advice,
-changes of many steps and edits of many rows, long sessions, long scripts, pairs of many failures. Each has its status, how many lines it
-prints of each kind, and the last one, as they follow from what it is given. None may give up at a size.
+changes of many steps and edits of many rows, long sessions, long scripts, pairs of many failures, many classes of VIDs, many regions, a long
+saved text. Each has its status, and its lines, or how many there are of each kind, as they follow from what it is given. None may give up
+at a size.
 """
 
+import hashlib
+import itertools
 import json
 import os
 import sys
@@ -11,7 +14,7 @@ sys.path.append(os.path.join(os.path.dirname(os.path.abspath(__file__)), os.pard
 
 import lan  # noqa: E402
 import load  # noqa: E402
-from large_runs import ALL_LANS, ALL_PORTS, OTHER, Large, Mesh, as_bytes, chain, check, exactly, first_words, having, written  # noqa: E402
+from large_runs import ALL_LANS, ALL_PORTS, OTHER, TREES, Large, Mesh, as_bytes, chain, check, exactly, first_words, having, written  # noqa: E402
 
 # A summary of two bridges on a LAN.
 SUMMARY = {"bridges": 1, "tree": 1, "blocked": 1, "vlan": 1, "carries": 1}
@@ -89,6 +92,122 @@ def advice_cases(folder):
     ]
 
 
+# So many LANs fail, and so many of them a scope names, with names of two letters or digits. So many lines aren't kept, have a hint, are kept.
+FAILING, NAMED, UNKEPT, HINTED, KEPT = 2_102, 1_300, 30_000, 30_000, 100_000
+LETTERS = "0123456789ABCDEFGHIJKLMNOPQRSTUVWXYZabcdefghijklmnopqrstuvwxyz"
+
+
+def after_failures(folder):
+    """Two bridges that no LAN joins, and LANs that nothing is in: of `always` what is so in the network is told once, and a failure
+    whose very name the scope has is told in any case."""
+    lans = ["".join(pair) for pair in itertools.islice(itertools.product(LETTERS, repeat=2), FAILING)]
+    script = written(folder, "LANs that are idle", [*SMALL[:2], *(f"addlan {name}" for name in lans)])
+    policy = written(folder, "policy of failures", ["always reach 1-4094 A,B", f"after lan {','.join(lans[:NAMED])} reach 1-4094 A,B"])
+    told = ["fails 1 now reach 1-4094 parts A B", f"same 1 failures {FAILING}", *(f"fails 2 lan {name} reach 1-4094 parts A B" for name in lans[:NAMED])]
+    return Large("many failures in a line", ["verify", script, policy], b"", 1, exactly(as_bytes([*told, "verify expectations 2 hold 0"])))
+
+
+def line_cases(folder):
+    """Many lines of a policy that aren't kept, that are kept but for the last, and that aren't read and have a hint each."""
+    small = written(folder, "small", SMALL)
+    unkept, kept = ["root 0 B"] * UNKEPT, ["root 0 A"] * KEPT + ["root 0 B"]
+    fails = [f"fails {number} now root 0 A of 2" for number in range(1, UNKEPT + 1)]
+    refused = [f"policy {number} E01 no such expectation" for number in range(1, HINTED + 1)]
+    hints = as_bytes(f"policy line {number} no expectation raech; reach?" for number in range(1, HINTED + 1))
+    last = [f"fails {KEPT + 1} now root 0 A of 2", f"verify expectations {KEPT + 1} hold {KEPT}"]
+    return [
+        Large("many lines that aren't kept", ["verify", small, "-"], as_bytes(unkept), 1, exactly(as_bytes([*fails, f"verify expectations {UNKEPT} hold 0"]))),
+        Large("a policy of 100,001 lines", ["verify", small, "-"], as_bytes(kept), 1, exactly(as_bytes(last))),
+        Large("a hint of each line of a policy", ["verify", "--hints", small, "-"], as_bytes(["raech 1 *"] * HINTED), 1,
+              exactly(as_bytes([*refused, "verify expectations 0 hold 0"])), hints),
+    ]
+
+
+# ---- tables of VIDs, and regions
+
+# Three tables, in which no two VIDs have the same three trees.
+VIDS = range(1, 4095)
+TABLES = {
+    "a": {vid: 1 + vid % TREES for vid in VIDS},
+    "b": {vid: 1 + vid // TREES for vid in VIDS},
+    "c": {vid: 1 + (vid % TREES + vid // TREES) % TREES for vid in VIDS},
+}
+# Trees up to this one take the first of the two LANs between the bridges of a region, and the others the second.
+FIRST_HALF = TREES // 2
+
+
+def as_list(vids):
+    """VIDs as longest runs."""
+    runs = []
+    for vid in sorted(vids):
+        if runs and runs[-1][1] == vid - 1:
+            runs[-1][1] = vid
+        else:
+            runs.append([vid, vid])
+    return ",".join(f"{first}-{last}" if last > first else f"{first}" for first, last in runs)
+
+
+def three_regions():
+    """A ring of three regions, a table each. A region is two bridges with two LANs between them."""
+    for place, (name, table) in enumerate(TABLES.items()):
+        for number in (1, 2):
+            bridge = f"{name}{number}"
+            yield from (f"addbridge {bridge} 02:00:00:00:0{place}:0{number}", f"setmstconfid {bridge} 1 {name}")
+            yield from (f"setvid2mstid {bridge} {tree} {as_list(vid for vid in VIDS if table[vid] == tree)}" for tree in range(1, TREES + 1))
+            yield from (f"addport {bridge} {port}" for port in (1, 2, 3))
+            yield from (f"settreeportcost {bridge} 1 {tree} 30000" for tree in range(FIRST_HALF + 1, TREES + 1))
+    for name, following in zip("abc", "bca"):
+        links = ((f"{name}-1", f"{name}1 1", f"{name}2 1"), (f"{name}-2", f"{name}1 2", f"{name}2 2"), (f"{name}{following}", f"{name}2 3", f"{following}1 3"))
+        for link, one, other in links:
+            yield from (f"addlan {link}", f"plug {one} {link}", f"plug {other} {link}")
+
+
+def three_summarized():
+    """Its summary. Regions b and c are next to that of the root a1, and b1 has a lesser identifier than c2: so c1 blocks the LAN between b and c.
+    Each tree of a region takes one of its two LANs."""
+    yield f"bridges 6 on 6 ports 18 enabled 18 regions 3 trees {TREES + 1}"
+    yield from ("tree 0 root a1 32768 of 6 next a2 32768", "blocked 0 a2:2,b2:2,c1:2,c1:3")
+    for tree in range(1, TREES + 1):
+        idle = 2 if tree <= FIRST_HALF else 1
+        yield from (f"tree {tree} root {name}1 32768 of 2 next {name}2 32768" for name in TABLES)
+        yield f"blocked {tree} a2:{idle},b2:{idle},c1:3,c2:{idle}"
+    yield "vlan 1-4094 islands 1"
+    for name, table in TABLES.items():
+        first = {vid for vid in VIDS if table[vid] <= FIRST_HALF}
+        yield from (f"carries {name}-1 {as_list(first)}", f"carries {name}-2 {as_list(set(VIDS) - first)}")
+        yield from ["carries bc -"] * (name == "b")
+    yield "carries * ab,ca"
+
+
+REGIONS = 150
+
+
+def near_names():
+    """A bridge of each of so many regions on one LAN, and a summary, which tells of each two names that differ in one letter."""
+    names = ["".join(letters) for letters in itertools.islice(itertools.product("abcdef", repeat=3), REGIONS)]
+    script = ["addlan x"]
+    for number, name in enumerate(names):
+        bridge = f"B{number:03}"
+        script += [f"addbridge {bridge} 02:00:00:00:00:{number:02x}", f"setmstconfid {bridge} 1 {name}", f"addport {bridge} 1", f"plug {bridge} 1 x"]
+    told = [f"bridges {REGIONS} on {REGIONS} ports {REGIONS} enabled {REGIONS} regions {REGIONS} trees 1",
+            f"tree 0 root B000 32768 of {REGIONS} next B001 32768", "blocked 0 -", "vlan 1-4094 islands 1", "carries * x"]
+    for (number, name), (other, second) in itertools.combinations(enumerate(names), 2):
+        if sum(one != two for one, two in zip(name, second)) == 1:
+            told.append(f"look region {name} B{number:03} {second} B{other:03}")
+    return script, told
+
+
+def table_cases(folder):
+    """VIDs that no two of which go alike, and many regions. No single failure parts a ring, so none cuts a VLAN."""
+    ring, policy = written(folder, "three tables", three_regions()), as_bytes(["always together 1-4094 *"])
+    script, told = near_names()
+    return [
+        Large("three tables of 64 trees summarized", ["summary", ring], b"", 0, exactly(as_bytes(three_summarized()))),
+        Large("three tables of 64 trees after each failure", ["verify", ring, "-"], policy, 0, exactly(b"verify expectations 1 hold 1\n")),
+        Large("many named regions summarized", ["summary", "-"], as_bytes(script), 0, exactly(as_bytes(told))),
+    ]
+
+
 # ---- changes and edits
 
 STEPS = 1200
@@ -143,9 +262,41 @@ def in_json(counts):
     return fits
 
 
+# So many edits, with a question about the policy behind each.
+ASKED = 101
+
+
+def asked_and_told():
+    """One bridge and the other is the root in turn, and the policy wants the first."""
+    asked, told = [], ["done 0"]
+    for number in range(ASKED):
+        asked += [f"settreeprio B 0 {8 * (number % 2)}", "verify"]
+        broken = ["fails 1 now root 0 B of 2", "verify expectations 1 hold 0", "done 1"]
+        told += ["done 0", *(["verify expectations 1 hold 1", "done 0"] if number % 2 else broken)]
+    return as_bytes(asked), as_bytes(told)
+
+
+# So many ports have a list of VIDs that is nearly as long as a line may be.
+LISTS, LONGEST = 1_900, 1_840
+
+
+def saved():
+    """A script as it is saved, of 7 MB: each second VID, so that no two are a run."""
+    yield from ("mstplan 2", "addbridge A 02:00:00:00:00:01")
+    for port in range(1, LISTS + 1):
+        yield from (f"addport A {port}", f"setportvlans A {port} {','.join(map(str, range(1 + port % 2, LONGEST, 2)))}")
+
+
+def digest_case():
+    text = as_bytes(saved())
+    return Large("the digest of a long text", ["run", "-"], text + b"save\ndigest\n", 0, exactly(text + f"digest {hashlib.md5(text).hexdigest()}\n".encode()))
+
+
 def session_cases(folder):
-    """Many edits of a small network, of which most are taken back; and a script of 3 MB that is asked once."""
-    small = written(folder, "small", SMALL)
+    """Many edits of a small network, of which most are taken back, or behind which a policy is asked for; a script of 3 MB that is asked once;
+    and one of 7 MB that is saved."""
+    small, policy = written(folder, "small", SMALL), written(folder, "policy of a root", ["root 0 A"])
+    asked, told = asked_and_told()
     edits = (f"setportpathcost B{i % load.BRIDGES:04} {1 + i % load.PORTS_EACH} {1 + i}" for i in range(60_000))
     long = written(folder, "a long script", [*with_costs(), *edits])
     # the script, each edit, and what stands behind them
@@ -156,19 +307,27 @@ def session_cases(folder):
               ending(in_json({**done, "summary": 2}), b'{"kind":"done","status":0}')),
         Large("a long script that stands", ["ask", long], b"summary\n", 0,
               ending(once(b"bridges", b"tree", b"blocked", b"vlan"), b"done 0")),
+        Large("a policy behind each edit", ["ask", small, policy], asked, 1, exactly(told)),
+        digest_case(),
     ]
 
 
 # ---- failures, hints and pictures
 
-CHAINED, OF_PAIRS, MISSPELT = 130, 64, 40_000
+# Chains of so many bridges, and in so many parts their pairs of failures are taken.
+CHAINS, MISSPELT = ((130, 64), (260, 65536)), 40_000
+
+
+def pair_case(folder, chained, parts):
+    """Each link of a chain cuts it alone, and so does each bridge between two others. So no pair cuts anything more."""
+    failures = 2 * chained - 1
+    pairs = failures * (failures - 1) // 2 // parts
+    links = written(folder, f"chain of {chained}", chain(chained, chained, "kind {} rstp"))
+    return Large(f"pairs of a chain of {chained}", ["sweep", links, "pairs", f"1/{parts}"], b"", 0, exactly(b"sweep pairs %d cuts 0\n" % pairs))
 
 
 def wide_cases(folder):
-    """Each link of a chain cuts it alone, so no pair does; each line of a script is misspelt; and a mesh is drawn with a VLAN."""
-    failures = 2 * CHAINED - 1
-    pairs = failures * (failures - 1) // 2 // OF_PAIRS
-    links = written(folder, "chain of 130", chain(CHAINED, CHAINED, "kind {} rstp"))
+    """Pairs of failures of chains; each line of a script is misspelt; and a mesh is drawn with a VLAN."""
     misspelt = written(folder, "misspelt, many", ["addbrigde X 02:00:00:00:00:01"] * MISSPELT)
     refused = b"".join(b"line %d E01 no such command\n" % number for number in range(1, MISSPELT + 1))
     hints = b"".join(b"line %d no command addbrigde; addbridge?\n" % number for number in range(1, MISSPELT + 1))
@@ -176,14 +335,15 @@ def wide_cases(folder):
     # around the bridges of the one island and around all stands a line more at each end
     drawn = having(4 + 2 + load.BRIDGES + ALL_LANS, {b"style=dashed": blocked})
     return [
-        Large("pairs of a chain", ["sweep", links, "pairs", f"1/{OF_PAIRS}"], b"", 0, exactly(b"sweep pairs %d cuts 0\n" % pairs)),
+        *(pair_case(folder, chained, parts) for chained, parts in CHAINS),
         Large("a hint of each of 40,000 lines", ["run", "--hints", misspelt], b"", 1, exactly(refused), hints),
         Large("a mesh drawn with a VLAN", ["dot", first, "vlan", "10"], b"", 0, ending(drawn, b"}")),
     ]
 
 
 def cases(folder):
-    return policy_cases(folder) + advice_cases(folder) + change_cases(folder) + session_cases(folder) + wide_cases(folder)
+    of_policies = policy_cases(folder) + [after_failures(folder)] + line_cases(folder) + table_cases(folder)
+    return of_policies + advice_cases(folder) + change_cases(folder) + session_cases(folder) + wide_cases(folder)
 
 
 def checks(program, folder):
