@@ -51,7 +51,7 @@ def ratios(program, folder):
     """What is compared, the ratio, and the most that it may be."""
     script, large = (written(folder, f"campus of {size}", campus(*size)) for size in ((PAIRS, ACCESS), LARGE))
     one, many = (written(folder, f"policy of {count}", "reach 1-4094 *\n" * count) for count in (1, LINES))
-    short, long = (written(folder, f"change of {count}", "".join(f"settreeprio core1 0 {step % 2}\n\n" for step in range(count))) for count in (STEPS, 2 * STEPS))
+    short, long = (written(folder, f"change of {count}", "".join(f"settreeprio c1 0 {4 * (step % 2)}\n\n" for step in range(count))) for count in (STEPS, 2 * STEPS))
     first, second = (counted(program, "verify", script, policy) for policy in (one, many))
     summary, sweep = (counted(program, word, script) for word in ("summary", "sweep"))
     failures = sum(last_numbers(program, "sweep", script)[:2])
