@@ -3,12 +3,13 @@
 
 usage: devices.py PROGRAM
 
-- A reader that fails: each input of each word is standard input in turn, which gives so many of its bytes and then an error. The status is 3, a read
-  fault is told, and what was printed is a front of the whole; of a run, and of questions, just what their complete lines print.
-- A writer that fails: standard output takes so many bytes of the whole. Just these came, the status is 3, and a write fault is told. The same of
-  hints on standard error, beside which the run prints all.
-- Damage: a script is cut off at each byte, and each byte is changed. It is read to its end with memory for each line; the lines before print what
-  they print alone, and captures behind it are compared. Of damaged captures the same, and a capture behind each of them prints what it prints alone.
+- A reader that fails: each input of each word is standard input in turn. It gives so many of its bytes and then an error. The status is 3, and
+  standard error has a read fault. What was printed is a front of the whole; a run and questions print exactly what their complete lines print.
+- A writer that fails: standard output takes so many bytes of the whole. It gets exactly these, the status is 3, and standard error has a write
+  fault. Standard error fails in the same way while it gets hints; the run prints all.
+- Damage: a script is cut off at each byte, and each byte is changed. The program reads it to its end, and reports want of memory for no line. The lines
+  before print what they print alone, and captures behind it are compared. The same holds of damaged captures, and a whole capture behind each of
+  them prints what it prints alone.
 
 The exit status is 1 where that isn't so.
 """
