@@ -208,11 +208,37 @@ def edit(draws, bridges):
     return draws.one_of(forms) if draws.below(4) == 0 else sketch.settings(draws, bridges)
 
 
+def cable(number, key=1):
+    """The lines of a cable more between A and B, which goes by this number at both ends."""
+    ends = [line for bridge in "AB" for line in (f"addport {bridge} {number}", f"setkey {bridge} {number} {key}", f"plug {bridge} {number} M{number}")]
+    return [f"addlan M{number}", *ends]
+
+
+def bundle(draws):
+    """Cables between A and B that mostly count as one, with numbers from 10 on."""
+    return [line for number in range(10, 12 + draws.below(3)) for line in cable(number, min(draws.below(6), 1))]
+
+
+def cabling(draws):
+    """A step that changes such cables: one joins them or leaves, two ports change theirs, one port goes to another's LAN, or a key is set."""
+    bridge, one, other = draws.one_of("AB"), 10 + draws.below(4), 10 + draws.below(4)
+    forms = [
+        cable(10 + draws.below(6)),
+        [f"unplug {it} {one}" for it in "AB"],
+        [f"unplug {bridge} {one}", f"unplug {bridge} {other}", f"plug {bridge} {one} M{other}", f"plug {bridge} {other} M{one}"],
+        [f"unplug {bridge} {one}", f"plug {bridge} {one} M{other}"],
+        [f"setkey {it} {one} {draws.below(2)}" for it in "AB"],
+        [f"lan M{one} {draws.one_of(['up', 'down'])}"],
+    ]
+    return draws.one_of(forms)
+
+
 def drawn_change(number):
     draws = sketch.Draws(number + 10**8)
     lines = []
     for _ in range(2 + draws.below(14)):
-        lines += [""] * draws.below(3) + [edit(draws, "ABCD")]
+        step = [""] + cabling(draws) if number % 2 and draws.below(2) else [edit(draws, "ABCD")]
+        lines += [""] * draws.below(3) + step
     return lines
 
 
@@ -231,6 +257,8 @@ def differing(program, script, change, policy):
 
 def faults_of(program, number):
     script, change = sketch.drawn(number), drawn_change(number)
+    # half of the networks have a bundle, whose cables come, go and change ports
+    script += bundle(sketch.Draws(number + 10**9)) if number % 2 else []
     return differing(program, script, change, POLICY if number % 3 == 0 else None)
 
 
@@ -243,6 +271,17 @@ def check(program, count, first=0):
 
 # ---- the examples
 
+
+# A bundle of one cable, which another joins; and one of two, whose cables change ports at one end.
+ONE_CABLE = ["addbridge A 02:00:00:00:00:01", "addbridge B 02:00:00:00:00:02", *cable(10)]
+TWO_CABLES = [*ONE_CABLE, *cable(11)]
+CROSSED = ["unplug A 10", "unplug A 11", "plug A 10 M11", "plug A 11 M10"]
+QUIET = "step 1 lines 1-{} roots - ports 0 moved - cut - joined -\n"
+CABLES = [
+    (ONE_CABLE, cable(11), QUIET.format(7)),
+    (TWO_CABLES, CROSSED, QUIET.format(4) + "restarts A:10\n"),
+    (TWO_CABLES, ["unplug A 11", "unplug B 11"], QUIET.format(2)),
+]
 
 DRAIN = """step 1 lines 2-2 roots - ports 4 moved 1-4094 cut - joined -
 step 2 lines 4-4 roots - ports 4 moved 1-4094 cut - joined -
@@ -267,11 +306,21 @@ def check_words(program, words, typed, status, printed):
     return False
 
 
+def check_cables(program, folder, script, change, printed):
+    path = os.path.join(folder, "script")
+    with open(path, "w", encoding="ascii") as file:
+        file.write("\n".join([*script, ""]))
+    return check_words(program, [path, "-"], "\n".join([*change, ""]), 0, printed + "steps 1 moving 0 cutting 0\n")
+
+
 def check_examples(program):
     script, drain, worse, keep = [os.path.join(SAMPLES, it) for it in ("campus.script", "campus.change", "worse.change", "keep.policy")]
     with open(drain, encoding="ascii") as file:
         change = file.read()
+    with tempfile.TemporaryDirectory() as folder:
+        cables = [check_cables(program, folder, *case) for case in CABLES]
     return [
+        *cables,
         check_words(program, [script, drain, keep], "", 0, DRAIN + "steps 4 moving 2 cutting 0 failing 0 unkept 0\n"),
         check_words(program, [script, drain], "", 0, DRAIN + "steps 4 moving 2 cutting 0\n"),
         check_words(program, [script, "-"], change.replace("\n", "\r\n"), 0, DRAIN + "steps 4 moving 2 cutting 0\n"),

@@ -21,6 +21,7 @@ use crate::in_question::port_settings;
 use crate::priorities::root_settings;
 use crate::setting::{Setting, edit_of};
 use crate::told::{put_because, put_count, put_none, put_settings};
+use indexmap::IndexSet;
 use mst_ids::{Name, PortName, Tree};
 use mst_net::{Network, Ready, Refusal};
 use mst_roles::Settled;
@@ -62,8 +63,9 @@ fn put_if_had<R: Rows>(
     if !holds(alloc, settled, goal)? {
         return Ok(false);
     }
+    let replugged = IndexSet::new(alloc);
     put_settings(settings, out)?;
-    put_between(alloc, &Deed::Edits, old, new, out)?;
+    put_between(alloc, &Deed::Edits, old, new, &replugged, out)?;
     put_count(settings.len() as u64, out)?;
     Ok(true)
 }

@@ -25,12 +25,12 @@ use Rattle.mst_sweep.proofs.facts_lemmas.Lists.{find-map, list_any-map}
 use Rattle.mst_sweep.proofs.facts_lemmas.Named.{found_named, names_are}
 use Rattle.mst_sweeping.specs.declared.ports.BothPorts.{BothPorts}
 use Rattle.mst_sweeping.specs.Restarts.{is_as_it_was, starts_anew, bridges_anew, port_anew, restarts, restarting}
-use Rattle.mst_sweeping.specs.Seen.{seen_anew, seen_both_ports, seen_port_in_both, seen_restarts}
+use Rattle.mst_sweeping.specs.Seen.{AreReplugged, seen_anew, seen_both_ports, seen_port_in_both, seen_restarts}
 use Rattle.mst_sweeping.proofs.OnNamed.{any-filter}
 
 -- ---- lists
 -- whether some of what is made of things passes
-any_made : {A B : Type 0} (test : B → Bool) (h : A → Option B) (xs : List A) → list_any test (filter_map h xs) ≡ list_any (λ x. option_map_or test (h x) false) xs
+pub any_made : {A B : Type 0} (test : B → Bool) (h : A → Option B) (xs : List A) → list_any test (filter_map h xs) ≡ list_any (λ x. option_map_or test (h x) false) xs
 any_made test h [] = refl
 any_made {A} {B} test h (x ∷ xs) = go (h x) (any_made test h xs)
   where
@@ -108,22 +108,22 @@ module _ (a b : Net) (n k : Numbers) (v w : Viewed) (f g : Forest) (of : AreOf a
       ∙ ap (list_any (λ bridge. starts_anew a b bridge && same_name bridge name)) (names_are a n v f of)
       ∙ sym (any-filter (starts_anew a b) (λ bridge. same_name bridge name) (bridge_names a))
 
-  module _ (is_anew : List ℕ → Bool) (is : (name : List ℕ) → is_anew name ≡ list_any (λ bridge. same_name bridge name) (bridges_anew a b)) where
-    each_port : (x : PortInView) → option_map_or (seen_restarts is_anew) (seen_port_in_both w.ports x) false ≡ restarts a b (named_port x)
+  module _ (is_anew : List ℕ → Bool) (is : (name : List ℕ) → is_anew name ≡ list_any (λ bridge. same_name bridge name) (bridges_anew a b)) (is_over : PortName → Bool) (over : AreReplugged a b is_over) where
+    each_port : (x : PortInView) → option_map_or (seen_restarts is_anew is_over) (seen_port_in_both w.ports x) false ≡ restarts a b (named_port x)
     each_port x =
         go (find (λ (y : PortInView). port_eq y.name x.name) w.ports)
         ∙ sym (ap (λ o. option_map_or (port_anew a b (named_port x)) o false)
         (ap (find (λ (q : LogicalPort). port_eq q.name x.name)) (sym so.view.ports) ∙ find-map (λ (q : LogicalPort). port_eq q.name x.name) named_port w.ports))
       where
         go : (o : Option PortInView)
-            → option_map_or (seen_restarts is_anew) (option_map (λ y. record { old = x; new = y }) o) false ≡ option_map_or (port_anew a b (named_port x)) (option_map named_port o) false
+            → option_map_or (seen_restarts is_anew is_over) (option_map (λ y. record { old = x; new = y }) o) false ≡ option_map_or (port_anew a b (named_port x)) (option_map named_port o) false
         go None = refl
-        go (Some y) = ap (λ t. x.is_enabled && y.is_enabled && (t || not (same_name x.lan y.lan))) (is x.name.bridge)
+        go (Some y) = λ i. x.is_enabled && y.is_enabled && (is x.name.bridge i || over x.name i)
 
     -- the ports that start anew
-    pub restarting_named : map (λ (p : BothPorts). p.old.name) (filter (seen_restarts is_anew) (seen_both_ports v w)) ≡ restarting a b
+    pub restarting_named : map (λ (p : BothPorts). p.old.name) (filter (seen_restarts is_anew is_over) (seen_both_ports v w)) ≡ restarting a b
     restarting_named =
-        names_passed (seen_restarts is_anew) w.ports v.ports
+        names_passed (seen_restarts is_anew is_over) w.ports v.ports
         ∙ (λ i. map (λ (x : PortInView). x.name) (filter (λ x. each_port x i) v.ports))
         ∙ sym (mapped_twice (λ (p : LogicalPort). p.name) named_port (filter (λ x. restarts a b (named_port x)) v.ports))
         ∙ ap (map (λ (p : LogicalPort). p.name)) (sym (filter_mapped (restarts a b) named_port v.ports) ∙ ap (filter (restarts a b)) of.view.ports)

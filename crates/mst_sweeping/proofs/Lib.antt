@@ -11,7 +11,9 @@ pub mod Users
 pub mod PortsByName
 pub mod PortsOfBoth
 pub mod Anew
+pub mod Replugged
 pub mod NoneAnew
+pub mod RestartLaws
 pub mod Flagged
 pub mod SameFate
 pub mod CutMoves

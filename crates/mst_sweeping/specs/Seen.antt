@@ -7,7 +7,7 @@ use Rattle.std.specs.Option.{option_map, option_map_or}
 use Rattle.mst_ids.specs.declared.name.PortName.{PortName}
 use Rattle.mst_net.specs.tables.ByTree.{table_in}
 use Rattle.mst_net.specs.tables.Seen.{bridge_row}
-use Rattle.mst_net.specs.tables.Tables.{port_eq}
+use Rattle.mst_net.specs.tables.Tables.{Net, port_eq}
 use Rattle.mst_view.specs.Aggregation.{same_name}
 use Rattle.mst_view.specs.Viewed.{Viewed}
 use Rattle.mst_view.specs.declared.in_view.PortInView.{PortInView}
@@ -18,6 +18,7 @@ use Rattle.mst_sweep.specs.facts.declared.both.Both.{Both}
 use Rattle.mst_sweep.specs.facts.Told.{same_told}
 use Rattle.mst_sweep.specs.Seen.{seen_port_moved}
 use Rattle.mst_sweeping.specs.Links.{shared, staying, same_links}
+use Rattle.mst_sweeping.specs.Restarts.{is_replugged}
 use Rattle.mst_sweeping.specs.declared.links.Link.{Link}
 use Rattle.mst_sweeping.specs.declared.ports.BothPorts.{BothPorts}
 
@@ -79,6 +80,10 @@ seen_as_it_was v w both =
 abbrev pub seen_anew : Viewed → Viewed → Both → Bool
 seen_anew v w both = not (seen_as_it_was v w both)
 
--- a port that is enabled in both: its bridge is one of these, or its LAN is another one
-abbrev pub seen_restarts : (List ℕ → Bool) → BothPorts → Bool
-seen_restarts is_anew p = p.old.is_enabled && p.new.is_enabled && (is_anew p.old.name.bridge || not (same_name p.old.lan p.new.lan))
+-- a port that is enabled in both: its bridge is one of these, or it is one of these
+abbrev pub seen_restarts : (List ℕ → Bool) → (PortName → Bool) → BothPorts → Bool
+seen_restarts is_anew is_over p = p.old.is_enabled && p.new.is_enabled && (is_anew p.old.name.bridge || is_over p.old.name)
+
+-- the ports of a set are those that are plugged into LANs of different names
+abbrev pub AreReplugged : Net → Net → (PortName → Bool) → Type 0
+AreReplugged a b is_over = (port : PortName) → is_over port ≡ is_replugged a b port

@@ -19,6 +19,7 @@ use Rattle.mst_sweep.specs.Parts.{AreParts}
 use Rattle.mst_sweep.specs.SweepText.{failure_row}
 use Rattle.mst_sweeping.specs.MovedVids.{AreVidsWhere, IsJoined, IsMoved}
 use Rattle.mst_sweeping.specs.Restarts.{restarting}
+use Rattle.mst_sweeping.specs.Seen.{AreReplugged}
 use Rattle.mst_sweeping.specs.declared.step.Deed.{Deed}
 use Rattle.mst_sweeping.specs.declared.step.Deed.TheVariants as deed
 use Rattle.mst_sweeping.specs.declared.step.PolicyCounts.{PolicyCounts}
@@ -48,6 +49,11 @@ cut_by deed.Edits = by.Edits
 abbrev pub restart_rows : Deed → List PortName → List Row
 restart_rows (deed.Step step) restarting = if has_any restarting then row_of (kind.Step line.Restarts) (number step.number ∷ ports_cell restarting ∷ []) ∷ [] else []
 restart_rows deed.Edits restarting = []
+
+-- that these are the ports that are plugged over in a step. Of edits that are advised nothing is asked, since nothing is told
+abbrev pub AreRepluggedIn : Deed → Net → Net → (PortName → Bool) → Type 0
+AreRepluggedIn (deed.Step step) a b is_over = AreReplugged a b is_over
+AreRepluggedIn deed.Edits a b is_over = Unit {0}
 
 -- these are the rows of what makes the one network of the other, and whether it moves some VID and cuts some
 pub record AreStepRows (a : Net) (o : Outcome) (b : Net) (p : Outcome) (step : Deed) (rows : List Row) (told : Stepped) : Type 0 where

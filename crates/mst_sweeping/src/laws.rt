@@ -1,5 +1,5 @@
 //! Laws of what failures do. Their functions do nothing: a caller has their clauses.
-ghost use Rattle.std.specs.Prelude.{◌≡◌, ◌↔◌, ◌≤◌, ℕ, List, Bool, true, Ok};
+ghost use Rattle.std.specs.Prelude.{◌≡◌, ◌↔◌, ◌≤◌, ℕ, List, [], Bool, true, Ok};
 ghost use Rattle.std.specs.List.{flat_map, sum_by, Contains};
 ghost use Rattle.mst_net.specs.tables.Tables.{Net, IsNetwork};
 ghost use Rattle.mst_rows.specs.Rows.{Row};
@@ -11,6 +11,8 @@ ghost use Rattle.mst_plan.specs.forest.Outcome.{Outcome, IsOutcome};
 ghost use Rattle.mst_sweep.specs.Failures.{edit_of};
 ghost use Rattle.mst_sweep.specs.declared.failure.Failure.{Failure as FailureOf};
 ghost use Rattle.mst_sweep.specs.SweepText.{AreFailureRows};
+ghost use Rattle.mst_ids.specs.declared.name.PortName.{PortName as PortNameOf};
+ghost use Rattle.mst_sweeping.specs.Restarts.{IsLeftAlone, IsPluggedOver, restarting};
 ghost use Rattle.mst_sweeping.specs.StepText.{AreStepRows, IsAsInSweep};
 ghost use Rattle.mst_sweeping.specs.declared.step.Deed.{Deed as DeedOf};
 ghost use Rattle.mst_sweeping.specs.declared.step.Stepped.{Stepped as SteppedOf};
@@ -89,3 +91,11 @@ pub fn as_in_sweep()
     islands_of_vid();
     group_lists::<Vid>();
 }
+
+/// No port starts anew between a network and itself. One that is enabled in two networks does where its own plug is in LANs of different names,
+/// whatever class these are of. One whose row is the same doesn't where its bridge's kind, MAC address and configuration are.
+pub fn restarts_by_own_plug()
+    ensures none { (net : Net) → restarting net net ≡ [] }
+    ensures over { (a b : Net) (port : PortNameOf) → IsPluggedOver a b port → Contains (restarting a b) port }
+    ensures alone { (a b : Net) (port : PortNameOf) → IsLeftAlone a b port → Contains (restarting a b) port → ⊥ }
+{}

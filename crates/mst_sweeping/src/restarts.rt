@@ -4,12 +4,13 @@ ghost use Rattle.std.specs.HashSet.{contains};
 ghost use Rattle.std.specs.List.{list_any};
 ghost use Rattle.mst_net.specs.tables.ByTree.{table_in};
 ghost use Rattle.mst_net.specs.tables.Seen.{bridge_row};
+ghost use Rattle.mst_net.specs.tables.Tables.{port_eq};
 ghost use Rattle.mst_view.specs.Aggregation.{same_name};
 ghost use Rattle.mst_sweep.specs.facts.Told.{same_told};
 ghost use Rattle.mst_sweep.specs.facts.Both.{seen_both};
 ghost use Rattle.mst_sweep.specs.Between.{OfNetworks};
 ghost use Rattle.mst_sweeping.specs.Restarts.{restarting as all_restarting};
-ghost use Rattle.mst_sweeping.specs.Seen.{seen_anew, seen_as_it_was, seen_both_ports, seen_restarts};
+ghost use Rattle.mst_sweeping.specs.Seen.{AreReplugged, seen_anew, seen_as_it_was, seen_both_ports, seen_restarts};
 
 use crate::ports::BothPorts;
 use indexmap::IndexSet;
@@ -88,32 +89,33 @@ fn bridges_anew(
     Ok(anew)
 }
 
-/// Whether a port of a bridge that is among these, or in another LAN, is enabled before and afterwards.
-fn restarts(anew: &IndexSet<Name>, port: &BothPorts) -> bool
-    ensures { result ≡ seen_restarts (contains same_name anew.now) port.now }
+/// Whether a port is enabled before and afterwards, and its bridge is among these or it is itself.
+fn restarts(anew: &IndexSet<Name>, replugged: &IndexSet<PortName>, port: &BothPorts) -> bool
+    ensures { result ≡ seen_restarts (contains same_name anew.now) (contains port_eq replugged.now) port.now }
 {
     port.old.is_enabled
         && port.new.is_enabled
-        && (anew.contains(&port.old.name.bridge) || port.old.lan != port.new.lan)
+        && (anew.contains(&port.old.name.bridge) || replugged.contains(&port.old.name))
 }
 
 /// Those of these ports of which it is so, by name.
 fn restarting_of(
     alloc: Global,
     anew: &IndexSet<Name>,
+    replugged: &IndexSet<PortName>,
     shared: &[BothPorts],
 ) -> Result<Vec<PortName>, AllocError>
-    ensures { IfOk result (λ names. names.items ≡ map (λ port. port.old.name) (filter (seen_restarts (contains same_name anew.now)) shared.now)) }
+    ensures { IfOk result (λ names. names.items ≡ map (λ port. port.old.name) (filter (seen_restarts (contains same_name anew.now) (contains port_eq replugged.now)) shared.now)) }
 {
     shared
         .iter()
-        .filter(|port| restarts(anew, port))
+        .filter(|port| restarts(anew, replugged, port))
         .map(|port| port.old.name)
         .collect(alloc)
 }
 
-/// The logical ports of two networks that start anew between them, by the bridges and the ports that both have. `AllocError`: memory was
-/// wanted and refused.
+/// The logical ports of two networks that start anew between them, by the bridges and the ports that both have, and by those that are
+/// plugged into another LAN. `AllocError`: memory was wanted and refused.
 ///
 /// It goes over these bridges and these ports once, and over the VIDs for each bridge of kind mstp.
 pub(crate) fn restarting(
@@ -122,11 +124,12 @@ pub(crate) fn restarting(
     new: &Planned,
     both: &[Both],
     shared: &[BothPorts],
+    replugged: &IndexSet<PortName>,
 ) -> Result<Vec<PortName>, AllocError>
     requires both { both.now ≡ seen_both old.now.view.now new.now.view.now }
     requires shared { shared.now ≡ seen_both_ports old.now.view.now new.now.view.now }
-    ensures { IfOk result (λ names. OfNetworks old.now new.now (λ a before b afterwards. names.items ≡ all_restarting a b)) }
+    ensures { IfOk result (λ names. OfNetworks old.now new.now (λ a before b afterwards. AreReplugged a b (contains port_eq replugged.now) → names.items ≡ all_restarting a b)) }
 {
     let anew = bridges_anew(alloc, old.view, new.view, both)?;
-    restarting_of(alloc, &anew, shared)
+    restarting_of(alloc, &anew, replugged, shared)
 }

@@ -1,6 +1,8 @@
 ghost use Rattle.std.specs.Prelude.{◌≡◌, ◌++◌, ◌∷◌, [], List, true, IfOk, OnOk, None, Some, vec_len};
+ghost use Rattle.std.specs.HashSet.{contains};
 ghost use Rattle.mst_ids.specs.Vids.{runs_from};
 ghost use Rattle.mst_rows.specs.Rows.{Row};
+ghost use Rattle.mst_net.specs.tables.Tables.{port_eq};
 ghost use Rattle.mst_plan.specs.forest.Agrees.{Known};
 ghost use Rattle.mst_sweep.specs.vlan.classes.AllVids.{NumberEach};
 ghost use Rattle.mst_graph.specs.Lists.{has_any};
@@ -10,15 +12,18 @@ ghost use Rattle.mst_sweep.specs.declared.cuts.CutBy.{CutBy as CutByOf};
 ghost use Rattle.mst_sweep.specs.Cuts.{rows_of, runs_of, AreCutsBy};
 ghost use Rattle.mst_sweep.specs.Parts.{AreParts};
 ghost use Rattle.mst_sweeping.specs.MovedVids.{AreVidsWhere, IsJoined, IsMoved};
-ghost use Rattle.mst_sweeping.specs.StepText.{cut_by as cut_by_of, deed_row, does_row, last_row, restart_rows, step_row, AreStepRows};
+ghost use Rattle.mst_sweeping.specs.Restarts.{restarting as all_restarting};
+ghost use Rattle.mst_sweeping.specs.Seen.{seen_both_ports};
+ghost use Rattle.mst_sweeping.specs.StepText.{cut_by as cut_by_of, deed_row, does_row, last_row, restart_rows, step_row, AreRepluggedIn, AreStepRows};
 ghost use Rattle.mst_sweeping.specs.declared.step.Deed.TheVariants.{Step as StepOf};
 
 use crate::change::Change;
 use crate::fates::are_some;
 use crate::on::bridges_on;
-use crate::ports::{moved_ports, ports_of_both};
+use crate::ports::{BothPorts, moved_ports, ports_of_both};
 use crate::restarts::restarting;
 use crate::told::{Told, told_of};
+use indexmap::IndexSet;
 use mst_ids::{PortName, Tree, VidSet};
 use mst_kinds::{AdviseLine, Kind, StepLine};
 use mst_rows::{Rows, Value, put};
@@ -235,9 +240,31 @@ fn told_between(
     told_of(alloc, &change)
 }
 
+/// The logical ports that start anew in a step: none where edits are advised, of which that isn't told.
+fn restarting_in(
+    alloc: Global,
+    deed: &Deed,
+    old: &Planned,
+    new: &Planned,
+    both: &[Both],
+    shared: &[BothPorts],
+    replugged: &IndexSet<PortName>,
+) -> Result<Vec<PortName>, AllocError>
+    requires both { both.now ≡ seen_both old.now.view.now new.now.view.now }
+    requires shared { shared.now ≡ seen_both_ports old.now.view.now new.now.view.now }
+    ensures { IfOk result (λ names. OfNetworks old.now new.now (λ a before b afterwards. AreRepluggedIn deed.now a b (contains port_eq replugged.now)
+        → restart_rows deed.now names.items ≡ restart_rows deed.now (all_restarting a b))) }
+{
+    match deed {
+        Deed::Step(_) => restarting(alloc, old, new, both, shared, replugged),
+        Deed::Edits => Ok(Vec::new(alloc)),
+    }
+}
+
 /// Puts the rows of a step, or of edits that are advised: which trees' roots move, how many roles, which VIDs move, which are cut and into which parts, and which are
 /// joined, and of a step which logical ports start anew, and answers whether some move and whether some are cut. `old` is the plan of the network before the step, `new` that of the
-/// network after it. `AllocError`: memory was wanted and refused; some of the rows may have been put.
+/// network after it; `replugged` has the ports that a step plugs into other LANs, and nothing is told by it of edits that are advised. `AllocError`: memory was wanted and refused; some of the
+/// rows may have been put.
 ///
 /// It looks at the roles of each logical port once for each tree, and once at what carries each class of VIDs that nothing tells apart in
 /// either network. Islands are made only of a class of which that isn't the same.
@@ -246,19 +273,28 @@ pub fn put_step<R: Rows>(
     deed: &Deed,
     old: &Planned,
     new: &Planned,
+    replugged: &IndexSet<PortName>,
     out: &mut R,
 ) -> Result<Stepped, AllocError>
     requires old { Known old.now.view.now old.now.forest.now.regions }
     requires new { Known new.now.view.now new.now.forest.now.regions }
-    ensures { IfOk result (λ told. OfNetworks old.now new.now (λ a before b afterwards.
-        (own : List Row) × AreStepRows a before b afterwards deed.now own told × ((first : R) (rows : List Row) → R.grew first out.old rows → R.grew first out.new (rows ++ own)))) }
+    ensures { IfOk result (λ told. OfNetworks old.now new.now (λ a before b afterwards. AreRepluggedIn deed.now a b (contains port_eq replugged.now)
+        → (own : List Row) × AreStepRows a before b afterwards deed.now own told × ((first : R) (rows : List Row) → R.grew first out.old rows → R.grew first out.new (rows ++ own)))) }
 {
     let both = bridges_of_both(alloc, old.view, new.view)?;
     let told = told_between(alloc, old, new, both.as_slice())?;
     let roots = moved_roots(alloc, old, new, both.as_slice())?;
     let shared = ports_of_both(alloc, old.view, new.view)?;
     let ports = moved_ports(old, new, shared.as_slice());
-    let anew = restarting(alloc, old, new, both.as_slice(), shared.as_slice())?;
+    let anew = restarting_in(
+        alloc,
+        deed,
+        old,
+        new,
+        both.as_slice(),
+        shared.as_slice(),
+        replugged,
+    )?;
     let restarting = anew.as_slice();
     put_told(deed, roots.as_slice(), ports, &told, restarting, out)
 }

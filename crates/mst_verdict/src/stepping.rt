@@ -17,7 +17,8 @@ use mst_net::Network;
 use mst_policy::{Policy, PolicyLine};
 use mst_rows::Rows;
 use mst_sweeping::{
-    Carriage, Deed, Plan, PolicyCounts, Step, Stepped, Walked, plan_beside, put_between, put_last,
+    Carriage, Deed, Plan, Plugs, PolicyCounts, Step, Stepped, Walked, plan_beside, put_between,
+    put_last,
 };
 use mst_telling::{Judgement, breaks, put_front, put_judged, put_start, unkept_count};
 use std::alloc::{AllocError, Global};
@@ -175,10 +176,12 @@ fn take_step<R: Rows>(
     ensures network { OnOk result (network.new.net ≡ after_lines network.old.net lines.now) }
     ensures plan { IfOk result (λ behind. IsPlan network.new.net network.new.numbers behind.plan) }
 {
+    let plugs = Plugs::new(alloc, network)?;
     let made = make_lines(network, number, lines, out)?;
     let next = plan_beside(alloc, network, plan, made.regions_stand)?;
-    let step = step_of_lines(number, lines);
-    let does = put_between(alloc, &Deed::Step(step), plan, &next, out)?;
+    let replugged = plugs.replugged(alloc, network)?;
+    let deed = Deed::Step(step_of_lines(number, lines));
+    let does = put_between(alloc, &deed, plan, &next, &replugged, out)?;
     let now = judge_at(alloc, network, &next, number, watching)?;
     put_judged(alloc, number, watching.lines, before, &now, out)?;
     let taken = Taken {

@@ -1,4 +1,4 @@
-use Rattle.std.proofs.Common.{◌≡◌, ℕ, List, ◌∷◌, ◌++◌, refl, subst, ◌∙◌}
+use Rattle.std.proofs.Common.{◌≡◌, ℕ, List, ◌∷◌, ◌++◌, refl, ap, subst, ◌∙◌}
 use Rattle.std.proofs.lemmas.Result.{IfOk-weaker}
 use Rattle.mst_rows.specs.Rows.{Row}
 use Rattle.mst_sweep.specs.Cuts.{rows_of, runs_of}
@@ -10,7 +10,7 @@ use Rattle.mst_sweeping.proofs.step.put_step.Goals as goal
 
 pub returns : goal.returns
 returns g c = IfOk-weaker c.put_told.result _ _
-    (λ stepped is_told a b n k is are of so.
+    (λ stepped is_told a b n k is are of so over.
     let step = c.args.deed.now in
     let told = c.in_ok-told.told in
     let R : List ℕ = moved_roots a is.outcome b are.outcome in
@@ -18,7 +18,7 @@ returns g c = IfOk-weaker c.put_told.result _ _
     let roots : c.as_slice-6.result.now ≡ R = c.as_slice-6.ensures.value ∙ c.in_ok-roots.ensures a b n k is are of so in
     let ports : c.moved_ports-ports.result ≡ P = c.moved_ports-ports.ensures a b n k is are of so in
     let cuts : List Row = rows_of (cut_by step) told.classes.numbers.items told.cuts in
-    let anew : c.as_slice-restarting.result.now ≡ restarting a b = c.as_slice-restarting.ensures.value ∙ c.in_ok-anew.ensures a b n k is are of so in (
+    let anew : restart_rows step c.as_slice-restarting.result.now ≡ restart_rows step (restarting a b) = ap (restart_rows step) c.as_slice-restarting.ensures.value ∙ c.in_ok-anew.ensures a b n k is are of so over in (
       deed_row step R P (runs_of told.moved.items) (runs_of told.cuts.vids.items) (runs_of told.joined.items) ∷ cuts ++ restart_rows step (restarting a b),
       record {
         moved = told.moved.items;
@@ -34,6 +34,6 @@ returns g c = IfOk-weaker c.put_told.result _ _
       },
       λ first rows grew.
           subst (λ (all : List Row). g.R.Rows.grew first c.put_told.new.out all)
-          (λ i. rows ++ (deed_row step (roots i) (ports i) (runs_of told.moved.items) (runs_of told.cuts.vids.items) (runs_of told.joined.items) ∷ cuts ++ restart_rows step (anew i)))
+          (λ i. rows ++ (deed_row step (roots i) (ports i) (runs_of told.moved.items) (runs_of told.cuts.vids.items) (runs_of told.joined.items) ∷ cuts ++ anew i))
           (is_told.2 first rows grew),
     )) c.put_told.ensures

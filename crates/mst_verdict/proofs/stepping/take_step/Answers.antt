@@ -31,7 +31,8 @@ returns-clause-told g c w watching judged_before =
     let grew = g.R.Rows.grew in
     let before = c.requires.forest in
     let after = c.in_ok-next.ensures.forest in
-    let said = c.in_ok-does.ensures old.net now.net old.numbers now.numbers c.requires c.in_ok-next.ensures in
+    let over = c.in_ok-replugged.ensures old.net c.in_ok-plugs.ensures in
+    let said = c.in_ok-does.ensures old.net now.net old.numbers now.numbers c.requires c.in_ok-next.ensures over in
     let refused = refused_lines number old.net lines in
     let told : StepTold =
     record { number = number; refused = refused; own = said.0; does = c.in_ok-does.does; before = told_in w.lines c.args.before.now; now = told_in w.lines c.in_ok-now.now } in
@@ -45,7 +46,7 @@ returns-clause-told g c w watching judged_before =
             is_now = after.is_outcome;
             number = refl;
             refused = refl;
-            own = subst (λ (step : Step). AreStepRows old.net before.outcome now.net after.outcome (deed.Step step) said.0 c.in_ok-does.does) c.step_of_lines-step.ensures said.1;
+            own = subst (λ (step : Step). AreStepRows old.net before.outcome now.net after.outcome (deed.Step step) said.0 c.in_ok-does.does) c.step_of_lines.ensures said.1;
             judged_before = judged_before;
             judged_now = c.in_ok-now.ensures w watching;
           });
