@@ -4,3 +4,4 @@ mod Failing
 mod NoGreater
 mod PrioritiesSet
 mod Needed
+mod Said

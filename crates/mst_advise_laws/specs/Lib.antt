@@ -1,2 +1,3 @@
 pub mod Greater
 pub mod Needed
+pub mod Said

@@ -1,13 +1,19 @@
 //! Laws of advice. Their functions do nothing: a caller has their clauses.
 ghost use Rattle.std.specs.Prelude.{ℕ, List};
 ghost use Rattle.mst_tables.specs.Tables.{Net, IsNetwork};
+ghost use Rattle.mst_lang.specs.Ranges.{InRange};
+ghost use Rattle.mst_rows.specs.Lines.{row_line};
 ghost use Rattle.mst_rows.specs.Rows.{Row};
 ghost use Rattle.mst_forest.specs.Outcome.{Outcome, IsOutcome};
 ghost use Rattle.mst_advise.specs.declared.goal.Goal.{Goal as GoalOf};
+ghost use Rattle.mst_advise.specs.declared.setting.Setting.{Setting as SettingOf};
 ghost use Rattle.mst_advise.specs.Advising.{Advises};
+ghost use Rattle.mst_advise.specs.Settings.{edit_of};
+ghost use Rattle.mst_advise.specs.Told.{setting_row};
 ghost use Rattle.mst_advise.specs.declared.advising.Advised.TheVariants as advised;
 ghost use Rattle.mst_advise_laws.specs.Greater.{IsAdvised, NoGreaterSuffices};
 ghost use Rattle.mst_advise_laws.specs.Needed.{TellNeeded};
+ghost use Rattle.mst_advise_laws.specs.Said.{SaysEdit};
 
 use mst_forest::laws::one_outcome;
 
@@ -24,3 +30,9 @@ pub fn none_is_needless()
 {
     one_outcome();
 }
+
+/// The line of each setting that is advised is `edit` and a line of a script of version 2, which is read as that setting's edit: so what is
+/// advised can be put into a script as it is told.
+pub fn settings_read()
+    ensures { (setting : SettingOf) → InRange (edit_of setting) → SaysEdit (row_line (setting_row setting)) (edit_of setting) }
+{}

@@ -1,1 +1,2 @@
 pub mod WholeAlter
+pub mod Well

@@ -1,1 +1,2 @@
 pub mod Alter
+pub mod Well

@@ -3,6 +3,7 @@
 #![tactic(auto)]
 
 mod alters;
+pub mod laws;
 mod stepping;
 
 pub use alters::{StepsWord, steps, steps_within};

@@ -1,3 +1,4 @@
 pub mod Answering
+pub mod Digest
 pub mod Staying
 pub mod Told

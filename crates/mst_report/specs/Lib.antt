@@ -2,6 +2,7 @@ pub use Rattle.mst_changes.specs as changes
 pub use Rattle.mst_save.specs as save
 pub mod State
 pub mod Answers
+pub mod Digest
 pub mod Refusing
 pub mod Planned
 pub mod Kept

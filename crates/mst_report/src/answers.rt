@@ -1,4 +1,4 @@
-ghost use Rattle.std.specs.Prelude.{◌≡◌, ◌≢◌, Err, IfOk, IfErr};
+ghost use Rattle.std.specs.Prelude.{◌≡◌, ◌≢◌, false, true, Err, IfOk, IfErr};
 ghost use Rattle.mst_lang.specs.declared.line.Query.TheVariants.{ShowConfiguration, Changes};
 ghost use Rattle.mst_report.specs.Answers.{Answers, AnswersInLines, asks_plan as is_of_plan};
 ghost use Rattle.mst_report.specs.Planned.{planned_state};
@@ -34,13 +34,16 @@ impl Planner {
 
     /// The text that answers a query, be the plan settled or not: the lines of its rows. Where the query is asked of a settled plan, it is
     /// settled first. E04 and E16 come just where [`refusal`](Planner::refusal) gives them, without memory; E99 only where none does and
-    /// memory was wanted and refused. The network and the mark are as they were in any case.
+    /// memory was wanted and refused. The network and the mark are as they were in any case, and so is all of the planner where the plan
+    /// stands or the query isn't asked of it.
     pub fn answer(&mut self, query: &Query) -> Result<Vec<u8>, Refusal>
         ensures text { IfOk result (λ text. AnswersInLines query.now (planned_state self.old) text.items) }
         ensures refused { IfErr result (λ refusal. refusal ≢ Refusal.E99 → Answers query.now (planned_state self.old) (Err refusal)) }
         ensures memory { result ≡ Err Refusal.E99 → HasRows query.now (planned_state self.old) }
         ensures same { self.new.contents ≡ self.old.contents }
         ensures mark { self.new.mark ≡ self.old.mark }
+        ensures idle { self.old.is_settled ≡ true → self.new ≡ self.old }
+        ensures unasked { is_of_plan query.now ≡ false → self.new ≡ self.old }
     {
         if let Some(refusal) = self.refusal(query) {
             return Err(refusal);

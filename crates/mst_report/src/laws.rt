@@ -1,10 +1,14 @@
 //! Laws of answers. Their functions do nothing: a caller has their clauses.
-ghost use Rattle.std.specs.Prelude.{◌≡◌, List, Result};
+ghost use Rattle.std.specs.Prelude.{◌≡◌, List, Ok, Result};
+ghost use Rattle.std.specs.List.{flat_map};
 ghost use Rattle.mst_lang.specs.declared.line.Query.{Query};
+ghost use Rattle.mst_lang.specs.declared.line.Query.TheVariants.{Digest, Save};
 ghost use Rattle.mst_net.specs.tables.Tables.{Net, IsNetwork};
 ghost use Rattle.mst_net.specs.tables.declared.refusal.Refusal.{Refusal};
+ghost use Rattle.mst_rows.specs.Lines.{row_line};
 ghost use Rattle.mst_rows.specs.Rows.{Row};
 ghost use Rattle.mst_report.specs.Answers.{Answers};
+ghost use Rattle.mst_report.specs.Digest.{digest_line};
 ghost use Rattle.mst_report.specs.State.{State, IsState, IsMark, IsMarkNow};
 ghost use Rattle.mst_changes.specs.declared.subject.Entry.{Entry};
 
@@ -35,6 +39,11 @@ pub fn one_answer()
     notes();
     entries_tell();
 }
+
+/// What `digest` tells is the MD5 of the text that `save` tells of the same state, in lower case hexadecimal digits.
+pub fn digest_of_saved()
+    ensures { (s : State) (saved told : List Row) → Answers Save s (Ok saved) → Answers Digest s (Ok told) → flat_map row_line told ≡ digest_line (flat_map row_line saved) }
+{}
 
 /// A network has entries to mark, and one list of them.
 pub fn entries_of_network()

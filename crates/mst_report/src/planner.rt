@@ -158,11 +158,14 @@ impl Planner {
     }
 
     /// Whether an edit would be made: nothing is made of it. It is refused with the least number that applies, which takes no memory,
-    /// and with E99 only where none does and there was no room for it. The planner is as it was in either case, but for room.
+    /// and with E99 only where none does and there was no room for it. The planner is as it was in either case, but for room: where the
+    /// edit would be made there is room for it then, so that it is made without memory.
     pub fn rehearse(&mut self, edit: &Edit) -> Result<(), Refusal>
         ensures accepted { OnOk result (IsOk (after edit.now self.old.contents.net)) }
         ensures refused { IfErr result (λ refusal. refusal ≢ Refusal.E99 → after edit.now self.old.contents.net ≡ Err refusal) }
         ensures memory { result ≡ Err Refusal.E99 → IsOk (after edit.now self.old.contents.net) }
+        ensures no_room { result ≡ Err Refusal.E99 → room_for edit.now self.old.contents.room ≡ 0 }
+        ensures room { OnOk result (0 < room_for edit.now self.new.contents.room) }
         ensures same { SameContents self.old.contents self.new.contents }
         ensures settled { self.new.is_settled ≡ self.old.is_settled }
         ensures standing { self.new.standing ≡ self.old.standing }

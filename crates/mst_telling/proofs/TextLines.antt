@@ -12,7 +12,7 @@ or_nothing : (b : Bool) → (b || false) ≡ b
 or_nothing true = refl
 or_nothing false = refl
 
-lines_symm : (x y : List ℕ) → same_line x y ≡ same_line y x
+pub lines_symm : (x y : List ℕ) → same_line x y ≡ same_line y x
 lines_symm x y = nat_list_eq_equiv.symm x y
 
 module _ (rows : List Row) (keys : List (Vec ℕ Global)) (are : (text : List ℕ) → list_any (λ key. same_line text key.items) keys ≡ list_any (λ row. same_line text (row_line row)) rows)

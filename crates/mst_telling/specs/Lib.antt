@@ -1,4 +1,5 @@
 pub mod Judged
+pub mod NoneLost
 pub mod Once
 pub mod Rows
 pub mod Steps

@@ -5,6 +5,7 @@
 
 mod judgement;
 mod lacking;
+pub mod laws;
 mod once;
 mod promises;
 mod reason;

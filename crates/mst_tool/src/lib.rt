@@ -7,6 +7,7 @@ mod checks;
 mod opened;
 mod runs;
 mod served;
+pub mod status_laws;
 
 pub use checks::{CheckWord, check, check_from, check_within};
 pub use mst_engine::{

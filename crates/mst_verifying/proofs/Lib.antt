@@ -1,1 +1,2 @@
 pub mod WholeVerify
+pub mod Well

@@ -2,6 +2,7 @@
 //! kept, [`verified`] judges a network that stands, and [`VerifyWord`] is the word of the program.
 #![tactic(auto)]
 
+pub mod laws;
 mod verifies;
 mod verifying;
 
