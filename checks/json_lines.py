@@ -312,6 +312,9 @@ class Above:
             return {key: self.told[key] for key in ("tree", "bridge", "port")}
         if kind.enum == "SweepLine" and kind.name in ("Lan", "Bridge"):
             return {"failure": {kind.first: values[kind.first]}}
+        if kind.enum == "PathLine":
+            # each says what was asked, as the first line does
+            return {**{key: self.told[key] for key in ("vid", "from", "to")}, "failure": {kind.first: values.get(kind.first)}}
         if kind.enum == "SweepLine" and kind.first == "cut":
             return {key: self.told[key] for key in ("failure", "other_failure") if key in self.told}
         if kind.enum == "StepLine" or kind.enum == "RefusalLine":
@@ -331,7 +334,7 @@ class Above:
             raise ValueError(f"{values}, and above it stands {wanted}")
         if kind.first == "step":
             self.step = values["step"]
-        if kind.first in ("tree", "vlan", "mstconfid", "explain", "lan", "bridge", "pair", "step") and kind.enum != "BridgeCommand":
+        if kind.first in ("tree", "vlan", "mstconfid", "explain", "path", "lan", "bridge", "pair", "step") and kind.enum != "BridgeCommand":
             self.told = {**self.told, **values} if kind.enum == "TreeLine" else dict(values)
         return True
 
@@ -709,6 +712,14 @@ def wanted(script):
     yield from (["-", "forward", tree, *port] for tree in trees for port in plugged[-4:])
 
 
+def traced(script):
+    """Paths between some bridges of a script, with `always` and without it."""
+    bridges = list(dict.fromkeys(re.findall(r"^addbridge (\S+)", script, re.MULTILINE)))
+    ends = [*zip(bridges, bridges[1:]), *zip(bridges[:2], bridges[-2:]), ("nobody", "nobody")]
+    yield from (["-", vid, *pair] for vid in ("1", "10") for pair in ends)
+    yield from (["-", "1", *pair, "always"] for pair in ends[:3])
+
+
 def cases(folder):
     """Each case: its name, the command, its words, and standard input."""
     named = list(scripts())
@@ -718,6 +729,7 @@ def cases(folder):
         yield name, "summary", ["-"], edits
         yield from ((name, "explain", words, edits) for words in explained(edits))
         yield from ((name, "advise", words, edits) for words in wanted(edits))
+        yield from ((name, "path", words, edits) for words in traced(edits))
         yield from ((name, "sweep", ["-", *words], edits) for words in ([], ["2/3"]))
         if edits.count("addbridge ") < MOST_IN_PAIRS:
             yield from ((name, "sweep", ["-", "pairs", *words], edits) for words in ([], ["1/4"]))

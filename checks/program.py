@@ -28,6 +28,7 @@ import hint_runs  # noqa: E402
 import large_runs  # noqa: E402
 import line_runs  # noqa: E402
 import pairs_runs  # noqa: E402
+import path_runs  # noqa: E402
 import size_runs  # noqa: E402
 import steps_runs  # noqa: E402
 import verify_runs  # noqa: E402
@@ -954,7 +955,7 @@ def alone_cases(folder):
 def flag_cases(folder):
     """Cases of words with flags."""
     script = os.path.join(folder, "hinted.script")
-    wrong = b"error: --json is a flag of run, check, explain, diff, sweep, summary, ask, verify, edits, steps and advise\n"
+    wrong = b"error: --json is a flag of run, check, explain, diff, sweep, summary, ask, verify, edits, steps, advise and path\n"
     gone = [
         {"kind": "reach", "vids": [[1, 4094]], "old_islands": [["B"]], "new_islands": []},
         {"kind": "diff", "region_count": 0, "root_count": 0, "port_count": 0, "vlan_count": 4094},
@@ -1311,6 +1312,7 @@ def main():
         passed += steps_runs.checks(program, folder)
         passed += advise_runs.checks(program, folder)
         passed += pairs_runs.checks(program, folder)
+        passed += path_runs.checks(program, folder)
         passed += large_runs.checks(program, folder)
         passed += size_runs.checks(program, folder)
     print(f"{sum(passed)} passed, {len(passed) - sum(passed)} failed")

@@ -213,7 +213,7 @@ VERSION = closed({"kind": {"const": "version"}, "release": form("[0-9]+\\.[0-9]+
 # The kinds that nothing prints as JSON: records of `check` stand alone, and so do hints.
 UNPRINTED = {("Query", "Check"), ("RefusalLine", "Hinted")}
 # What is refused of a script, what of a question, and the kinds whose records stand alone.
-REFUSED, UNANSWERED, ALONE = ("Line", "OldLine", "NewLine"), ("Explain", "Dot", "Advise"), ("CaptureLine", "AskLine")
+REFUSED, UNANSWERED, ALONE = ("Line", "OldLine", "NewLine"), ("Explain", "Dot", "Advise", "Path"), ("CaptureLine", "AskLine")
 
 
 def values(kind, table):

@@ -1,7 +1,7 @@
 #!/usr/bin/env python3
 """Asks mstplan with hints, and adds those of what a network lacks: which bridge, port, LAN or tree isn't there, and what may be meant.
 
-The words are PROGRAM's: `verify`, `steps`, `explain`, `advise` and `dot`, with its flags; any others it is given as they are, with --hints.
+The words are PROGRAM's: `verify`, `steps`, `explain`, `advise`, `dot` and `path`, with its flags; any others it is given as they are, with --hints.
 Standard output and the exit status are PROGRAM's. On standard error its own hints and these stand in the order of the refused lines:
 
   policy line N no bridge acc22; acc2?             the first item of the line that isn't there, and the one name that is nearest
@@ -36,14 +36,17 @@ from command import STATUSES, Files, guarded, write  # noqa: E402
 TOOL = "lacking.py"
 HINTS, JSON = "--hints", "--json"
 # Of each word of the program: how many words may stand behind it, and how many of these are files at most.
-ASKED = {"verify": ((2,), 2), "steps": ((2, 3), 3), "explain": ((3, 4), 1), "advise": ((4, 5), 1), "dot": ((2, 3), 1)}
+ASKED = {"verify": ((2,), 2), "steps": ((2, 3), 3), "explain": ((3, 4), 1), "advise": ((4, 5), 1), "dot": ((2, 3), 1), "path": ((4, 5), 1)}
 # What stands behind FILE, by how many words these are.
-FORMS = {"explain": {2: "B P", 3: "B P TREE"}, "advise": {3: "root TREE B", 4: "forward TREE B P"}, "dot": {1: "TREE", 2: "vlan VID"}}
+FORMS = {"explain": {2: "B P", 3: "B P TREE"}, "advise": {3: "root TREE B", 4: "forward TREE B P"}, "dot": {1: "TREE", 2: "vlan VID"},
+         "path": {3: "VID A B", 4: "VID A B always"}}
 # A line of a script that tells whether a word is in its form; what can stand there as a word, and what stands for all that can't.
-TRIED = {"B": "showmstconfid {B}", "P": "delport {B} {P}", "TREE": "showtree {TREE}", "VID": "showvlan {VID}"}
+TRIED = {"A": "showmstconfid {A}", "B": "showmstconfid {B}", "P": "delport {B} {P}", "TREE": "showtree {TREE}", "VID": "showvlan {VID}"}
+# The words whose fault is E03; that of the others is E02, and comes first.
+NUMBERED = ("TREE", "VID")
 WORD, NO_WORD = re.compile("[!-~]{1,100}"), "!"
 # Lines of the answers that tell of what is refused, and of steps; and lines of standard error that hint at a refused line.
-REFUSED = re.compile(rb"(line|policy|change|explain|advise|dot) (?:([0-9]+) )?(E[0-9]{2}) ")
+REFUSED = re.compile(rb"(line|policy|change|explain|advise|dot|path) (?:([0-9]+) )?(E[0-9]{2}) ")
 STEP = re.compile(rb"step ([0-9]+) lines ([0-9]+)-([0-9]+) ")
 HINT = re.compile(rb"(line|policy|change) (?:line )?([0-9]+) ")
 # What the words behind an expectation are of, where their items may not be there.
@@ -303,9 +306,11 @@ def hint_of_words(program, asked, code, networks):
     form = FORMS[asked.word][len(asked.rest)]
     its = dict(zip(form.split(), asked.rest))
     if code in ("E02", "E03"):
-        said = hint_of_form(program, its)
+        said = hint_of_form(program, {name: it for name, it in its.items() if (name in NUMBERED) == (code == "E03")})
         return f"{form}: {said}" if said else f"bridge {its['B']} hasn't tree {int(its['TREE'])}"
     network = networks.behind(0)
+    if its.get("A") not in (None, *network.named("bridge")):
+        return network.absent("bridge", its["A"])
     return network.absent("bridge", its["B"]) if code == "E04" else network.no_port(its["B"], its["P"])
 
 

@@ -104,6 +104,7 @@ _mstplan()
         :*) words="{commands}" ;;
         advise:2:*) words="root forward" ;;
         dot:2:*) words="vlan" ;;
+        path:5:*) words="always" ;;
         sweep:2:*) words="pairs $part/2 $part/4 $part/8 $part/16" ;;
         sweep:3:pairs) words="$part/2 $part/4 $part/8 $part/16" ;;
     esac

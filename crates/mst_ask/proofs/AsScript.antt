@@ -30,9 +30,9 @@ use Rattle.mst_questions.specs.tool.engine.print.declared.form.Form.{Form}
 use Rattle.mst_ask.specs.Asking.{loaded_by}
 use Rattle.mst_ask.specs.Kept.{lines_net, made_by, made_in, net_or, script_net}
 use Rattle.mst_ask.specs.Requests.{request_of}
-use Rattle.mst_ask.specs.Standing.{Made, Standing, Turn, Asks, AsksBy, answered, back, declined, edited, edits_of, left_after, passed, starved, stepped, undone, verified}
+use Rattle.mst_ask.specs.Standing.{Made, Standing, Turn, Asks, AsksBy, answered, back, declined, edited, edits_of, left_after, passed, starved, stepped, traced, undone, verified}
 use Rattle.mst_ask.specs.declared.request.Request.{Request}
-use Rattle.mst_ask.specs.declared.request.Request.TheVariants.{Script, Word, Undo, Verify}
+use Rattle.mst_ask.specs.declared.request.Request.TheVariants.{Script, Word, Undo, Verify, Path}
 use Rattle.mst_ask.proofs.Kept.{back_in, back_none, lines_net-append, loads_net}
 use Rattle.mst_ask.proofs.Requests.{script_said}
 
@@ -171,6 +171,8 @@ module _ (form : Form) (version : Version) (base : Net) where
   asked_of number now line (Ok (Undo count)) t says is (inr h) = turn_of t (starved form number now) h.1 is
   asked_of number now line (Ok Verify) t says is (inl h) = turn_of t (verified form now h.0 h.1) h.3 is
   asked_of number now line (Ok Verify) t says is (inr h) = turn_of t (starved form number now) h is
+  asked_of number now line (Ok (Path question)) t says is (inl h) = turn_of t (traced form now h.0 h.1) h.3 is
+  asked_of number now line (Ok (Path question)) t says is (inr h) = turn_of t (starved form number now) h.1 is
 
   all_of : (number : ℕ) (now : Standing) (lines : List (List ℕ)) (turns : List Turn) → IsOf version base now → AsksBy form version number now lines turns → IsOf version base (left_after now turns)
   unfolding AsksBy

@@ -1,6 +1,6 @@
 -- That lines can be asked, and what they do in one way.
 use Rattle.std.proofs.Common.{◌≡◌, ◌⊎◌, inl, inr, ℕ, ◌+◌, Bool, true, false, true≢false, zero, suc, List, [], ◌∷◌, Option, Some, None, Result, Ok, Err, refl, sym, ap, subst, ◌∙◌}
-use Rattle.std.specs.Prelude.{IsOk, IsSome}
+use Rattle.std.specs.Prelude.{IsOk, IsSome, is_some}
 use Rattle.std.specs.List.{AllByRecursion}
 use Rattle.mst_lang.specs.Faults as fault
 use Rattle.mst_lang.specs.Ranges.{InRange}
@@ -10,6 +10,7 @@ use Rattle.mst_lang.specs.declared.line.Line.TheVariants.{Blank, Mark, Edit as e
 use Rattle.mst_lang.specs.declared.line.Query.{Query}
 use Rattle.mst_lang.specs.declared.line.Version.{Version}
 use Rattle.mst_net.specs.tables.After.{after}
+use Rattle.mst_net.specs.tables.Refusals as refusal
 use Rattle.mst_verifying.specs.verdict.Verifying.{Verifies}
 use Rattle.mst_net.specs.tables.Tables.{Net, IsNetwork}
 use Rattle.mst_net.specs.tables.declared.refusal.Refusal.{Refusal}
@@ -24,15 +25,21 @@ use Rattle.mst_questions.specs.tool.engine.print.declared.form.Form.{Form}
 use Rattle.mst_questions.specs.tool.engine.print.declared.form.Shape.{Shape}
 use Rattle.mst_rows.specs.Rows.{Row}
 use Rattle.mst_questions.specs.Ask.{is_refused}
+use Rattle.mst_tracing.specs.Trace as trace
+use Rattle.mst_tracing.specs.Ends.{untraced_of}
+use Rattle.mst_tracing.specs.declared.asked.Asked.{Asked}
+use Rattle.mst_tracing.specs.declared.asked.PathQuestion.{PathQuestion}
+use Rattle.mst_tracing.specs.declared.asked.PathQuestion.TheVariants as path
+use Rattle.mst_tracing.proofs.WholeTrace.{OneTrace, one_traced}
 use Rattle.mst_verifying.specs.Verify.{verify_row}
 use Rattle.mst_questions.proofs.EarlyRefusals.{refused_answer}
 use Rattle.mst_questions.proofs.tool_lemmas.Shown.{one_shown}
 use Rattle.mst_questions.proofs.WholeAsk.{OneOfEach, one_answer}
 use Rattle.mst_verifying.specs.verdict.telling.Verified.{Counts}
 use Rattle.mst_ask.specs.Requests.{request_of}
-use Rattle.mst_ask.specs.Standing.{Made, Standing, Turn, Asks, AsksBy, AsksLine, IsStanding, answered, back, declined, edited, lacking_of, left_after, passed, starved, stepped, undone, verified}
+use Rattle.mst_ask.specs.Standing.{Made, Standing, Turn, Asks, AsksBy, AsksLine, IsStanding, answered, back, declined, edited, lacking_of, left_after, passed, starved, stepped, traced, undone, verified}
 use Rattle.mst_ask.specs.declared.request.Request.{Request}
-use Rattle.mst_ask.specs.declared.request.Request.TheVariants.{Script, Word, Undo, Verify}
+use Rattle.mst_ask.specs.declared.request.Request.TheVariants.{Script, Word, Undo, Verify, Path}
 use Rattle.mst_ask.proofs.Requests.{script_said}
 use Rattle.mst_ask.proofs.Turns.{alike_both, asks-first, asks-none}
 
@@ -43,6 +50,15 @@ InRanges request = (e : Edit) → request ≡ Ok (Script (edit e)) → InRange e
 -- a network is judged by a policy in one way
 abbrev pub OneVerification : Type 0
 OneVerification = (net : Net) (lines : List PolicyLine) (c d : Counts) (rows other : List Row) → IsNetwork net → Verifies net lines c rows → Verifies net lines d other → (c ≡ d) × (rows ≡ other)
+
+-- a path that is refused has an answer
+refused_path : (form : Form) (net : Net) (question : PathQuestion) → trace.is_refused net question ≡ true → (told : trace.Told) × (text : List ℕ) × trace.IsAnswer form net question told text
+refused_path form net (path.Unread f) h = (trace.not_given, trace.untraced_in form (fault.code_of f) (fault.text_of f), (refl, refl))
+refused_path form net (path.Path asked) h = by (untraced_of net asked.trace) h
+  where
+    by : (why : Option Refusal) → is_some why ≡ true → (told : trace.Told) × (text : List ℕ) × trace.TellsPath form net asked why told text
+    by None h = absurd (cc)
+    by (Some why) h = (trace.not_given, trace.untraced_in form (refusal.code_of why) (refusal.text_of why), (refl, refl))
 
 module _ (laws : Laws) (form : Form) where
   shape : Shape
@@ -107,6 +123,8 @@ module _ (laws : Laws) (form : Form) where
   turn_kept number now line (Ok (Undo count)) t is ranges (inr h) = turn_is t (starved form number now) h.1 is
   turn_kept number now line (Ok Verify) t is ranges (inl h) = turn_is t (verified form now h.0 h.1) h.3 is
   turn_kept number now line (Ok Verify) t is ranges (inr h) = turn_is t (starved form number now) h is
+  turn_kept number now line (Ok (Path question)) t is ranges (inl h) = turn_is t (traced form now h.0 h.1) h.3 is
+  turn_kept number now line (Ok (Path question)) t is ranges (inr h) = turn_is t (starved form number now) h.1 is
 
   pub line_kept : (version : Version) (number : ℕ) (now : Standing) (line : List ℕ) (t : Turn) → IsStanding now → AsksLine form version number now line t → IsStanding t.standing
   line_kept version number now line t is h = turn_kept number now line (request_of version line) t is (ranges_of version line) h
@@ -140,6 +158,11 @@ module _ (laws : Laws) (form : Form) where
         by false h = (starved form number now, inr (h, refl))
     some_turn number now line (Ok (Undo count)) is = (undone form number count now (back count now.state.net now.made), inl refl)
     some_turn number now line (Ok Verify) is = (starved form number now, inr refl)
+    some_turn number now line (Ok (Path question)) is = by (trace.is_refused now.state.net question) refl
+      where
+        by : (refused : Bool) → trace.is_refused now.state.net question ≡ refused → (t : Turn) × Asks form number now line (Ok (Path question)) t
+        by true h = let a = refused_path form now.state.net question h in (traced form now a.0 a.1, inl (a.0, a.1, a.2, refl))
+        by false h = (starved form number now, inr (h, refl))
 
     pub some_turns : (version : Version) (number : ℕ) (now : Standing) (lines : List (List ℕ)) → IsStanding now → (turns : List Turn) × AsksBy form version number now lines turns
     some_turns version number now [] is = ([], asks-none form version number now)
@@ -171,7 +194,7 @@ module _ (laws : Laws) (form : Form) where
   steps_alike : (now : Standing) (s t : Turn) (a b : Step) → s ≡ stepped form now a → t ≡ stepped form now b → s.lacking ≡ t.lacking → a.lacking ≡ b.lacking
   steps_alike now s t a b h k alike = sym (ap (λ (u : Turn). u.lacking) h) ∙ alike ∙ ap (λ (u : Turn). u.lacking) k
 
-  module _ (answers : (q : Query) (now : State) (a b : Result (List Row) Refusal) → IsNetwork now.net → Answers q now a → Answers q now b → a ≡ b) (one : OneOfEach) (judged : OneVerification) where
+  module _ (answers : (q : Query) (now : State) (a b : Result (List Row) Refusal) → IsNetwork now.net → Answers q now a → Answers q now b → a ≡ b) (one : OneOfEach) (judged : OneVerification) (one_trace : OneTrace) where
     one_turn : (number : ℕ) (now : Standing) (line : List ℕ) (request : Result Request Fault) (s t : Turn) → IsStanding now → Asks form number now line request s → Asks form number now line request t → s.lacking ≡ t.lacking → s ≡ t
     one_turn number now line (Err f) s t is h k alike = h ∙ sym k
     one_turn number now line (Ok (Script Blank)) s t is h k alike = h ∙ sym k
@@ -200,6 +223,12 @@ module _ (laws : Laws) (form : Form) where
         let net = now.state.net in
         let same = one_shown form verify_row (Verifies net now.policy k.0) (Verifies net now.policy h.0) (k.0 ≡ h.0) (λ rows other p q. let both = judged net now.policy k.0 h.0 rows other is.state.network p q in (both.1, both.0)) k.1 h.1 k.2 h.2 in
         h.3 ∙ (λ i. verified form now (sym same.1 i) (sym same.0 i)) ∙ sym k.3
+    one_turn number now line (Ok (Path question)) s t is (inr h) (inr k) alike = h.1 ∙ sym k.1
+    one_turn number now line (Ok (Path question)) s t is (inl h) (inr k) alike = absurd (not_both s t (traced form now h.0 h.1) number now refl h.3 k.1 alike)
+    one_turn number now line (Ok (Path question)) s t is (inr h) (inl k) alike = absurd (not_both t s (traced form now k.0 k.1) number now refl k.3 h.1 (sym alike))
+    one_turn number now line (Ok (Path question)) s t is (inl h) (inl k) alike =
+        let same = one_traced one_trace form now.state.net question h.0 k.0 h.1 k.1 is.state.network h.2 k.2 in
+        h.3 ∙ (λ i. traced form now (sym same.0 i) (sym same.1 i)) ∙ sym k.3
 
     pub one_asked : (version : Version) (number : ℕ) (now : Standing) (lines : List (List ℕ)) (a b : List Turn) → IsStanding now → AsksBy form version number now lines a → AsksBy form version number now lines b → lacking_of a ≡ lacking_of b → a ≡ b
     unfolding AsksBy

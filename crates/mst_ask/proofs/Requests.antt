@@ -16,9 +16,11 @@ use Rattle.mst_questions.specs.Asked.{asked_of, part_value}
 use Rattle.mst_questions.specs.declared.asked.Asked.{Asked}
 use Rattle.mst_questions.specs.declared.asked.Question.{Question}
 use Rattle.mst_questions.specs.declared.asked.Question.TheVariants.{Pairs, Sweep}
-use Rattle.mst_ask.specs.Requests.{Stays, asked_by, asked_in, counted, dot_of, dot_words, explain_words, is_readable, request_of, said_of, summary_words, sweep_of, sweep_words, undo_words, verify_words}
+use Rattle.mst_ask.specs.Requests.{Stays, asked_by, asked_in, counted, dot_of, dot_words, explain_words, is_readable, path_of, path_words, request_of, said_of, summary_words, sweep_of, sweep_words, undo_words, verify_words}
+use Rattle.mst_tracing.specs.Asked.{path_question}
+use Rattle.mst_tracing.specs.declared.asked.PathQuestion.{PathQuestion}
 use Rattle.mst_ask.specs.declared.request.Request.{Request}
-use Rattle.mst_ask.specs.declared.request.Request.TheVariants.{Script, Word, Undo, Verify}
+use Rattle.mst_ask.specs.declared.request.Request.TheVariants.{Script, Word, Undo, Verify, Path}
 
 -- what a word of the program, or `undo`, asks: no line of a script, and what leaves the planner as it was
 abbrev OfWord : Result Request Fault → Type 0
@@ -27,6 +29,7 @@ OfWord (Ok (Script line)) = ⊥
 OfWord (Ok (Word question)) = keeps question ≡ true
 OfWord (Ok (Undo count)) = Unit {0}
 OfWord (Ok Verify) = Unit {0}
+OfWord (Ok (Path question)) = Unit {0}
 
 abbrev AsksOfWord : Option (Result Request Fault) → Type 0
 AsksOfWord None = Unit {0}
@@ -113,6 +116,18 @@ of_verify : (ws : List (List ℕ)) → OfWord (verify_words ws)
 of_verify [] = tt
 of_verify (a ∷ ws) = tt
 
+of_traced : (question : Option PathQuestion) → OfWord (path_of question)
+of_traced None = tt
+of_traced (Some question) = tt
+
+of_path : (ws : List (List ℕ)) → OfWord (path_words ws)
+of_path [] = tt
+of_path (a ∷ []) = tt
+of_path (a ∷ b ∷ []) = tt
+of_path (a ∷ b ∷ c ∷ []) = of_traced (path_question a b c None)
+of_path (a ∷ b ∷ c ∷ d ∷ []) = of_traced (path_question a b c (Some d))
+of_path (a ∷ b ∷ c ∷ d ∷ e ∷ ws) = tt
+
 -- which of two it is
 one_of : (b : Bool) (x y : Option (Result Request Fault)) → AsksOfWord x → AsksOfWord y → AsksOfWord (cond b x y)
 one_of true x y p q = p
@@ -126,7 +141,8 @@ of_asked (word ∷ behind) =
     (one_of (bytes_eq word (codes "sweep")) (Some (sweep_words behind)) _ (of_sweep behind)
     (one_of (bytes_eq word (codes "dot")) (Some (dot_words behind)) _ (of_dot behind)
     (one_of (bytes_eq word (codes "undo")) (Some (undo_words behind)) _ (of_undo behind)
-    (one_of (bytes_eq word (codes "verify")) (Some (verify_words behind)) None (of_verify behind) tt)))))
+    (one_of (bytes_eq word (codes "verify")) (Some (verify_words behind)) _ (of_verify behind)
+    (one_of (bytes_eq word (codes "path")) (Some (path_words behind)) None (of_path behind) tt))))))
 
 of_line : (line : List ℕ) → AsksOfWord (asked_in line)
 of_line line = one_of (is_readable line) (asked_by (words line)) None (of_asked (words line)) tt
@@ -144,6 +160,7 @@ script_said version line said is = by (asked_in line) (of_line line) (reading_as
     inner (Ok (Word question)) other = other
     inner (Ok (Undo count)) other = other
     inner (Ok Verify) other = other
+    inner (Ok (Path question)) other = other
 
     by : (asked : Option (Result Request Fault)) → AsksOfWord asked → (r : Result Line Fault) → option_map_or (λ request. request) asked (said_of r) ≡ Ok (Script said) → r ≡ Ok said
     by (Some request) none r is = absurd (no_script request said none is)
@@ -157,6 +174,7 @@ stays (Ok (Script line)) word = absurd word
 stays (Ok (Word question)) word = word
 stays (Ok (Undo count)) word = tt
 stays (Ok Verify) word = tt
+stays (Ok (Path question)) word = tt
 
 pub word_stays : (line : List ℕ) (request : Result Request Fault) → Some request ≡ asked_in line → IfOk request Stays
 word_stays line request is = stays request (subst AsksOfWord (sym is) (of_line line))

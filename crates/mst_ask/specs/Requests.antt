@@ -13,8 +13,10 @@ use Rattle.mst_lang.specs.declared.line.Version.{Version}
 use Rattle.mst_questions.specs.Ask.{dot_question, explain_question, keeps, sweep_question}
 use Rattle.mst_questions.specs.declared.asked.Question.{Question}
 use Rattle.mst_questions.specs.declared.asked.Question.TheVariants.{Summary}
+use Rattle.mst_tracing.specs.Asked.{path_question}
+use Rattle.mst_tracing.specs.declared.asked.PathQuestion.{PathQuestion}
 use Rattle.mst_ask.specs.declared.request.Request.{Request}
-use Rattle.mst_ask.specs.declared.request.Request.TheVariants.{Script, Word, Undo, Verify}
+use Rattle.mst_ask.specs.declared.request.Request.TheVariants.{Script, Word, Undo, Verify, Path}
 
 -- what stands behind `explain`: B and P, or B, P and TREE. With another number of words there is no such command
 abbrev pub explain_words : List (List ℕ) → Result Request Fault
@@ -48,6 +50,16 @@ dot_words (word ∷ []) = dot_of (dot_question word None)
 dot_words (word ∷ vid ∷ []) = dot_of (dot_question word (Some vid))
 dot_words _ = Err E01
 
+-- behind `path`: VID, A and B, or these and `always`
+abbrev pub path_of : Option PathQuestion → Result Request Fault
+path_of (Some question) = Ok (Path question)
+path_of None = Err E01
+
+abbrev pub path_words : List (List ℕ) → Result Request Fault
+path_words (vid ∷ from ∷ to ∷ []) = path_of (path_question vid from to None)
+path_words (vid ∷ from ∷ to ∷ behind ∷ []) = path_of (path_question vid from to (Some behind))
+path_words _ = Err E01
+
 -- behind `undo`: nothing, for the last edit, or how many of the last ones, from 1
 abbrev pub counted : Option ℕ → Result Request Fault
 counted None = Err E02
@@ -74,7 +86,8 @@ asked_as word behind =
     else (if bytes_eq word (codes "sweep") then Some (sweep_words behind)
     else (if bytes_eq word (codes "dot") then Some (dot_words behind)
     else (if bytes_eq word (codes "undo") then Some (undo_words behind)
-    else (if bytes_eq word (codes "verify") then Some (verify_words behind) else None)))))
+    else (if bytes_eq word (codes "verify") then Some (verify_words behind)
+    else (if bytes_eq word (codes "path") then Some (path_words behind) else None))))))
 
 abbrev pub asked_by : List (List ℕ) → Option (Result Request Fault)
 asked_by [] = None
@@ -102,3 +115,4 @@ Stays (Script line) = Unit {0}
 Stays (Word question) = keeps question ≡ true
 Stays (Undo count) = Unit {0}
 Stays Verify = Unit {0}
+Stays (Path question) = Unit {0}

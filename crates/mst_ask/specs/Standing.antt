@@ -22,12 +22,14 @@ use Rattle.mst_questions.specs.tool.engine.print.declared.form.Form.{Form}
 use Rattle.mst_rows.specs.Cells.{number as number_cell, word}
 use Rattle.mst_rows.specs.Rows.{Row, row_of}
 use Rattle.mst_questions.specs.Ask.{IsAnswer, Told, is_refused}
+use Rattle.mst_tracing.specs.Trace as trace
+use Rattle.mst_tracing.specs.declared.asked.PathQuestion.{PathQuestion}
 use Rattle.mst_verifying.specs.Verify.{TellsVerification}
 use Rattle.mst_questions.specs.declared.asked.Question.{Question}
 use Rattle.mst_verifying.specs.verdict.telling.Verified.{Counts}
 use Rattle.mst_ask.specs.Requests.{request_of}
 use Rattle.mst_ask.specs.declared.request.Request.{Request}
-use Rattle.mst_ask.specs.declared.request.Request.TheVariants.{Script, Word, Undo, Verify}
+use Rattle.mst_ask.specs.declared.request.Request.TheVariants.{Script, Word, Undo, Verify, Path}
 
 -- an edit that was made since the script was loaded: its line, and the network before it
 pub record Made : Type 0 where
@@ -110,6 +112,10 @@ answered form now told text = turned form now text (not (told.refused == 0)) fal
 abbrev pub verified : Form → Standing → Counts → List ℕ → Turn
 verified form now counts text = turned form now text (not (counts.refused == 0)) false (not (counts.failing == 0))
 
+-- the answer to `path`
+abbrev pub traced : Form → Standing → trace.Told → List ℕ → Turn
+traced form now told text = turned form now text (not (told.refused == 0)) false (not (told.differing == 0))
+
 -- what stood before the last so many edits, if so many were made: each is taken back in its turn, the newest first, and the
 -- network is then the one before it. The mark stays
 abbrev pub back : ℕ → Net → List Made → Option (Net × List Made)
@@ -141,6 +147,10 @@ Tells form number now question t = (told : Told) × (text : List ℕ) × IsAnswe
 abbrev pub TellsPolicy : Form → Standing → Turn → Type 0
 TellsPolicy form now t = (counts : Counts) × (text : List ℕ) × TellsVerification form now.state.net now.policy counts text × (t ≡ verified form now counts text)
 
+-- what `path` is answered, of the network as it stands
+abbrev pub TellsPath : Form → Standing → PathQuestion → Turn → Type 0
+TellsPath form now question t = (told : trace.Told) × (text : List ℕ) × trace.IsAnswer form now.state.net question told text × (t ≡ traced form now told text)
+
 -- What the line of this number does, which asks this. What refuses it comes first and takes no memory: an edit and what takes edits back are
 -- refused so whatever is in the way, and a word of the program where the tables of the network tell it
 abbrev pub Asks : Form → ℕ → Standing → List ℕ → Result Request Fault → Turn → Type 0
@@ -152,6 +162,7 @@ Asks form number now line (Ok (Script (edit e))) t = OrStarved form number now (
 Asks form number now line (Ok (Word question)) t = Tells form number now question t ⊎ ((is_refused now.state.net question ≡ false) × (t ≡ starved form number now))
 Asks form number now line (Ok (Undo count)) t = OrStarved form number now (IsSome (back count now.state.net now.made)) (undone form number count now (back count now.state.net now.made)) t
 Asks form number now line (Ok Verify) t = TellsPolicy form now t ⊎ (t ≡ starved form number now)
+Asks form number now line (Ok (Path question)) t = TellsPath form now question t ⊎ ((trace.is_refused now.state.net question ≡ false) × (t ≡ starved form number now))
 
 abbrev pub AsksLine : Form → Version → ℕ → Standing → List ℕ → Turn → Type 0
 AsksLine form version number now line t = Asks form number now line (request_of version line) t

@@ -30,6 +30,7 @@ use std::alloc::Global;
 /// * `explain B P`, `explain B P TREE`, `summary`, `sweep`, `sweep K/N`, `sweep pairs`, `sweep pairs K/N`, `dot TREE`: what
 ///   [`mst_questions::Question`] asks, of the network as it stands.
 /// * `verify`: what [`mst_verifying::verify`] tells, of the network as it stands by the policy.
+/// * `path VID A B`, `path VID A B always`: what [`mst_tracing::PathQuestion`] asks, of the network as it stands.
 /// * `undo`, `undo N`: the last edit that was made since the script was loaded is taken back, or the last N are, the newest first, with
 ///   a line `undone LINE` for each. The mark stays. Where there are fewer, it is refused as a bad argument.
 ///

@@ -19,6 +19,7 @@ use mst_questions::engine_laws::states;
 use mst_questions::laws::{one_explanation, one_picture, one_summary, one_vlan_picture};
 use mst_questions::report_laws::{entries_of_network, has_answer, one_answer};
 use mst_questions::sweeping_laws::{pair_parts, sweep_parts};
+use mst_tracing::laws::one_trace;
 use mst_verifying::verdict_laws::one_verification;
 
 /// Any lines can be asked, the first of any number, whatever network stands.
@@ -48,6 +49,7 @@ pub fn one_asking()
     one_vlan_picture();
     one_advice();
     one_verification();
+    one_trace();
 }
 
 /// What stands after a script was loaded, and after questions.

@@ -18,6 +18,7 @@ pub use mst_questions::{
     CheckWord, Form, Question, QuestionWord, RunWord, ask, check, check_within, engine_laws,
     report_laws, run, run_from, run_within, status,
 };
+pub use mst_tracing::{PathQuestion, PathWord, trace, trace_within};
 pub use mst_verifying::{VerifyWord, verify};
 pub use request::Request;
 pub use word::AskWord;

@@ -2,13 +2,14 @@ ghost use Rattle.std.specs.Prelude.{◌≡◌, false, OnOk, OnErr};
 ghost use Rattle.std.specs.Io.KnownBytes.{Appends};
 ghost use Rattle.mst_io.specs.Devices.{Works, IsStopped};
 ghost use Rattle.mst_io.specs.Written.{AppendsFront};
-ghost use Rattle.mst_ask.specs.Replies.{body_of, end_of, reply_text, status_of, verdict_of, verdict_of_answer, verdict_of_line, verdict_of_verification};
+ghost use Rattle.mst_ask.specs.Replies.{body_of, end_of, reply_text, status_of, verdict_of, verdict_of_answer, verdict_of_line, verdict_of_path, verdict_of_verification};
 ghost use Rattle.mst_ask.specs.Standing.{done};
 
 use itoa::Buffer;
 use mst_drive::Says;
 use mst_io::{Sink, WriteFailed, put, put_parts};
 use mst_questions::{Answer, Form, Input, Reply as LineReply, print, put_answer};
+use mst_tracing::{PathAnswer, put_traced};
 use mst_verifying::Verification;
 
 /// What a question is answered by.
@@ -24,6 +25,8 @@ pub(crate) enum Reply {
     Undone(Vec<u8>),
     /// Whether the network does what the policy promises.
     Verified(Verification),
+    /// A path, or why it isn't told.
+    Traced(PathAnswer),
 }
 
 /// What the question of this number is answered by, and what it is printed in.
@@ -107,6 +110,7 @@ impl Reply {
             Reply::Line(reply) => of_line(reply),
             Reply::Answer(answer) => of_answer(answer),
             Reply::Verified(found) => of_verification(found),
+            Reply::Traced(answer) => of_path(answer),
         }
     }
 }
@@ -154,6 +158,23 @@ fn of_verification(found: &Verification) -> Verdict
     }
 }
 
+/// How a path was answered.
+fn of_path(answer: &PathAnswer) -> Verdict
+    ensures { result ≡ verdict_of_path answer.now }
+{
+    match answer {
+        PathAnswer::Told {
+            is_broken: false,
+            ..
+        } => Verdict::GIVEN,
+        PathAnswer::Told {
+            is_broken: true,
+            ..
+        } => Verdict::DIFFERS,
+        PathAnswer::Unread(_) | PathAnswer::Refused(_) => Verdict::REFUSED,
+    }
+}
+
 /// Writes what answers a question, and `done STATUS` behind it. Of what is no question nothing is written.
 fn put_reply<K: Sink>(
     sink: &mut K,
@@ -192,6 +213,7 @@ fn put_body<K: Sink>(
         Reply::Answer(answer) => put_answer(sink, form, answer),
         Reply::Undone(text) => put(sink, text.as_slice()),
         Reply::Verified(found) => put(sink, found.text.as_slice()),
+        Reply::Traced(answer) => put_traced(sink, form, answer),
     }
 }
 
@@ -206,9 +228,11 @@ fn put_end<K: Sink>(sink: &mut K, form: Form, reply: &Reply) -> Result<(), Write
 {
     match reply {
         Reply::Silent => Ok(()),
-        Reply::Line(_) | Reply::Answer(_) | Reply::Undone(_) | Reply::Verified(_) => {
-            put_done(sink, form, &reply.verdict())
-        }
+        Reply::Line(_)
+        | Reply::Answer(_)
+        | Reply::Undone(_)
+        | Reply::Verified(_)
+        | Reply::Traced(_) => put_done(sink, form, &reply.verdict()),
     }
 }
 

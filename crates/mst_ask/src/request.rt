@@ -1,9 +1,10 @@
 ghost use Rattle.std.specs.Prelude.{◌≡◌, IfOk};
 ghost use Rattle.mst_lang.specs.Words.{words};
-ghost use Rattle.mst_ask.specs.Requests.{Stays, asked_as, asked_in, count_of, dot_of, dot_words, explain_words, request_of, summary_words, sweep_of, sweep_words, undo_words, verify_words};
+ghost use Rattle.mst_ask.specs.Requests.{Stays, asked_as, asked_in, count_of, dot_of, dot_words, explain_words, path_of, path_words, request_of, summary_words, sweep_of, sweep_words, undo_words, verify_words};
 
 use mst_lang::{Fault, LONGEST, Line, Version, are_plain, next_word, parse_line_as, parse_number};
 use mst_questions::Question;
+use mst_tracing::PathQuestion;
 
 /// What a line asks of a standing planner.
 pub enum Request {
@@ -15,6 +16,8 @@ pub enum Request {
     Undo(u64),
     /// The network is to be judged by the policy.
     Verify,
+    /// A path of the network is asked for.
+    Path(PathQuestion),
 }
 
 /// What a line asks, where scripts' lines are of this version, or the least fault of it. No word of the program that a line may have
@@ -59,6 +62,8 @@ fn asked_by_word(word: &[u8], behind: &[u8]) -> Option<Result<Request, Fault>>
         Some(undo(behind))
     } else if word == b"verify".as_slice() {
         Some(verify(behind))
+    } else if word == b"path".as_slice() {
+        Some(path(behind))
     } else {
         None
     }
@@ -169,5 +174,31 @@ fn verify(behind: &[u8]) -> Result<Request, Fault>
     match next_word(behind) {
         None => Ok(Request::Verify),
         Some(_) => Err(Fault::E01),
+    }
+}
+
+/// What `path` asks with the words behind it.
+fn path(behind: &[u8]) -> Result<Request, Fault>
+    ensures { result ≡ path_words (words behind.now) }
+{
+    let (vid, rest) = next_word(behind).ok_or(Fault::E01)?;
+    let (from, rest) = next_word(rest).ok_or(Fault::E01)?;
+    let (to, rest) = next_word(rest).ok_or(Fault::E01)?;
+    match next_word(rest) {
+        None => traced(PathQuestion::read(vid, from, to, None)),
+        Some((always, more)) => match next_word(more) {
+            None => traced(PathQuestion::read(vid, from, to, Some(always))),
+            Some(_) => Err(Fault::E01),
+        },
+    }
+}
+
+/// What such words ask, if they ask something.
+fn traced(question: Option<PathQuestion>) -> Result<Request, Fault>
+    ensures { result ≡ path_of question }
+{
+    match question {
+        Some(question) => Ok(Request::Path(question)),
+        None => Err(Fault::E01),
     }
 }

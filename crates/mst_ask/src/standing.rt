@@ -14,7 +14,7 @@ ghost use Rattle.mst_io.specs.Devices.{Works, IsStopped};
 ghost use Rattle.mst_io.specs.Written.{AppendsFront};
 ghost use Rattle.mst_questions.specs.tool.engine.print.Shape.{listed, of_script};
 ghost use Rattle.mst_questions.specs.Ask.{keeps};
-ghost use Rattle.mst_ask.specs.declared.request.Request.TheVariants.{Script as Said, Word, Undo, Verify};
+ghost use Rattle.mst_ask.specs.declared.request.Request.TheVariants.{Script as Said, Word, Undo, Verify, Path};
 ghost use Rattle.mst_ask.specs.Answering.{IsLoaded, LoadsLines};
 ghost use Rattle.mst_ask.specs.Kept.{IsKept, Keeps, SameScript, lines_kept, lines_net, made_by, net_of_script, rows_of, standing_of};
 ghost use Rattle.mst_ask.specs.Lines.{lines_in};
@@ -36,6 +36,7 @@ use mst_questions::{
     Engine, Form, Input, Planner, Question, Reply as LineReply, Shape, Side, answer_to, print,
     serve,
 };
+use mst_tracing::{PathQuestion, traced};
 use mst_verifying::verified;
 use std::alloc::{AllocError, Global};
 
@@ -226,6 +227,7 @@ impl Standing {
             Ok(Request::Word(question)) => self.answer(&question),
             Ok(Request::Undo(count)) => self.undo(count),
             Ok(Request::Verify) => self.verify(),
+            Ok(Request::Path(question)) => self.trace(&question),
         }
     }
 
@@ -311,6 +313,19 @@ impl Standing {
     {
         match verified(self.alloc, self.form, &mut self.planner, &self.policy) {
             Ok(found) => Reply::Verified(found),
+            Err(_) => Reply::Line(LineReply::Starved),
+        }
+    }
+
+    /// Tells a path.
+    fn trace(&mut self, question: &PathQuestion) -> Reply
+        requires kept { IsKept self.old }
+        ensures kept { IsKept self.new }
+        ensures same { SameScript self.old self.new }
+        ensures asked { (number : ℕ) (line : List ℕ) → Asks self.old.form number (standing_of self.old) line (Ok (Path question.now)) (replied self.old.form number (standing_of self.new) result) }
+    {
+        match traced(self.alloc, &mut self.planner, self.form, question) {
+            Ok(answer) => Reply::Traced(answer),
             Err(_) => Reply::Line(LineReply::Starved),
         }
     }

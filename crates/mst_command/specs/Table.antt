@@ -3,7 +3,7 @@ use Rattle.std.specs.Prelude.{ℕ, Bool, true, false, List, [], ◌∷◌, Optio
 use Rattle.std.specs.Str.{bytes_eq}
 use Rattle.mst_command.specs.declared.table.Place.{Place as DeclaredPlace}
 use Rattle.mst_command.specs.declared.table.Verb.{Verb}
-use Rattle.mst_command.specs.declared.table.Verb.TheVariants.{Run, Check, Explain, Diff, Sweep, Summary, Dot, Ask, Verify, Edits, Steps, Advise}
+use Rattle.mst_command.specs.declared.table.Verb.TheVariants.{Run, Check, Explain, Diff, Sweep, Summary, Dot, Ask, Verify, Edits, Steps, Advise, Path}
 
 -- a place behind a word of the program: what help calls it, and whether a word has to stand there
 pub record Place : Type 0 where
@@ -40,10 +40,11 @@ row_of Verify = row (codes "verify") (must (codes "FILE") ∷ must (codes "POLIC
 row_of Edits = row (codes "edits") (must (codes "OLD") ∷ must (codes "NEW") ∷ []) true
 row_of Steps = row (codes "steps") (must (codes "FILE") ∷ must (codes "CHANGE") ∷ may (codes "POLICY") ∷ []) true
 row_of Advise = row (codes "advise") (must (codes "FILE") ∷ must (codes "GOAL") ∷ must (codes "TREE") ∷ must (codes "B") ∷ may (codes "P") ∷ []) true
+row_of Path = row (codes "path") (must (codes "FILE") ∷ must (codes "VID") ∷ must (codes "A") ∷ must (codes "B") ∷ may (codes "ALWAYS") ∷ []) true
 
 -- all of them
 abbrev pub verbs : List Verb
-verbs = Run ∷ Check ∷ Explain ∷ Diff ∷ Sweep ∷ Summary ∷ Dot ∷ Ask ∷ Verify ∷ Edits ∷ Steps ∷ Advise ∷ []
+verbs = Run ∷ Check ∷ Explain ∷ Diff ∷ Sweep ∷ Summary ∷ Dot ∷ Ask ∷ Verify ∷ Edits ∷ Steps ∷ Advise ∷ Path ∷ []
 
 -- the word of this name
 abbrev pub verb_named : List ℕ → Option Verb

@@ -1,9 +1,9 @@
 /// The number of this release, which `--version` prints behind the program's name.
-pub(crate) const VERSION: &str = "0.59.0";
+pub(crate) const VERSION: &str = "0.60.0";
 
 /// What `--version --json` prints: the release, the version of the lines of JSON, and the latest version of scripts.
 pub(crate) const VERSION_RECORD: &str =
-    "{\"kind\":\"version\",\"release\":\"0.59.0\",\"json\":2,\"script\":2}\n";
+    "{\"kind\":\"version\",\"release\":\"0.60.0\",\"json\":2,\"script\":2}\n";
 
 /// What stands at the end of the program's help: the commands of scripts, the exit statuses, and where all of it is said.
 pub(crate) const PAGE: &str = "\
@@ -49,7 +49,8 @@ themselves.
 
 Lines that ask FILE answers on standard input, of the network that stands then; 'done STATUS' ends each answer:
   any of these commands           an edit changes the network
-  explain B P, explain B P TREE, summary, sweep, sweep K/N, sweep pairs, sweep pairs K/N, dot TREE, dot vlan VID
+  explain B P, explain B P TREE, summary, sweep, sweep K/N, sweep pairs, sweep pairs K/N, dot TREE, dot vlan VID,
+  path VID A B, path VID A B always
                                   what the program's words of these names print
   verify                          whether the network does what POLICY promises, as the word verify prints it
   undo, undo N                    takes back the last edit, or the last N
@@ -74,15 +75,15 @@ settles after it. With a policy what each step changes of it is told, too. What 
 
 Flags, anywhere among the words before --, behind which no word is a flag:
   --json    what is printed is JSON, a line for each answer, and for each record of a capture (run, check, explain, diff,
-            sweep, summary, ask, verify, edits, steps, advise)
+            sweep, summary, ask, verify, edits, steps, advise, path)
   --hints   standard error has what would be right in each line of a script, a policy or a change that isn't read, and what
             stands in the way of each line of a script that is refused
 
 Exit statuses:
   0  nothing of the below
   1  a line or a capture was refused, a capture differs from the plan, a port isn't explained, two networks differ, a failure, a
-     pair of failures or a step of a change cuts a VLAN, a promise of a policy isn't kept, or is broken by a step, or nothing is
-     promised, captured or advised
+     pair of failures or a step of a change cuts a VLAN, a promise of a policy isn't kept, or is broken by a step, there is no
+     path, now or after a failure, or nothing is promised, captured or advised
   2  the program's words are wrong
   3  a file couldn't be opened, a read or a write failed, or memory was wanted and refused
 

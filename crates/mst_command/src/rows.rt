@@ -334,3 +334,44 @@ Examples:
   mstplan advise campus.script root 0 dist2
   mstplan advise --json campus.script forward 0 acc1 2",
 };
+
+/// The row of `path`.
+pub(crate) const PATH: Row<'static> = Row {
+    name: "path",
+    about: "Makes the network of a script, and tells the path of a VLAN between two bridges there",
+    places: &[
+        SCRIPT,
+        Place {
+            name: "VID",
+            help: "The VLAN, 1 to 4094",
+            is_wanted: true,
+        },
+        Place {
+            name: "A",
+            help: "The name of the bridge that frames come from",
+            is_wanted: true,
+        },
+        Place {
+            name: "B",
+            help: "The name of the bridge that they go to",
+            is_wanted: true,
+        },
+        Place {
+            name: "ALWAYS",
+            help: "The word always: what becomes of the path after each single failure, too",
+            is_wanted: false,
+        },
+    ],
+    is_json: true,
+    forms: "\
+Forms: mstplan path FILE VID A B
+       mstplan path FILE VID A B always
+Flags: --json, --hints.
+
+Exit status: 0, or 1 where a line was refused or there is no path, now or after some failure; 2 and
+3 as mstplan --help says.
+
+Examples:
+  mstplan path campus.script 30 acc1 core1
+  mstplan path --json campus.script 30 acc1 acc2 always",
+};

@@ -32,6 +32,8 @@ pub enum Verb {
     Steps,
     /// Tells which settings bring about what is wanted of the network of a script.
     Advise,
+    /// Tells the path of a VLAN between two bridges of the network of a script, and what becomes of it after each single failure.
+    Path,
 }
 
 /// A place behind a word of the program, in which another stands.
@@ -71,7 +73,7 @@ pub(crate) const FOURTH: &str = "4";
 pub(crate) const FIFTH: &str = "5";
 
 /// All words of the program, as help tells of them.
-pub const VERBS: [Verb; 12] = [
+pub const VERBS: [Verb; 13] = [
     Verb::Run,
     Verb::Check,
     Verb::Explain,
@@ -84,6 +86,7 @@ pub const VERBS: [Verb; 12] = [
     Verb::Edits,
     Verb::Steps,
     Verb::Advise,
+    Verb::Path,
 ];
 
 impl Verb {
@@ -106,6 +109,7 @@ impl Verb {
             Verb::Edits => rows::EDITS,
             Verb::Steps => rows::STEPS,
             Verb::Advise => rows::ADVISE,
+            Verb::Path => rows::PATH,
         }
     }
 

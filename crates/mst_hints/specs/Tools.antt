@@ -24,6 +24,7 @@ own_sayings =
     (codes "steps", codes "steps is a word of the program: mstplan steps FILE CHANGE") ∷
     (codes "edits", codes "edits is a word of the program: mstplan edits OLD NEW") ∷
     (codes "advise", codes "advise is a word of the program: mstplan advise FILE root TREE B") ∷
+    (codes "path", codes "path is a word of the program: mstplan path FILE VID A B") ∷
     (codes "mstplan", codes "mstplan 2 is the first line of a script of version 2, and stands in no other") ∷
     (codes "root region role reach apart leaf depth carries avoids fits after always", codes "that is a line of a policy: mstplan verify FILE POLICY") ∷
     []

@@ -7,7 +7,7 @@ ghost use Rattle.mst_hints.specs.Tools.{asks as asks_something, is_among, own_sa
 use crate::words::{has_word, next_word};
 
 /// Words of this program and of a policy's lines, and what is said where one of them stands first in a line.
-const OWN_SAYINGS: [(&[u8], &[u8]); 14] = [
+const OWN_SAYINGS: [(&[u8], &[u8]); 15] = [
     (b"run", b"run is a word of the program: mstplan run FILE"),
     (
         b"check",
@@ -49,6 +49,10 @@ const OWN_SAYINGS: [(&[u8], &[u8]); 14] = [
     (
         b"advise",
         b"advise is a word of the program: mstplan advise FILE root TREE B",
+    ),
+    (
+        b"path",
+        b"path is a word of the program: mstplan path FILE VID A B",
     ),
     (
         b"mstplan",

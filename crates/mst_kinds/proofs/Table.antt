@@ -45,6 +45,8 @@ use Rattle.mst_kinds.specs.declared.step_line.StepLine.{StepLine}
 use Rattle.mst_kinds.specs.declared.step_line.StepLine.TheVariants as step_line
 use Rattle.mst_kinds.specs.declared.advise_line.AdviseLine.{AdviseLine}
 use Rattle.mst_kinds.specs.declared.advise_line.AdviseLine.TheVariants as advise_line
+use Rattle.mst_kinds.specs.declared.path_line.PathLine.{PathLine}
+use Rattle.mst_kinds.specs.declared.path_line.PathLine.TheVariants as path_line
 
 -- ---- a number of a text and of a shape
 abbrev text_number : ℕ → List ℕ → ℕ
@@ -63,7 +65,7 @@ found n (p ∷ ps) = if p.0 == n then Some p.1 else found n ps
 
 -- ---- keys
 all_keys : List Key
-all_keys = key.Tree ∷ key.Vid ∷ key.Bridge ∷ key.Port ∷ key.Part ∷ key.PartCount ∷ key.Of ∷ key.Power ∷ key.BridgeId ∷ key.RootId ∷ key.Ext ∷ key.RegionalId ∷ key.Regional ∷ key.Int ∷ key.DesignatedId ∷ key.DesignatedBridge ∷ key.DesignatedPortId ∷ key.ReceiverId ∷ key.Lan ∷ key.Role ∷ key.PortId ∷ key.Vids ∷ key.Active ∷ key.Bridges ∷ key.Lans ∷ key.Region ∷ key.RegionKind ∷ key.Name ∷ key.Revision ∷ key.Digest ∷ key.LagId ∷ key.Speed ∷ key.Up ∷ key.Ports ∷ key.Note ∷ key.Depth ∷ key.Limit ∷ key.OldVector ∷ key.NewVector ∷ key.OldRole ∷ key.NewRole ∷ key.OldRegion ∷ key.NewRegion ∷ key.OldRoot ∷ key.NewRoot ∷ key.OldIslands ∷ key.NewIslands ∷ key.RegionCount ∷ key.RootCount ∷ key.PortCount ∷ key.VlanCount ∷ key.Version ∷ key.Mac ∷ key.BridgeKind ∷ key.SystemPriority ∷ key.MaxHops ∷ key.MaxAge ∷ key.Priority ∷ key.AggregationKey ∷ key.PortPriority ∷ key.Vlans ∷ key.Restricted ∷ key.State ∷ key.Designated ∷ key.OffBridge ∷ key.DownLan ∷ key.Winner ∷ key.Loser ∷ key.Field ∷ key.Value ∷ key.LoserValue ∷ key.ValueId ∷ key.LoserId ∷ key.Failure ∷ key.OtherFailure ∷ key.Trees ∷ key.Parts ∷ key.LanCount ∷ key.BridgeCount ∷ key.CutCount ∷ key.PairCount ∷ key.OnCount ∷ key.EnabledCount ∷ key.TreeCount ∷ key.Root ∷ key.Next ∷ key.NextPriority ∷ key.IslandCount ∷ key.Line ∷ key.Result ∷ key.TreeKind ∷ key.Plan ∷ key.Captured ∷ key.PlanText ∷ key.CapturedText ∷ key.Error ∷ key.Text ∷ key.Hint ∷ key.Side ∷ key.Status ∷ key.Expectation ∷ key.Joined ∷ key.ExpectationCount ∷ key.HoldCount ∷ key.Step ∷ key.Lines ∷ key.MovedVids ∷ key.CutVids ∷ key.JoinedVids ∷ key.StepCount ∷ key.MovingCount ∷ key.CuttingCount ∷ key.FailingCount ∷ key.Goal ∷ key.Command ∷ key.EditCount ∷ key.Look ∷ key.OtherName ∷ key.OtherBridges ∷ key.NextSpeed ∷ key.CaptureCount ∷ key.AgreeCount ∷ key.UnkeptCount ∷ key.FailureCount ∷ key.NetworkCount ∷ key.TrialCount ∷ key.Promises ∷ key.Promise ∷ key.Scope ∷ key.Finally ∷ key.Holds ∷ key.Because ∷ key.OtherPort ∷ key.OtherVids ∷ []
+all_keys = key.Tree ∷ key.Vid ∷ key.Bridge ∷ key.Port ∷ key.Part ∷ key.PartCount ∷ key.Of ∷ key.Power ∷ key.BridgeId ∷ key.RootId ∷ key.Ext ∷ key.RegionalId ∷ key.Regional ∷ key.Int ∷ key.DesignatedId ∷ key.DesignatedBridge ∷ key.DesignatedPortId ∷ key.ReceiverId ∷ key.Lan ∷ key.Role ∷ key.PortId ∷ key.Vids ∷ key.Active ∷ key.Bridges ∷ key.Lans ∷ key.Region ∷ key.RegionKind ∷ key.Name ∷ key.Revision ∷ key.Digest ∷ key.LagId ∷ key.Speed ∷ key.Up ∷ key.Ports ∷ key.Note ∷ key.Depth ∷ key.Limit ∷ key.OldVector ∷ key.NewVector ∷ key.OldRole ∷ key.NewRole ∷ key.OldRegion ∷ key.NewRegion ∷ key.OldRoot ∷ key.NewRoot ∷ key.OldIslands ∷ key.NewIslands ∷ key.RegionCount ∷ key.RootCount ∷ key.PortCount ∷ key.VlanCount ∷ key.Version ∷ key.Mac ∷ key.BridgeKind ∷ key.SystemPriority ∷ key.MaxHops ∷ key.MaxAge ∷ key.Priority ∷ key.AggregationKey ∷ key.PortPriority ∷ key.Vlans ∷ key.Restricted ∷ key.State ∷ key.Designated ∷ key.OffBridge ∷ key.DownLan ∷ key.Winner ∷ key.Loser ∷ key.Field ∷ key.Value ∷ key.LoserValue ∷ key.ValueId ∷ key.LoserId ∷ key.Failure ∷ key.OtherFailure ∷ key.Trees ∷ key.Parts ∷ key.LanCount ∷ key.BridgeCount ∷ key.CutCount ∷ key.PairCount ∷ key.OnCount ∷ key.EnabledCount ∷ key.TreeCount ∷ key.Root ∷ key.Next ∷ key.NextPriority ∷ key.IslandCount ∷ key.Line ∷ key.Result ∷ key.TreeKind ∷ key.Plan ∷ key.Captured ∷ key.PlanText ∷ key.CapturedText ∷ key.Error ∷ key.Text ∷ key.Hint ∷ key.Side ∷ key.Status ∷ key.Expectation ∷ key.Joined ∷ key.ExpectationCount ∷ key.HoldCount ∷ key.Step ∷ key.Lines ∷ key.MovedVids ∷ key.CutVids ∷ key.JoinedVids ∷ key.StepCount ∷ key.MovingCount ∷ key.CuttingCount ∷ key.FailingCount ∷ key.Goal ∷ key.Command ∷ key.EditCount ∷ key.Look ∷ key.OtherName ∷ key.OtherBridges ∷ key.NextSpeed ∷ key.CaptureCount ∷ key.AgreeCount ∷ key.UnkeptCount ∷ key.FailureCount ∷ key.NetworkCount ∷ key.TrialCount ∷ key.Promises ∷ key.Promise ∷ key.Scope ∷ key.Finally ∷ key.Holds ∷ key.Because ∷ key.OtherPort ∷ key.OtherVids ∷ key.From ∷ key.To ∷ key.Hop ∷ key.HopCount ∷ key.OtherCount ∷ key.NoneCount ∷ []
 
 numbered_keys : List (ℕ × Key)
 unfolding all_keys
@@ -205,6 +207,12 @@ key_found key.Holds = refl
 key_found key.Because = refl
 key_found key.OtherPort = refl
 key_found key.OtherVids = refl
+key_found key.From = refl
+key_found key.To = refl
+key_found key.Hop = refl
+key_found key.HopCount = refl
+key_found key.OtherCount = refl
+key_found key.NoneCount = refl
 
 pub keys_differ : (k l : Key) → key_text k ≡ key_text l → k ≡ l
 keys_differ k l e =
@@ -212,7 +220,7 @@ keys_differ k l e =
 
 -- ---- kinds
 all_kinds : List Kind
-all_kinds = kind.Query query.ShowTree ∷ kind.Query query.ShowPlan ∷ kind.Query query.ShowVlan ∷ kind.Query query.ShowLag ∷ kind.Query query.ShowRegions ∷ kind.Query query.ShowMstconfid ∷ kind.Query query.ShowNotes ∷ kind.Query query.Changes ∷ kind.Query query.Save ∷ kind.Query query.Explain ∷ kind.Query query.ExplainIn ∷ kind.Query query.Diff ∷ kind.Query query.Sweep ∷ kind.Query query.SweepPart ∷ kind.Query query.SweepPairs ∷ kind.Query query.SweepPairsPart ∷ kind.Query query.Summary ∷ kind.Query query.Check ∷ kind.Query query.Verify ∷ kind.Query query.Steps ∷ kind.Query query.Edits ∷ kind.Query query.AdviseRoot ∷ kind.Query query.AdviseForward ∷ kind.Query query.Digest ∷ kind.Tree tree_line.Heading ∷ kind.Tree tree_line.BridgeOff ∷ kind.Tree tree_line.BridgeInCist ∷ kind.Tree tree_line.BridgeInMsti ∷ kind.Tree tree_line.PortDisabled ∷ kind.Tree tree_line.PortInCist ∷ kind.Tree tree_line.PortInMsti ∷ kind.Vlan vlan_line.Heading ∷ kind.Vlan vlan_line.Active ∷ kind.Vlan vlan_line.Island ∷ kind.Region region_line.Mstp ∷ kind.Region region_line.Rstp ∷ kind.Region region_line.Configuration ∷ kind.Region region_line.Msti ∷ kind.Region region_line.Lag ∷ kind.Note note_line.Hops ∷ kind.Note note_line.Age ∷ kind.Note note_line.ExternalCost ∷ kind.Note note_line.InternalCost ∷ kind.Note note_line.Restricted ∷ kind.Change change_line.Bridge ∷ kind.Change change_line.Port ∷ kind.Change change_line.Region ∷ kind.Change change_line.Root ∷ kind.Change change_line.Reach ∷ kind.Change change_line.Counts ∷ kind.OfBridge bridge_command.Version ∷ kind.OfBridge bridge_command.Add ∷ kind.OfBridge bridge_command.Off ∷ kind.OfBridge bridge_command.Rstp ∷ kind.OfBridge bridge_command.SystemPriority ∷ kind.OfBridge bridge_command.Configuration ∷ kind.OfBridge bridge_command.Msti ∷ kind.OfBridge bridge_command.MaxHops ∷ kind.OfBridge bridge_command.MaxAge ∷ kind.OfBridge bridge_command.Priority ∷ kind.OfBridge bridge_command.Delete ∷ kind.OfBridge bridge_command.On ∷ kind.OfBridge bridge_command.Mstp ∷ kind.OfPort port_command.Add ∷ kind.OfPort port_command.Key ∷ kind.OfPort port_command.ExternalCost ∷ kind.OfPort port_command.InternalCost ∷ kind.OfPort port_command.Priority ∷ kind.OfPort port_command.Vlans ∷ kind.OfPort port_command.NoVlans ∷ kind.OfPort port_command.Restricted ∷ kind.OfPort port_command.Plug ∷ kind.OfPort port_command.AddLan ∷ kind.OfPort port_command.LanDown ∷ kind.OfPort port_command.Speed ∷ kind.OfPort port_command.Delete ∷ kind.OfPort port_command.AllVlans ∷ kind.OfPort port_command.Unrestricted ∷ kind.OfPort port_command.Unplug ∷ kind.OfPort port_command.DeleteLan ∷ kind.OfPort port_command.LanUp ∷ kind.Explain explain_line.Port ∷ kind.Explain explain_line.Restricted ∷ kind.Explain explain_line.Boundary ∷ kind.Explain explain_line.BridgeOff ∷ kind.Explain explain_line.LanDown ∷ kind.Contest contest_line.DesignatedAlone ∷ kind.Contest contest_line.DesignatedOver ∷ kind.Contest contest_line.DesignatedByCost ∷ kind.Contest contest_line.DesignatedById ∷ kind.Contest contest_line.RootAlone ∷ kind.Contest contest_line.RootOver ∷ kind.Contest contest_line.RootByCost ∷ kind.Contest contest_line.RootById ∷ kind.Sweep sweep_line.Lan ∷ kind.Sweep sweep_line.Bridge ∷ kind.Sweep sweep_line.Cut ∷ kind.Sweep sweep_line.Counts ∷ kind.Sweep sweep_line.Pair ∷ kind.Sweep sweep_line.CutByPair ∷ kind.Sweep sweep_line.PairCounts ∷ kind.Summary summary_line.Counts ∷ kind.Summary summary_line.Root ∷ kind.Summary summary_line.RootAlone ∷ kind.Summary summary_line.Blocked ∷ kind.Summary summary_line.Vlan ∷ kind.Summary summary_line.Carries ∷ kind.Summary summary_line.CarriesAll ∷ kind.Summary summary_line.LookRegion ∷ kind.Summary summary_line.LookTable ∷ kind.Summary summary_line.LookLan ∷ kind.Summary summary_line.LookVlans ∷ kind.Summary summary_line.Digest ∷ kind.Capture capture_line.Agrees ∷ kind.Capture capture_line.Number ∷ kind.Capture capture_line.Text ∷ kind.Capture capture_line.MstiNumber ∷ kind.Capture capture_line.MstiText ∷ kind.Capture capture_line.Unplanned ∷ kind.Capture capture_line.Repeated ∷ kind.Capture capture_line.Missing ∷ kind.Capture capture_line.Unread ∷ kind.Capture capture_line.Counts ∷ kind.Refusal refusal_line.Line ∷ kind.Refusal refusal_line.Hinted ∷ kind.Refusal refusal_line.OldLine ∷ kind.Refusal refusal_line.NewLine ∷ kind.Refusal refusal_line.Explain ∷ kind.Refusal refusal_line.Dot ∷ kind.Refusal refusal_line.Policy ∷ kind.Refusal refusal_line.Change ∷ kind.Refusal refusal_line.Advise ∷ kind.Refusal refusal_line.StepPolicy ∷ kind.Refusal refusal_line.StepChange ∷ kind.Ask ask_line.Undone ∷ kind.Ask ask_line.Done ∷ kind.Verify verify_line.OtherRoot ∷ kind.Verify verify_line.NoRoot ∷ kind.Verify verify_line.OtherNext ∷ kind.Verify verify_line.Region ∷ kind.Verify verify_line.Role ∷ kind.Verify verify_line.Reach ∷ kind.Verify verify_line.Apart ∷ kind.Verify verify_line.Together ∷ kind.Verify verify_line.Leaf ∷ kind.Verify verify_line.Depth ∷ kind.Verify verify_line.Carries ∷ kind.Verify verify_line.Avoids ∷ kind.Verify verify_line.Hops ∷ kind.Verify verify_line.Age ∷ kind.Verify verify_line.ExternalCost ∷ kind.Verify verify_line.InternalCost ∷ kind.Verify verify_line.Same ∷ kind.Verify verify_line.Counts ∷ kind.StepVerify verify_line.OtherRoot ∷ kind.StepVerify verify_line.NoRoot ∷ kind.StepVerify verify_line.OtherNext ∷ kind.StepVerify verify_line.Region ∷ kind.StepVerify verify_line.Role ∷ kind.StepVerify verify_line.Reach ∷ kind.StepVerify verify_line.Apart ∷ kind.StepVerify verify_line.Together ∷ kind.StepVerify verify_line.Leaf ∷ kind.StepVerify verify_line.Depth ∷ kind.StepVerify verify_line.Carries ∷ kind.StepVerify verify_line.Avoids ∷ kind.StepVerify verify_line.Hops ∷ kind.StepVerify verify_line.Age ∷ kind.StepVerify verify_line.ExternalCost ∷ kind.StepVerify verify_line.InternalCost ∷ kind.StepVerify verify_line.Same ∷ kind.StepVerify verify_line.Counts ∷ kind.Step step_line.Step ∷ kind.Step step_line.Cut ∷ kind.Step step_line.Start ∷ kind.Step step_line.Mends ∷ kind.Step step_line.Restarts ∷ kind.Step step_line.Counts ∷ kind.Step step_line.JudgedCounts ∷ kind.Advise advise_line.Priority ∷ kind.Advise advise_line.ExternalCost ∷ kind.Advise advise_line.InternalCost ∷ kind.Advise advise_line.PortPriority ∷ kind.Advise advise_line.Does ∷ kind.Advise advise_line.Cut ∷ kind.Advise advise_line.Counts ∷ kind.Advise advise_line.None ∷ kind.Advise advise_line.BecauseOff ∷ kind.Advise advise_line.BecauseDown ∷ kind.Advise advise_line.BecauseApart ∷ kind.Advise advise_line.BecauseRestricted ∷ kind.Advise advise_line.BecauseTried ∷ []
+all_kinds = kind.Query query.ShowTree ∷ kind.Query query.ShowPlan ∷ kind.Query query.ShowVlan ∷ kind.Query query.ShowLag ∷ kind.Query query.ShowRegions ∷ kind.Query query.ShowMstconfid ∷ kind.Query query.ShowNotes ∷ kind.Query query.Changes ∷ kind.Query query.Save ∷ kind.Query query.Explain ∷ kind.Query query.ExplainIn ∷ kind.Query query.Diff ∷ kind.Query query.Sweep ∷ kind.Query query.SweepPart ∷ kind.Query query.SweepPairs ∷ kind.Query query.SweepPairsPart ∷ kind.Query query.Summary ∷ kind.Query query.Check ∷ kind.Query query.Verify ∷ kind.Query query.Steps ∷ kind.Query query.Edits ∷ kind.Query query.AdviseRoot ∷ kind.Query query.AdviseForward ∷ kind.Query query.Digest ∷ kind.Query query.Path ∷ kind.Query query.PathAlways ∷ kind.Tree tree_line.Heading ∷ kind.Tree tree_line.BridgeOff ∷ kind.Tree tree_line.BridgeInCist ∷ kind.Tree tree_line.BridgeInMsti ∷ kind.Tree tree_line.PortDisabled ∷ kind.Tree tree_line.PortInCist ∷ kind.Tree tree_line.PortInMsti ∷ kind.Vlan vlan_line.Heading ∷ kind.Vlan vlan_line.Active ∷ kind.Vlan vlan_line.Island ∷ kind.Region region_line.Mstp ∷ kind.Region region_line.Rstp ∷ kind.Region region_line.Configuration ∷ kind.Region region_line.Msti ∷ kind.Region region_line.Lag ∷ kind.Note note_line.Hops ∷ kind.Note note_line.Age ∷ kind.Note note_line.ExternalCost ∷ kind.Note note_line.InternalCost ∷ kind.Note note_line.Restricted ∷ kind.Change change_line.Bridge ∷ kind.Change change_line.Port ∷ kind.Change change_line.Region ∷ kind.Change change_line.Root ∷ kind.Change change_line.Reach ∷ kind.Change change_line.Counts ∷ kind.OfBridge bridge_command.Version ∷ kind.OfBridge bridge_command.Add ∷ kind.OfBridge bridge_command.Off ∷ kind.OfBridge bridge_command.Rstp ∷ kind.OfBridge bridge_command.SystemPriority ∷ kind.OfBridge bridge_command.Configuration ∷ kind.OfBridge bridge_command.Msti ∷ kind.OfBridge bridge_command.MaxHops ∷ kind.OfBridge bridge_command.MaxAge ∷ kind.OfBridge bridge_command.Priority ∷ kind.OfBridge bridge_command.Delete ∷ kind.OfBridge bridge_command.On ∷ kind.OfBridge bridge_command.Mstp ∷ kind.OfPort port_command.Add ∷ kind.OfPort port_command.Key ∷ kind.OfPort port_command.ExternalCost ∷ kind.OfPort port_command.InternalCost ∷ kind.OfPort port_command.Priority ∷ kind.OfPort port_command.Vlans ∷ kind.OfPort port_command.NoVlans ∷ kind.OfPort port_command.Restricted ∷ kind.OfPort port_command.Plug ∷ kind.OfPort port_command.AddLan ∷ kind.OfPort port_command.LanDown ∷ kind.OfPort port_command.Speed ∷ kind.OfPort port_command.Delete ∷ kind.OfPort port_command.AllVlans ∷ kind.OfPort port_command.Unrestricted ∷ kind.OfPort port_command.Unplug ∷ kind.OfPort port_command.DeleteLan ∷ kind.OfPort port_command.LanUp ∷ kind.Explain explain_line.Port ∷ kind.Explain explain_line.Restricted ∷ kind.Explain explain_line.Boundary ∷ kind.Explain explain_line.BridgeOff ∷ kind.Explain explain_line.LanDown ∷ kind.Contest contest_line.DesignatedAlone ∷ kind.Contest contest_line.DesignatedOver ∷ kind.Contest contest_line.DesignatedByCost ∷ kind.Contest contest_line.DesignatedById ∷ kind.Contest contest_line.RootAlone ∷ kind.Contest contest_line.RootOver ∷ kind.Contest contest_line.RootByCost ∷ kind.Contest contest_line.RootById ∷ kind.Sweep sweep_line.Lan ∷ kind.Sweep sweep_line.Bridge ∷ kind.Sweep sweep_line.Cut ∷ kind.Sweep sweep_line.Counts ∷ kind.Sweep sweep_line.Pair ∷ kind.Sweep sweep_line.CutByPair ∷ kind.Sweep sweep_line.PairCounts ∷ kind.Summary summary_line.Counts ∷ kind.Summary summary_line.Root ∷ kind.Summary summary_line.RootAlone ∷ kind.Summary summary_line.Blocked ∷ kind.Summary summary_line.Vlan ∷ kind.Summary summary_line.Carries ∷ kind.Summary summary_line.CarriesAll ∷ kind.Summary summary_line.LookRegion ∷ kind.Summary summary_line.LookTable ∷ kind.Summary summary_line.LookLan ∷ kind.Summary summary_line.LookVlans ∷ kind.Summary summary_line.Digest ∷ kind.Capture capture_line.Agrees ∷ kind.Capture capture_line.Number ∷ kind.Capture capture_line.Text ∷ kind.Capture capture_line.MstiNumber ∷ kind.Capture capture_line.MstiText ∷ kind.Capture capture_line.Unplanned ∷ kind.Capture capture_line.Repeated ∷ kind.Capture capture_line.Missing ∷ kind.Capture capture_line.Unread ∷ kind.Capture capture_line.Counts ∷ kind.Refusal refusal_line.Line ∷ kind.Refusal refusal_line.Hinted ∷ kind.Refusal refusal_line.OldLine ∷ kind.Refusal refusal_line.NewLine ∷ kind.Refusal refusal_line.Explain ∷ kind.Refusal refusal_line.Dot ∷ kind.Refusal refusal_line.Policy ∷ kind.Refusal refusal_line.Change ∷ kind.Refusal refusal_line.Advise ∷ kind.Refusal refusal_line.StepPolicy ∷ kind.Refusal refusal_line.StepChange ∷ kind.Refusal refusal_line.Path ∷ kind.Ask ask_line.Undone ∷ kind.Ask ask_line.Done ∷ kind.Verify verify_line.OtherRoot ∷ kind.Verify verify_line.NoRoot ∷ kind.Verify verify_line.OtherNext ∷ kind.Verify verify_line.Region ∷ kind.Verify verify_line.Role ∷ kind.Verify verify_line.Reach ∷ kind.Verify verify_line.Apart ∷ kind.Verify verify_line.Together ∷ kind.Verify verify_line.Leaf ∷ kind.Verify verify_line.Depth ∷ kind.Verify verify_line.Carries ∷ kind.Verify verify_line.Avoids ∷ kind.Verify verify_line.Hops ∷ kind.Verify verify_line.Age ∷ kind.Verify verify_line.ExternalCost ∷ kind.Verify verify_line.InternalCost ∷ kind.Verify verify_line.Same ∷ kind.Verify verify_line.Counts ∷ kind.StepVerify verify_line.OtherRoot ∷ kind.StepVerify verify_line.NoRoot ∷ kind.StepVerify verify_line.OtherNext ∷ kind.StepVerify verify_line.Region ∷ kind.StepVerify verify_line.Role ∷ kind.StepVerify verify_line.Reach ∷ kind.StepVerify verify_line.Apart ∷ kind.StepVerify verify_line.Together ∷ kind.StepVerify verify_line.Leaf ∷ kind.StepVerify verify_line.Depth ∷ kind.StepVerify verify_line.Carries ∷ kind.StepVerify verify_line.Avoids ∷ kind.StepVerify verify_line.Hops ∷ kind.StepVerify verify_line.Age ∷ kind.StepVerify verify_line.ExternalCost ∷ kind.StepVerify verify_line.InternalCost ∷ kind.StepVerify verify_line.Same ∷ kind.StepVerify verify_line.Counts ∷ kind.Step step_line.Step ∷ kind.Step step_line.Cut ∷ kind.Step step_line.Start ∷ kind.Step step_line.Mends ∷ kind.Step step_line.Restarts ∷ kind.Step step_line.Counts ∷ kind.Step step_line.JudgedCounts ∷ kind.Advise advise_line.Priority ∷ kind.Advise advise_line.ExternalCost ∷ kind.Advise advise_line.InternalCost ∷ kind.Advise advise_line.PortPriority ∷ kind.Advise advise_line.Does ∷ kind.Advise advise_line.Cut ∷ kind.Advise advise_line.Counts ∷ kind.Advise advise_line.None ∷ kind.Advise advise_line.BecauseOff ∷ kind.Advise advise_line.BecauseDown ∷ kind.Advise advise_line.BecauseApart ∷ kind.Advise advise_line.BecauseRestricted ∷ kind.Advise advise_line.BecauseTried ∷ kind.Path path_line.Path ∷ kind.Path path_line.None ∷ kind.Path path_line.Hop ∷ kind.Path path_line.Lan ∷ kind.Path path_line.Bridge ∷ kind.Path path_line.NoneByLan ∷ kind.Path path_line.NoneByBridge ∷ kind.Path path_line.Counts ∷ []
 
 numbered_kinds : List (ℕ × Kind)
 unfolding all_kinds
@@ -244,6 +252,8 @@ query_found query.Edits = refl
 query_found query.AdviseRoot = refl
 query_found query.AdviseForward = refl
 query_found query.Digest = refl
+query_found query.Path = refl
+query_found query.PathAlways = refl
 
 tree_line_found : (l : TreeLine) → found (shape_number (shape_of (kind.Tree l))) numbered_kinds ≡ Some (kind.Tree l)
 unfolding all_kinds numbered_kinds
@@ -393,6 +403,7 @@ refusal_line_found refusal_line.Change = refl
 refusal_line_found refusal_line.Advise = refl
 refusal_line_found refusal_line.StepPolicy = refl
 refusal_line_found refusal_line.StepChange = refl
+refusal_line_found refusal_line.Path = refl
 
 ask_line_found : (l : AskLine) → found (shape_number (shape_of (kind.Ask l))) numbered_kinds ≡ Some (kind.Ask l)
 unfolding all_kinds numbered_kinds
@@ -467,6 +478,17 @@ advise_line_found advise_line.BecauseApart = refl
 advise_line_found advise_line.BecauseRestricted = refl
 advise_line_found advise_line.BecauseTried = refl
 
+path_line_found : (l : PathLine) → found (shape_number (shape_of (kind.Path l))) numbered_kinds ≡ Some (kind.Path l)
+unfolding all_kinds numbered_kinds
+path_line_found path_line.Path = refl
+path_line_found path_line.None = refl
+path_line_found path_line.Hop = refl
+path_line_found path_line.Lan = refl
+path_line_found path_line.Bridge = refl
+path_line_found path_line.NoneByLan = refl
+path_line_found path_line.NoneByBridge = refl
+path_line_found path_line.Counts = refl
+
 kind_found : (k : Kind) → found (shape_number (shape_of k)) numbered_kinds ≡ Some k
 kind_found (kind.Query l) = query_found l
 kind_found (kind.Tree l) = tree_line_found l
@@ -487,6 +509,7 @@ kind_found (kind.Verify l) = verify_line_found l
 kind_found (kind.StepVerify l) = step_verify_found l
 kind_found (kind.Step l) = step_line_found l
 kind_found (kind.Advise l) = advise_line_found l
+kind_found (kind.Path l) = path_line_found l
 
 pub kinds_differ : (k l : Kind) → shape_of k ≡ shape_of l → k ≡ l
 kinds_differ k l e =

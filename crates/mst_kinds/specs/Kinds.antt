@@ -43,6 +43,8 @@ use Rattle.mst_kinds.specs.declared.step_line.StepLine.{StepLine}
 use Rattle.mst_kinds.specs.declared.step_line.StepLine.TheVariants as step_line
 use Rattle.mst_kinds.specs.declared.advise_line.AdviseLine.{AdviseLine}
 use Rattle.mst_kinds.specs.declared.advise_line.AdviseLine.TheVariants as advise_line
+use Rattle.mst_kinds.specs.declared.path_line.PathLine.{PathLine}
+use Rattle.mst_kinds.specs.declared.path_line.PathLine.TheVariants as path_line
 
 -- ---- a query, with its words
 abbrev pub first_of_query : Query → Mark
@@ -70,6 +72,8 @@ first_of_query query.Edits = mark.Edits
 first_of_query query.AdviseRoot = mark.Advise
 first_of_query query.AdviseForward = mark.Advise
 first_of_query query.Digest = mark.Digest
+first_of_query query.Path = mark.Path
+first_of_query query.PathAlways = mark.Path
 
 abbrev pub parts_of_query : Query → List Part
 -- `showtree T`
@@ -120,6 +124,10 @@ parts_of_query query.AdviseRoot = part.Said key.Goal mark.Root ∷ part.Key key.
 parts_of_query query.AdviseForward = part.Said key.Goal mark.Forward ∷ part.Key key.Tree ∷ part.Key key.Bridge ∷ part.Key key.Port ∷ []
 -- `digest`
 parts_of_query query.Digest = []
+-- `path VID A B`
+parts_of_query query.Path = part.Key key.Vid ∷ part.Key key.From ∷ part.Key key.To ∷ []
+-- `path VID A B always`
+parts_of_query query.PathAlways = part.Key key.Vid ∷ part.Key key.From ∷ part.Key key.To ∷ part.Said key.Scope mark.Always ∷ []
 
 -- ---- a line of the text of a tree
 abbrev pub first_of_tree_line : TreeLine → Mark
@@ -490,6 +498,7 @@ first_of_refusal_line refusal_line.Change = mark.Change
 first_of_refusal_line refusal_line.Advise = mark.Advise
 first_of_refusal_line refusal_line.StepPolicy = mark.Policy
 first_of_refusal_line refusal_line.StepChange = mark.Change
+first_of_refusal_line refusal_line.Path = mark.Path
 
 abbrev pub parts_of_refusal_line : RefusalLine → List Part
 -- `line N CODE TEXT`
@@ -514,6 +523,8 @@ parts_of_refusal_line refusal_line.Advise = part.Key key.Error ∷ part.Key key.
 parts_of_refusal_line refusal_line.StepPolicy = part.Above key.Step ∷ part.Key key.Line ∷ part.Key key.Error ∷ part.Key key.Text ∷ []
 -- `change N CODE TEXT`, behind a step
 parts_of_refusal_line refusal_line.StepChange = part.Above key.Step ∷ part.Key key.Line ∷ part.Key key.Error ∷ part.Key key.Text ∷ []
+-- `path CODE TEXT`
+parts_of_refusal_line refusal_line.Path = part.Key key.Error ∷ part.Key key.Text ∷ []
 
 -- ---- a line of a standing planner
 abbrev pub first_of_ask_line : AskLine → Mark
@@ -659,6 +670,35 @@ parts_of_advise_line advise_line.BecauseRestricted = part.Said key.Because mark.
 -- `because tried N`
 parts_of_advise_line advise_line.BecauseTried = part.Said key.Because mark.Tried ∷ part.Key key.TrialCount ∷ []
 
+-- ---- a line of the path between two bridges
+abbrev pub first_of_path_line : PathLine → Mark
+first_of_path_line path_line.Path = mark.Path
+first_of_path_line path_line.None = mark.Path
+first_of_path_line path_line.Hop = mark.Hop
+first_of_path_line path_line.Lan = mark.Lan
+first_of_path_line path_line.Bridge = mark.Bridge
+first_of_path_line path_line.NoneByLan = mark.Lan
+first_of_path_line path_line.NoneByBridge = mark.Bridge
+first_of_path_line path_line.Counts = mark.Path
+
+abbrev pub parts_of_path_line : PathLine → List Part
+-- `path VID A B hops N`
+parts_of_path_line path_line.Path = part.Key key.Vid ∷ part.Key key.From ∷ part.Key key.To ∷ part.Mark mark.Hops ∷ part.Key key.HopCount ∷ []
+-- `path VID A B none`
+parts_of_path_line path_line.None = part.Key key.Vid ∷ part.Key key.From ∷ part.Key key.To ∷ part.Said key.Result mark.None ∷ []
+-- `hop K B:P L C:Q`
+parts_of_path_line path_line.Hop = part.Above key.Vid ∷ part.Above key.From ∷ part.Above key.To ∷ part.Key key.Hop ∷ part.Port ∷ part.Key key.Lan ∷ part.Key key.OtherPort ∷ []
+-- `lan L hops N by A,..,B`
+parts_of_path_line path_line.Lan = part.Above key.Vid ∷ part.Above key.From ∷ part.Above key.To ∷ part.Above key.Failure ∷ part.Key key.Lan ∷ part.Mark mark.Hops ∷ part.Key key.HopCount ∷ part.Mark mark.By ∷ part.Commas key.Bridges ∷ []
+-- `bridge B hops N by A,..,B`
+parts_of_path_line path_line.Bridge = part.Above key.Vid ∷ part.Above key.From ∷ part.Above key.To ∷ part.Above key.Failure ∷ part.Key key.Bridge ∷ part.Mark mark.Hops ∷ part.Key key.HopCount ∷ part.Mark mark.By ∷ part.Commas key.Bridges ∷ []
+-- `lan L none`
+parts_of_path_line path_line.NoneByLan = part.Above key.Vid ∷ part.Above key.From ∷ part.Above key.To ∷ part.Above key.Failure ∷ part.Key key.Lan ∷ part.Said key.Result mark.None ∷ []
+-- `bridge B none`
+parts_of_path_line path_line.NoneByBridge = part.Above key.Vid ∷ part.Above key.From ∷ part.Above key.To ∷ part.Above key.Failure ∷ part.Key key.Bridge ∷ part.Said key.Result mark.None ∷ []
+-- `path failures N other N none N`
+parts_of_path_line path_line.Counts = part.Above key.Vid ∷ part.Above key.From ∷ part.Above key.To ∷ part.Mark mark.Failures ∷ part.Key key.FailureCount ∷ part.Mark mark.Other ∷ part.Key key.OtherCount ∷ part.Mark mark.None ∷ part.Key key.NoneCount ∷ []
+
 -- ---- all kinds
 abbrev pub first_of : Kind → Mark
 first_of (kind.Query line) = first_of_query line
@@ -680,6 +720,7 @@ first_of (kind.Verify line) = first_of_verify_line line
 first_of (kind.StepVerify line) = first_of_verify_line line
 first_of (kind.Step line) = first_of_step_line line
 first_of (kind.Advise line) = first_of_advise_line line
+first_of (kind.Path line) = first_of_path_line line
 
 abbrev pub parts_of : Kind → List Part
 parts_of (kind.Query line) = parts_of_query line
@@ -701,3 +742,4 @@ parts_of (kind.Verify line) = parts_of_verify_line line
 parts_of (kind.StepVerify line) = parts_behind_step line
 parts_of (kind.Step line) = parts_of_step_line line
 parts_of (kind.Advise line) = parts_of_advise_line line
+parts_of (kind.Path line) = parts_of_path_line line

@@ -36,7 +36,7 @@ all_differ (name ∷ names) = not (list_any (same_text name) names) && all_diffe
 
 -- the keys for which words of the table stand, and never values
 unfoldable pub worded : List (List ℕ)
-worded = codes "of" ∷ codes "power" ∷ codes "region_kind" ∷ codes "note" ∷ codes "bridge_kind" ∷ codes "vlans" ∷ codes "restricted" ∷ codes "state" ∷ codes "result" ∷ codes "tree_kind" ∷ codes "side" ∷ codes "expectation" ∷ codes "goal" ∷ codes "command" ∷ codes "look" ∷ codes "because" ∷ []
+worded = codes "of" ∷ codes "power" ∷ codes "region_kind" ∷ codes "note" ∷ codes "bridge_kind" ∷ codes "vlans" ∷ codes "restricted" ∷ codes "state" ∷ codes "result" ∷ codes "tree_kind" ∷ codes "side" ∷ codes "expectation" ∷ codes "goal" ∷ codes "command" ∷ codes "look" ∷ codes "because" ∷ codes "scope" ∷ []
 
 abbrev pub is_worded : List ℕ → Bool
 is_worded name = list_any (same_text name) worded

@@ -110,6 +110,10 @@ sort_of key.Finally = flags
 sort_of key.Holds = flags
 sort_of key.OtherPort = a_port
 sort_of key.OtherVids = vids
+sort_of key.Hop = numbers
+sort_of key.HopCount = numbers
+sort_of key.OtherCount = numbers
+sort_of key.NoneCount = numbers
 sort_of k = words
 
 -- the types of the values that a part takes, and those of a kind, in their order

@@ -182,7 +182,7 @@ pub enum Key {
     IslandCount,
     /// The number of a line, from 1 on; 0 of a policy as a whole.
     Line,
-    /// `agrees`, `unplanned`, `repeated` or `missing` of a capture; `none` of advice.
+    /// `agrees`, `unplanned`, `repeated` or `missing` of a capture; `none` of advice and of a path.
     Result,
     /// `cist` or `msti`: which part of the message.
     TreeKind,
@@ -250,7 +250,7 @@ pub enum Key {
     AgreeCount,
     /// How many lines of a policy aren't kept in a network.
     UnkeptCount,
-    /// After how many failures a reason is there that is told without them.
+    /// How many failures; in `same` those after which a reason is there that is told without them.
     FailureCount,
     /// In how many networks a promise is judged.
     NetworkCount,
@@ -260,7 +260,7 @@ pub enum Key {
     Promises,
     /// The words of a promise, with one space between.
     Promise,
-    /// `always`, `after lan` or `after bridge`: the scope of a promise; null where it has none.
+    /// `always`, `after lan` or `after bridge`: the scope of a promise, null where it has none; `always` of a path.
     Scope,
     /// Whether a promise is one of the end alone.
     Finally,
@@ -272,6 +272,18 @@ pub enum Key {
     OtherPort,
     /// The VIDs of the other port.
     OtherVids,
+    /// The name of the bridge that a path leads from.
+    From,
+    /// The name of the bridge that a path leads to.
+    To,
+    /// The number of a hop, from 1 on.
+    Hop,
+    /// How many hops a path has.
+    HopCount,
+    /// After how many failures a path is another one.
+    OtherCount,
+    /// After how many failures there is no path any more.
+    NoneCount,
 }
 
 impl Key {
@@ -414,6 +426,12 @@ impl Key {
             Key::Because => b"because",
             Key::OtherPort => b"other_port",
             Key::OtherVids => b"other_vids",
+            Key::From => b"from",
+            Key::To => b"to",
+            Key::Hop => b"hop",
+            Key::HopCount => b"hop_count",
+            Key::OtherCount => b"other_count",
+            Key::NoneCount => b"none_count",
         }
     }
 }

@@ -11,6 +11,7 @@ use crate::explain_line::ExplainLine;
 use crate::mark::Mark;
 use crate::note_line::NoteLine;
 use crate::part::Part;
+use crate::path_line::PathLine;
 use crate::port_command::PortCommand;
 use crate::query::Query;
 use crate::refusal_line::RefusalLine;
@@ -63,6 +64,8 @@ pub enum Kind {
     Step(StepLine),
     /// A line of which settings bring about what is wanted.
     Advise(AdviseLine),
+    /// A line of the path between two bridges.
+    Path(PathLine),
 }
 
 impl Kind {
@@ -90,6 +93,7 @@ impl Kind {
             Kind::StepVerify(line) => line.first(),
             Kind::Step(line) => line.first(),
             Kind::Advise(line) => line.first(),
+            Kind::Path(line) => line.first(),
         }
     }
 
@@ -117,6 +121,7 @@ impl Kind {
             Kind::StepVerify(line) => line.parts_behind_step(),
             Kind::Step(line) => line.parts(),
             Kind::Advise(line) => line.parts(),
+            Kind::Path(line) => line.parts(),
         }
     }
 }

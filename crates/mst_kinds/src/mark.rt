@@ -157,6 +157,11 @@ pub enum Mark {
     Because,
     Tried,
     Table,
+    Path,
+    Always,
+    Hop,
+    By,
+    Other,
 }
 
 impl Mark {
@@ -318,6 +323,11 @@ impl Mark {
             Mark::Because => b"because",
             Mark::Tried => b"tried",
             Mark::Table => b"table",
+            Mark::Path => b"path",
+            Mark::Always => b"always",
+            Mark::Hop => b"hop",
+            Mark::By => b"by",
+            Mark::Other => b"other",
         }
     }
 }

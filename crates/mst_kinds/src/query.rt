@@ -55,6 +55,10 @@ pub enum Query {
     AdviseForward,
     /// `digest`
     Digest,
+    /// `path VID A B`
+    Path,
+    /// `path VID A B always`
+    PathAlways,
 }
 
 impl Query {
@@ -87,6 +91,8 @@ impl Query {
             Query::AdviseRoot => Mark::Advise,
             Query::AdviseForward => Mark::Advise,
             Query::Digest => Mark::Digest,
+            Query::Path => Mark::Path,
+            Query::PathAlways => Mark::Path,
         }
     }
 
@@ -119,6 +125,8 @@ impl Query {
             Query::AdviseRoot => parts![Said Goal Root, Key Tree, Key Bridge],
             Query::AdviseForward => parts![Said Goal Forward, Key Tree, Key Bridge, Key Port],
             Query::Digest => parts![],
+            Query::Path => parts![Key Vid, Key From, Key To],
+            Query::PathAlways => parts![Key Vid, Key From, Key To, Said Scope Always],
         }
     }
 }

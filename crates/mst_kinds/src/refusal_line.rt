@@ -29,6 +29,8 @@ pub enum RefusalLine {
     StepPolicy,
     /// `change N CODE TEXT`, behind a step
     StepChange,
+    /// `path CODE TEXT`
+    Path,
 }
 
 impl RefusalLine {
@@ -48,6 +50,7 @@ impl RefusalLine {
             RefusalLine::Advise => Mark::Advise,
             RefusalLine::StepPolicy => Mark::Policy,
             RefusalLine::StepChange => Mark::Change,
+            RefusalLine::Path => Mark::Path,
         }
     }
 
@@ -67,6 +70,7 @@ impl RefusalLine {
             RefusalLine::Advise => parts![Key Error, Key Text],
             RefusalLine::StepPolicy => parts![Above Step, Key Line, Key Error, Key Text],
             RefusalLine::StepChange => parts![Above Step, Key Line, Key Error, Key Text],
+            RefusalLine::Path => parts![Key Error, Key Text],
         }
     }
 }

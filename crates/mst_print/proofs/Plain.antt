@@ -7,7 +7,7 @@ use Rattle.mst_bpdu.specs.declared.fault.BpduFault.TheVariants.{B01, B02, B03, B
 use Rattle.mst_kinds.specs.Kinds.{first_of_refusal_line}
 use Rattle.mst_kinds.specs.Words.{mark_text}
 use Rattle.mst_kinds.specs.declared.refusal_line.RefusalLine.{RefusalLine}
-use Rattle.mst_kinds.specs.declared.refusal_line.RefusalLine.TheVariants.{Line, Hinted, OldLine, NewLine, Explain, Dot, Policy, Change, Advise, StepPolicy, StepChange}
+use Rattle.mst_kinds.specs.declared.refusal_line.RefusalLine.TheVariants.{Line, Hinted, OldLine, NewLine, Explain, Dot, Policy, Change, Advise, StepPolicy, StepChange, Path}
 use Rattle.mst_lang.specs.declared.line.Fault.{Fault}
 use Rattle.mst_lang.specs.declared.line.Fault.TheVariants.{E01, E02, E03}
 use Rattle.mst_lang.specs.Faults as fault
@@ -101,3 +101,4 @@ first_word Change = refl
 first_word Advise = refl
 first_word StepPolicy = refl
 first_word StepChange = refl
+first_word Path = refl

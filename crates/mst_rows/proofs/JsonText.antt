@@ -298,6 +298,7 @@ refusal_is refused.Change cs = key_front key.Line (drop 1 (parts_of_refusal_line
 refusal_is refused.Advise cs = key_front key.Error (drop 1 (parts_of_refusal_line refused.Advise)) cs
 refusal_is refused.StepPolicy cs = above_front key.Step (drop 1 (parts_of_refusal_line refused.StepPolicy)) cs
 refusal_is refused.StepChange cs = above_front key.Step (drop 1 (parts_of_refusal_line refused.StepChange)) cs
+refusal_is refused.Path cs = key_front key.Error (drop 1 (parts_of_refusal_line refused.Path)) cs
 
 pub unanswered_is : (row : Row) → json_text (unanswered_value row) ++ 10 ∷ [] ≡ unanswered_line row
 unanswered_is row =

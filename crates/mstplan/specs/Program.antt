@@ -7,6 +7,8 @@ use Rattle.mst_ask.specs.questions.Ask.{asking}
 use Rattle.mst_ask.specs.questions.tool.Check.{checking}
 use Rattle.mst_between.specs.Diff.{differing}
 use Rattle.mst_ask.specs.questions.tool.Run.{running}
+use Rattle.mst_ask.specs.tracing.Trace.{tracing}
+use Rattle.mst_ask.specs.tracing.declared.asked.PathQuestion.{PathQuestion}
 use Rattle.mst_ask.specs.verifying.Verify.{verifying}
 use Rattle.mst_ask.specs.questions.declared.asked.Question.{Question}
 use Rattle.mst_ask.specs.questions.tool.engine.print.declared.form.Form.{Form}
@@ -17,7 +19,7 @@ use Rattle.mst_command.specs.declared.stop.Stop.{Stop}
 use Rattle.mst_command.specs.declared.words.Asked.{Asked}
 use Rattle.mst_command.specs.declared.words.Behind.{Behind}
 use Rattle.mst_command.specs.declared.table.Verb.{Verb}
-use Rattle.mst_command.specs.declared.table.Verb.TheVariants.{Run, Check, Explain, Diff, Sweep, Summary, Dot, Ask, Verify, Edits, Steps, Advise}
+use Rattle.mst_command.specs.declared.table.Verb.TheVariants.{Run, Check, Explain, Diff, Sweep, Summary, Dot, Ask, Verify, Edits, Steps, Advise, Path}
 use Rattle.mst_between.specs.declared.diffs.Between.TheVariants.{Plans, Settings}
 use Rattle.mst_command.specs.declared.flags.Flags.{Flags}
 use Rattle.mstplan.specs.declared.piped.Piped.{Piped}
@@ -30,7 +32,7 @@ use Rattle.mstplan.specs.Flags.{asked_with}
 use Rattle.mstplan.specs.Invites.{invitation}
 use Rattle.mstplan.specs.Said.{IsSaid}
 use Rattle.mstplan.specs.Serving.{IsWhyUndone, ServesTask, Task, nothing, policy_if, scripts, serves, stands}
-use Rattle.mstplan.specs.Words.{question_by}
+use Rattle.mstplan.specs.Words.{path_by, question_by}
 use Rattle.mst_command.specs.Strays.{first_unknown}
 use Rattle.mst_command.specs.Words.{texts_of, words_of, are_plain, without_dashes, is_help, is_version, IsAnswer, IsNoWord, IsRefusal}
 
@@ -39,8 +41,13 @@ abbrev pub asking_of : Form → Option Question → Bor (List ℕ) → Task
 asking_of form None script = nothing
 asking_of form (Some question) script = serves (asking form question) 1 (scripts kind.Loaded None None) script None None
 
+-- and where a path of it is asked for, if words ask for one
+abbrev pub tracing_of : Form → Option PathQuestion → Bor (List ℕ) → Task
+tracing_of form None script = nothing
+tracing_of form (Some question) script = serves (tracing form question) 1 (scripts kind.Loaded None None) script None None
+
 -- What there is to be done by what the words ask for, printing in this form: the script is run; or the captures are compared with its plan;
--- or the network that it leaves is asked of a port, of its failures or pairs of them, for its summary, for its picture or for advice; or the
+-- or the network that it leaves is asked of a port, of its failures or pairs of them, for its summary, for its picture, for advice or for a path; or the
 -- networks of two scripts are told apart; or the questions that come by standard input are answered, of which there are none where the
 -- script comes there, with a policy, if one is named; or the network is verified by a policy; or the edits are told that make the network
 -- of the second script of that of the first; or what the steps of a change do, with a policy, if one is named
@@ -57,6 +64,7 @@ task_of form Verify behind = serves (verifying form) 2 (scripts kind.Loaded (Som
 task_of form Edits behind = serves (differing Settings form) 2 (scripts kind.Old (Some kind.New) None) behind.first behind.second None
 task_of form Steps behind = serves (altering form (is_some behind.third)) 3 (scripts kind.Loaded (Some kind.Change) (policy_if behind.third)) behind.first behind.second behind.third
 task_of form Advise behind = asking_of form (question_by Advise (texts_of behind)) behind.first
+task_of form Path behind = tracing_of form (path_by (texts_of behind)) behind.first
 
 -- what the words ask for was done with these flags, of the inputs that they name, this came to the outputs, and this was answered
 abbrev pub Serves : (Option (List ℕ) → Type 0) → (List ℕ → Option (List ℕ) → Type 0) → Flags → Asked → Outputs → Outputs → Result Outcome RunFault → Result (Unit {0}) RunFault → Type 0

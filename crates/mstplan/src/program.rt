@@ -2,7 +2,7 @@ ghost use Rattle.std.specs.Prelude.{◌≡◌, map, Err, IfOk, IfErr, OnErr, opt
 ghost use Rattle.mst_io.specs.Devices.{seen_by};
 ghost use Rattle.mst_command.specs.frame.Served.{outputs};
 ghost use Rattle.mst_command.specs.Flags.{flags_in, form_of, no_flags, without_flags_behind};
-ghost use Rattle.mstplan.specs.Program.{Serves, IsWhyUnserved, IsCarriedOut, IsProgram, asking_of, output_of};
+ghost use Rattle.mstplan.specs.Program.{Serves, IsWhyUnserved, IsCarriedOut, IsProgram, asking_of, output_of, tracing_of};
 ghost use Rattle.mstplan.specs.Serving.{IsWhyUndone, ServesTask};
 ghost use Rattle.mst_command.specs.Words.{behind_name};
 
@@ -11,10 +11,10 @@ use crate::invites::invite;
 use crate::piped::Piped;
 use crate::serving::{
     answer_questions, ask_script, check_captures, diff_scripts, run_script, tell_steps,
-    verify_script,
+    trace_script, verify_script,
 };
-use crate::words::{asked_for, question_of};
-use mst_ask::Question;
+use crate::words::{asked_for, path_of, question_of};
+use mst_ask::{PathQuestion, Question};
 use mst_between::Between;
 use mst_command::{Asked, Flags, Parted, Ran, Sources, Stop, Verb};
 use mst_io::Sink;
@@ -66,6 +66,10 @@ fn serve<'a, S: Sources, W: Write + Drop, K: Sink>(
             let question = question_of(asked);
             ask_by_words(alloc, sources, flags, question, first, output, errors)
         }
+        Verb::Path => {
+            let question = path_of(asked);
+            trace_by_words(alloc, sources, flags, question, first, output, errors)
+        }
     }
 }
 
@@ -85,6 +89,26 @@ fn ask_by_words<'a, S: Sources, W: Write + Drop, K: Sink>(
 {
     match asked {
         Some(question) => ask_script(alloc, sources, flags, question, script, output, errors),
+        None => Err(Stop::Told(2)),
+    }
+}
+
+/// Asks the network of a script for a path, which words ask for. Words that ask nothing are told with status 2.
+fn trace_by_words<'a, S: Sources, W: Write + Drop, K: Sink>(
+    alloc: Global,
+    sources: &S,
+    flags: Flags,
+    asked: Option<PathQuestion>,
+    script: &'a str,
+    output: W,
+    errors: &mut K,
+) -> Result<Ran<W>, Stop<'a>>
+    ensures ran { IfOk result (λ ran. ServesTask (S.is_given sources.now) (S.is_file sources.now) flags (tracing_of (form_of flags) asked script.entry) (outputs W.contents (seen_by K.told K.contents K.lent) output errors.old) (outputs W.contents (seen_by K.told K.contents K.lent) ran.writer errors.new) ran.ended ran.hints) }
+    ensures stopped { IfErr result (IsWhyUndone (S.is_unopened sources.now) (tracing_of (form_of flags) asked script.entry)) }
+    ensures untold { OnErr result (errors.new ≡ errors.old) }
+{
+    match asked {
+        Some(question) => trace_script(alloc, sources, flags, question, script, output, errors),
         None => Err(Stop::Told(2)),
     }
 }

@@ -8,6 +8,7 @@ ghost use Rattle.mst_ask.specs.questions.Ask.{asking};
 ghost use Rattle.mst_ask.specs.questions.tool.Check.{checking};
 ghost use Rattle.mst_between.specs.Diff.{differing};
 ghost use Rattle.mst_ask.specs.questions.tool.Run.{running};
+ghost use Rattle.mst_ask.specs.tracing.Trace.{tracing};
 ghost use Rattle.mst_ask.specs.verifying.Verify.{verifying};
 ghost use Rattle.mst_ask.specs.Asking.{standing};
 ghost use Rattle.mst_command.specs.Flags.{form_of};
@@ -15,7 +16,9 @@ ghost use Rattle.mstplan.specs.Serving.{IsWhyUnread, ServesWord, policy_if, scri
 
 use crate::endings::stop_unserved;
 use mst_altering::StepsWord;
-use mst_ask::{AskWord, CheckWord, Question, QuestionWord, RunWord, VerifyWord};
+use mst_ask::{
+    AskWord, CheckWord, PathQuestion, PathWord, Question, QuestionWord, RunWord, VerifyWord,
+};
 use mst_between::{Between, DiffWord};
 use mst_command::{Flags, Names, Ran, Script, Scripts, Sources, Stop, serve_named};
 use mst_drive::Word;
@@ -258,6 +261,38 @@ pub(crate) fn ask_script<'a, S: Sources, W: Write + Drop, K: Sink>(
     ensures untold { OnErr result (errors.new ≡ errors.old) }
 {
     let word = QuestionWord {
+        alloc,
+        form: flags.form(),
+        question,
+    };
+    let scripts = Scripts {
+        first: Script::Loaded,
+        second: None,
+        third: None,
+    };
+    let names = Names {
+        first: script,
+        second: None,
+        third: None,
+    };
+    serve_word(alloc, sources, flags, &word, scripts, names, output, errors)
+}
+
+/// Asks the network of a script for this path.
+pub(crate) fn trace_script<'a, S: Sources, W: Write + Drop, K: Sink>(
+    alloc: Global,
+    sources: &S,
+    flags: Flags,
+    question: PathQuestion,
+    script: &'a str,
+    output: W,
+    errors: &mut K,
+) -> Result<Ran<W>, Stop<'a>>
+    ensures ran { IfOk result (λ ran. ServesWord (S.is_given sources.now) (S.is_file sources.now) flags (tracing (form_of flags) question) 1 (scripts Script.Loaded None None) script.entry.now None None (outputs W.contents (seen_by K.told K.contents K.lent) output errors.old) (outputs W.contents (seen_by K.told K.contents K.lent) ran.writer errors.new) ran.ended ran.hints) }
+    ensures stopped { IfErr result (IsWhyUnread (S.is_unopened sources.now) script.entry None None) }
+    ensures untold { OnErr result (errors.new ≡ errors.old) }
+{
+    let word = PathWord {
         alloc,
         form: flags.form(),
         question,

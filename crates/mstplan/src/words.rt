@@ -2,9 +2,9 @@ ghost use Rattle.std.specs.Prelude.{◌≡◌, true, Some, codes, option_map, If
 ghost use Rattle.mstplan.specs.Flags.{asked_with};
 ghost use Rattle.mst_command.specs.Strays.{first_unknown};
 ghost use Rattle.mst_command.specs.Words.{words_of, texts_of, wanted, are_plain, behind_name, without_dashes, is_help, is_version, IsAnswer, IsNoWord, IsRefusal};
-ghost use Rattle.mstplan.specs.Words.{question_by, are_worded as words_asking};
+ghost use Rattle.mstplan.specs.Words.{path_by, question_by, are_worded as words_asking};
 
-use mst_ask::Question;
+use mst_ask::{PathQuestion, Question};
 use mst_command::{Asked, Flags, Sources, Stop, VERBS, Verb, asked_by_words};
 
 /// What the network of a script is asked, where what is to be done asks it something: nothing, where the words are none that do.
@@ -31,12 +31,26 @@ pub(crate) fn question_of(asked: Asked<'_>) -> Option<Question>
     }
 }
 
-/// Whether the words for a part of a sweep, a picture or advice, if there are some, are some that ask.
+/// Which path of the network of a script is asked for: nothing, where the words are none that ask for one.
+pub(crate) fn path_of(asked: Asked<'_>) -> Option<PathQuestion>
+    ensures { result ≡ path_by (texts_of asked.entry.behind) }
+{
+    let behind = asked.behind;
+    PathQuestion::read(
+        wanted_bytes(behind.second),
+        wanted_bytes(behind.third),
+        wanted_bytes(behind.fourth),
+        bytes_of(behind.fifth),
+    )
+}
+
+/// Whether the words for a part of a sweep, a picture, advice or a path, if there are some, are some that ask.
 fn are_worded(asked: Asked<'_>) -> bool
     ensures { result ≡ words_asking (words_of asked.entry) }
 {
     match asked.verb {
         Verb::Sweep | Verb::Dot | Verb::Advise => question_of(asked).is_some(),
+        Verb::Path => path_of(asked).is_some(),
         _ => true,
     }
 }
@@ -46,6 +60,7 @@ fn wrong_words(verb: Verb) -> &'static str {
     match verb {
         Verb::Dot => "error: VID stands behind the word vlan alone",
         Verb::Advise => "error: GOAL is root, behind which no P stands, or forward, with P",
+        Verb::Path => "error: behind B stands the word always, or nothing",
         _ => {
             "error: PART is K/N, two numbers in decimal with 1 <= K <= N <= 65536, and pairs or nothing stands before it"
         }
@@ -84,19 +99,30 @@ pub(crate) fn asked_for<'a, R: Print + Eprint + AllocGlobal, S: Sources>(
 
 /// Tells which words of the program take the flag that asks for JSON.
 fn tell_json_words<R: Eprint>(rt: &R) {
-    let mut before = "error: --json is a flag of ";
-    let mut last = "";
+    let mut is_first = true;
+    let mut last = None;
     for verb in &VERBS {
-        let row = verb.row();
-        if row.is_json {
-            if !last.is_empty() {
-                let _ = eprint!(rt; "{}{}", before, last);
-                before = ", ";
+        if verb.row().is_json {
+            if let Some(word) = last {
+                tell_json_word(rt, is_first, word);
+                is_first = false;
             }
-            last = row.name;
+            last = Some(*verb);
         }
     }
-    let _ = eprintln!(rt; " and {}", last);
+    if let Some(word) = last {
+        let _ = eprintln!(rt; " and {}", word.row().name);
+    }
+}
+
+/// Tells one of them, of which others come behind it.
+fn tell_json_word<R: Eprint>(rt: &R, is_first: bool, verb: Verb) {
+    let before = if is_first {
+        "error: --json is a flag of "
+    } else {
+        ", "
+    };
+    let _ = eprint!(rt; "{}{}", before, verb.row().name);
 }
 
 /// The bytes of a word, if there is one.

@@ -14,4 +14,4 @@ returns c form version number now lines a b is h k alike =
       advice = c.one_advice.ensures;
     } in
     one_asked (record { networks = c.networks.ensures.after; ranges = c.edits_in_range.ensures; entries = c.entries_of_network.ensures.some; one_rows = c.entries_of_network.ensures.one; marks = c.entries_of_network.ensures.mark }) form
-    c.one_answer.ensures one c.one_verification.ensures.one version number now lines a b is h k alike
+    c.one_answer.ensures one c.one_verification.ensures.one c.one_trace.ensures.one version number now lines a b is h k alike

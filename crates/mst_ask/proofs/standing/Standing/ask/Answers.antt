@@ -26,3 +26,8 @@ pub returns-in-Ok-Verify-clause-asked : goal.returns-in-Ok-Verify-clause-asked
 returns-in-Ok-Verify-clause-asked c =
     let old = c.args.self.now in
     subst (λ r. Asks old.form c.args.number (standing_of old) c.args.line.now r (replied old.form c.args.number (standing_of c.verify.new.self) c.verify.result)) (ap Ok (sym c.in-Ok-Verify.field-0-is) ∙ c.in-Ok-Verify.ensures.request) (c.verify.ensures.asked c.args.number c.args.line.now)
+
+pub returns-in-Ok-Path-clause-asked : goal.returns-in-Ok-Path-clause-asked
+returns-in-Ok-Path-clause-asked c =
+    let old = c.args.self.now in
+    subst (λ r. Asks old.form c.args.number (standing_of old) c.args.line.now r (replied old.form c.args.number (standing_of c.trace.new.self) c.trace.result)) (ap Ok (sym c.in-Ok-Path.field-0-is) ∙ c.in-Ok-Path.ensures.request) (c.trace.ensures.asked c.args.number c.args.line.now)

@@ -1,0 +1,6 @@
+use Rattle.mst_path.proofs.Onward.{AreOn}
+use Rattle.mst_path.proofs.leading.find_ways_on.Given as goal
+
+-- the first ones of the ports so far
+abbrev pub invariant-loop-place : goal.invariant-loop-place
+invariant-loop-place l = AreOn l.bridges l.lans l.depths l.fn.ups l.ups l.place

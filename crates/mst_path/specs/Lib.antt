@@ -1,0 +1,4 @@
+pub use Rattle.mst_vlan.specs as vlan
+pub mod Paths
+pub mod PathRows
+pub mod Places
