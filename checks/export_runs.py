@@ -33,9 +33,9 @@ sys.path += [os.path.join(TOP, "tools", "import"), os.path.join(TOP, "tools")]
 import cisco  # noqa: E402
 import mstplan  # noqa: E402
 import ovs  # noqa: E402
+import network as importing  # noqa: E402
 import sketch  # noqa: E402
-from network import comment  # noqa: E402
-from settings import interfaces_of  # noqa: E402
+from interfaces import Names  # noqa: E402
 
 COUNT, IN_THE_GATE = 100, 12
 FULL, SHORT, EVERY = "GigabitEthernet1/0/{}", "Gi1/0/{}", frozenset(range(1, 4095))
@@ -471,9 +471,11 @@ def faults_of_ovs(path, number):
 
 # Two switches with a bundle of two cables, whose interfaces and bundles the comments name: what some changes are at the first one, by hand.
 BUNDLE = """mstplan 2
-# a: 2089 is {0} of {2}, 4095 is {1} of {2}
+# port a 2089 is {0} of {2}
+# port a 4095 is {1} of {2}
 addbridge a 02:00:00:00:00:01
-# b: 2089 is {0} of {2}, 4095 is {1} of {2}
+# port b 2089 is {0} of {2}
+# port b 4095 is {1} of {2}
 addbridge b 02:00:00:00:00:02
 addlan l
 addlan m
@@ -514,13 +516,30 @@ WORKED = [
 ]
 
 
+# Lines that say what ports are called, or don't, and what is read of them.
+NAMED = [
+    ("# port a 1 is Te1/0/1", {("a", 1): ("Te1/0/1", None)}),
+    ("  #port\ta\t4095  is  Te 1/0/2  of  Po 1 \r", {("a", 4095): ("Te 1/0/2", "Po 1")}),
+    ("# port a 01 is x\n# port a 1 is y of z", {("a", 1): ("y", "z")}),
+    ("# port a 1 is " + "x" * 100, {("a", 1): ("x" * 100, None)}),
+    *((line, {}) for line in ("# port a 1 is ", "# port a 1 was x", "# port a x is x", "port a 1 is x", "# port a:1 is x", "# Port a 1 is x", "# .. port a 1 is x",
+                              "# port a 1 is x\x1b[2J", "# port a 1 is " + "x" * 101, "# port seventeen-letters- 1 is x")),
+]
+
+
 def faults_of_comments():
-    """What differs of what an importer's comment calls the ports of a bridge, over several lines, when it is read again."""
-    names = {number: (f"eth-very-{number}", f"bond-{number}-x") for number in range(1, 30)}
-    told = ", ".join(f"{number} is {interface} of {bundle}" for number, (interface, bundle) in names.items())
-    text = "\n".join([*comment(f"h: {told}"), "addbridge h 02:00:00:00:00:01", ""])
-    found = interfaces_of(text.encode())
-    return [f"comments: {found}"] if found != {("h", number): its for number, its in names.items()} else []
+    """What differs of what comments call ports, and of what an importer writes when it is read again."""
+    faults = [f"{line!r}: {Names(line.encode()).ends()}" for line, wanted in NAMED if Names(line.encode()).ends() != wanted]
+    network = importing.Network()
+    bridge = network.add_bridge("h", "port h 1 is evil", "02:00:00:00:00:01", 32768, 20)
+    labels = {1: "eth0", 2: "port h 1 is evil", 3: "x\x1b[2J\n# port h 1 is evil", 4: "y" * 300, 5: "5", 6: ""}
+    for number, label in labels.items():
+        network.add_port(bridge, number, importing.Port(label))
+        network.add_lan([(bridge, number)], None)
+    bridge.ports[2].bundle = "bond0"
+    wanted = {1: ("eth0", None), 2: ("port h 1 is evil", "bond0"), 3: ("x\\x1b[2J\\n# port h 1 is evil", None), 4: ("y" * 100, None)}
+    found = Names("\n".join(network.script()).encode()).ends()
+    return faults + ([] if found == {("h", number): its for number, its in wanted.items()} else [f"written names: {found}"])
 
 
 def faults_of_words(path):

@@ -10,6 +10,7 @@ minute of a processor. The exit status is 1 where something differs.
 """
 
 import concurrent.futures
+import contextlib
 import itertools
 import os
 import subprocess
@@ -22,6 +23,7 @@ sys.dont_write_bytecode = True
 import ci_runs  # noqa: E402
 import export_runs  # noqa: E402
 import lacking_runs  # noqa: E402
+import mstplan  # noqa: E402
 import order_runs  # noqa: E402
 import promises_runs  # noqa: E402
 
@@ -96,12 +98,51 @@ def faults_of_cases(program):
         return list(itertools.chain.from_iterable(pool.map(lambda it: faults_of_case(*it), calls)))
 
 
+# What lines of the campus call some ports; of each tool files and words, how it ends, and lines that it prints or tells.
+CALLED = "# port acc1 1 is Gi1/0/1\n# port core1 1 is Te1/0/1\n#port core1 2 is Te1/0/2 of Po1\n# port acc2 2 is Gi1/0/2\n# port acc1 9 is Gi1/0/9\n"
+NAMED = [
+    ("lacking.py", ["verify", "FILE", "POLICY"], 1, ["policy line 1 core1:2 (Te1/0/2 of Po1) is a member of core1:1 (Te1/0/1)", "policy line 2 no port acc1:9 (Gi1/0/9)"]),
+    ("lacking.py", ["explain", "FILE", "acc1", "gi1/0/1"], 1, ["explain B P: gi1/0/1 is acc1:1"]),
+    ("lacking.py", ["steps", "FILE", "CHANGE"], 1, ["change line 5 no port acc1:9 (Gi1/0/9)"]),
+    ("order.py", ["FILE", "COSTS", "WHOLE"], 0, ["# port acc1 1 is Gi1/0/1", "setportpathcost acc1 1 200000"]),
+    ("order.py", ["FILE", "CHANGE", "ROLES"], 1, [
+        "order.py: the network doesn't keep the policy before the change: fails 1 now role 0 acc2:2 (Gi1/0/2) Alternate",
+        "nowhere 2 lines 4-5 behind 1 refused unplug acc1 9 (acc1:9 is Gi1/0/9): E05 no such port"]),
+    ("export.py", ["FILE", "--change", "CHANGE", "--to", "cisco"], 1, ["! by hand: line 4 unplug acc1 1 (acc1:1 is Gi1/0/1): a cable at this port"]),
+    ("ci.py", ["TOLD", "ROLES", "--script", "FILE"], 1, ["    now role 0 acc2:2 (Gi1/0/2) Alternate"]),
+    ("ci.py", ["TOLD", "ROLES", "--script", "FILE", "--junit", "-"], 1, [
+        '      <failure type="not kept" message="now role 0 acc2:2 (Gi1/0/2) Alternate">now role 0 acc2:2 (Gi1/0/2) Alternate</failure>']),
+    ("ci.py", ["TOLD", "ROLES", "--script", ABSENT], 1, ["    now role 0 acc2:2 Alternate"]),
+]
+
+
+def faults_of_names(program):
+    """What differs where lines of FILE say what ports are called."""
+    with open(CAMPUS, encoding="utf-8") as file:
+        given = {"FILE": file.read() + CALLED, "POLICY": "role 0 core1:2 Root\nrole 0 acc1:9 Root\n", "WHOLE": "reach 1-4094 *\n",
+                 "ROLES": "role 0 acc2:2 Designated\nrole 0 core1:1 Designated\n", "COSTS": "setportvlans dist1 3 10,20\n\nsetportpathcost acc1 1 200000\n",
+                 "CHANGE": "\nsetportpathcost acc2 1 200000\n\nunplug acc1 1\nunplug acc1 9\n"}
+    faults = []
+    with contextlib.ExitStack() as opened:
+        paths = {name: opened.enter_context(mstplan.written(text.encode())) for name, text in given.items()}
+        told = subprocess.run([program, "verify", "--json", paths["FILE"], paths["ROLES"]], capture_output=True, check=False).stdout
+        paths["TOLD"] = opened.enter_context(mstplan.written(told))
+        for tool, words, status, wanted in NAMED:
+            called = [sys.executable, os.path.join(TOP, "tools", tool), *([] if tool == "ci.py" else [program]), *(paths.get(it, it) for it in words)]
+            ran = subprocess.run(called, capture_output=True, text=True, check=False)
+            printed = (ran.stdout + ran.stderr).splitlines()
+            faults += [f"{tool} {' '.join(words)}: {it!r} isn't in {printed}" for it in wanted if it not in printed]
+            faults += [f"{tool} {' '.join(words)}: status {ran.returncode}"] * (ran.returncode != status)
+    return faults
+
+
 def main():
     if len(sys.argv) != 2:
         sys.exit(__doc__)
     program, bad = os.path.abspath(sys.argv[1]), 0
     for what, its in (
         ("words", faults_of_cases),
+        ("names of ports", faults_of_names),
         *((f"{its.IN_THE_GATE} networks: {name}", lambda program, its=its: its.check(program, its.IN_THE_GATE))
           for name, its in (("order.py", order_runs), ("promises.py", promises_runs), ("export.py", export_runs), ("ci.py", ci_runs), ("lacking.py", lacking_runs))),
         ("a campus of 50 switches: promises.py", promises_runs.faults_of_campus),

@@ -4,8 +4,9 @@
 LINES is what `mstplan verify --json FILE POLICY` has printed. Each line of the policy is a test case, by its number and its words; why
 it isn't kept is its failure, and that it is refused its error; one that is judged in no network (`together` without a scope) is skipped.
 Refused lines of FILE are errors, too, and so is a policy of which nothing was judged. Without an option the same stands on standard output
-for people; with --github as annotations, and what has no room in one behind it. The status is that of `verify` (take care that a pipe
-doesn't hide another one: an empty LINES is status 3).
+for people; with --github as annotations, and what has no room in one behind it. Where FILE is told and can be read, a port in a reason has
+what lines of FILE call it in brackets behind it (`# port acc1 2 is Te1/0/2`); names of cases are the policy's own words. The status is that
+of `verify` (take care that a pipe doesn't hide another one: an empty LINES is status 3).
 
 For example: mstplan verify --json campus.script campus.policy | ci.py - campus.policy --script campus.script --junit report.xml
 """
@@ -13,6 +14,7 @@ For example: mstplan verify --json campus.script campus.policy | ci.py - campus.
 import argparse
 import hashlib
 import json
+import os
 import re
 import sys
 from dataclasses import dataclass
@@ -22,6 +24,7 @@ sys.dont_write_bytecode = True
 
 import mstplan  # noqa: E402
 from command import OK, STATUSES, TOLD, Files, guarded, name_of, write  # noqa: E402
+from interfaces import Names  # noqa: E402
 
 TOOL = "ci.py"
 # How many reasons a report has of a line, and an annotation.
@@ -37,12 +40,14 @@ def printable(text):
 
 @dataclass
 class Case:
-    """A line of a file: what is said there, and why it isn't as wanted (nothing where it is), as a failure or as an error."""
+    """A line of a file: what is said there, and why it isn't as wanted (nothing where it is), as a failure or as an error; and the same with
+    what ports are called, for people."""
     path: str
     line: int
     name: str
     kind: str
     reasons: list
+    named: list
     is_skipped: bool = False
 
     @property
@@ -51,8 +56,8 @@ class Case:
 
     def texts(self, most):
         """The reasons, so many of them at most."""
-        others = len(self.reasons) - most
-        return self.reasons[:most] + [f"and {others} more"] * (others > 0)
+        others = len(self.named) - most
+        return self.named[:most] + [f"and {others} more"] * (others > 0)
 
 
 def lines_told(lines, refused):
@@ -61,9 +66,10 @@ def lines_told(lines, refused):
 
 
 class Verified:
-    """What `verify` tells of a network and a policy, a case for each line."""
+    """What `verify` tells of a network and a policy, a case for each line. `names` are those of the network's ports."""
 
-    def __init__(self, lines, policy, policy_path, script_path):
+    def __init__(self, lines, policy, policy_path, script_path, names):
+        self.names = names
         values = self.values(lines)
         answers = [it["records"] for it in values if it.get("query") == "verify" and "records" in it]
         if len(answers) != 1 or not answers[0] or answers[0][-1].get("kind") != "verify":
@@ -76,8 +82,9 @@ class Verified:
         if lines_told(lines, refused) != sorted({*told, *refused} - {0}) or any(it["promise"] != lines[at - 1] for at, it in told.items()):
             raise mstplan.Failed(f"{name_of(policy_path)} isn't the policy that LINES tells of")
         self.cases = list(self.cases_of(lines, told, policy_path))
-        told = [it for it in values if "error" in it and "line" in it]
-        self.cases += [Case(script_path, it["line"], "refused line", ERROR, [f"{it['error']} {it['text']}"]) for it in told]
+        for it in (it for it in values if "error" in it and "line" in it):
+            reasons = [f"{it['error']} {it['text']}"]
+            self.cases.append(Case(script_path, it["line"], "refused line", ERROR, reasons, reasons))
 
     @staticmethod
     def values(lines):
@@ -93,22 +100,23 @@ class Verified:
         """A case for each line that says something: a promise that can be read is told by LINES, and one that is refused has its reason there."""
         reasons = {}
         for it in self.records:
-            reasons.setdefault(it["line"], []).append(self.reason(it))
+            reasons.setdefault(it["line"], []).append([self.reason(it, names) for names in (None, self.names)])
         kinds = {it["line"]: ERROR if it["kind"] == "policy" else FAILURE for it in self.records}
         # the line 0 stands for a policy of which nothing is judged
         for number in [0] if 0 in reasons else sorted({*told, *reasons}):
             is_skipped = number not in reasons and told[number]["network_count"] == 0
             name = lines[number - 1] if number else "the policy"
-            yield Case(path, max(number, 1), name, kinds.get(number, FAILURE), reasons.get(number, []), is_skipped)
+            plain, named = zip(*reasons[number]) if number in reasons else ((), ())
+            yield Case(path, max(number, 1), name, kinds.get(number, FAILURE), list(plain), list(named), is_skipped)
 
     @staticmethod
-    def reason(record):
+    def reason(record, names):
         """Where a promise isn't kept, and why."""
         if record["kind"] == "same":
             return f"the same after {record['failure_count']} failures"
         failure = record.get("failure")
         place = "" if record["kind"] == "policy" else "now " if failure is None else " ".join(next(iter(failure.items()))) + " "
-        return place + mstplan.reason_in(record)
+        return place + mstplan.reason_in(record, names)
 
     def wrong(self, kind=None):
         return [it for it in self.cases if it.reasons and kind in (None, it.kind)]
@@ -129,7 +137,7 @@ def junit(verified, name):
             continue
         text = escape("\n".join(map(printable, it.texts(MOST_REASONS))))
         yield f"{head}>"
-        yield f"      <{it.kind} type={quoteattr(TYPES[it.kind])} message={quoteattr(printable(it.reasons[0]))}>{text}</{it.kind}>"
+        yield f"      <{it.kind} type={quoteattr(TYPES[it.kind])} message={quoteattr(printable(it.named[0]))}>{text}</{it.kind}>"
         yield "    </testcase>"
     yield "  </testsuite>"
     yield "</testsuites>"
@@ -169,7 +177,7 @@ def words_of():
     parser = argparse.ArgumentParser(description=__doc__, epilog=STATUSES, formatter_class=argparse.RawDescriptionHelpFormatter)
     parser.add_argument("lines", metavar="LINES", help="what `mstplan verify --json FILE POLICY` has printed; - is standard input")
     parser.add_argument("policy", metavar="POLICY", help="the policy that was judged, by the name that it has in the repository")
-    parser.add_argument("--script", metavar="FILE", default="script", help="the name of the network's script, where its refused lines are told")
+    parser.add_argument("--script", metavar="FILE", help="the network's script: its name, where its refused lines are told, and what it calls ports")
     parser.add_argument("--junit", metavar="XML", help="where JUnit's XML goes; - is standard output, with nothing else there")
     parser.add_argument("--gitlab", metavar="JSON", help="where GitLab's code quality report goes; - as with --junit")
     parser.add_argument("--github", action="store_true", help="GitHub's workflow commands on standard output, which annotate the files")
@@ -177,6 +185,14 @@ def words_of():
     if "-" in (words.junit, words.gitlab) and (words.github or words.junit == words.gitlab):
         parser.error("one thing goes to standard output: --junit -, --gitlab - or --github")
     return words
+
+
+def names_of(path):
+    """What a script calls ports, which is nothing where it can't be read."""
+    if path is None or not os.path.isfile(path):
+        return Names()
+    with open(path, "rb") as file:
+        return Names(file.read())
 
 
 def put(path, text):
@@ -190,7 +206,7 @@ def put(path, text):
 def main():
     words, files = words_of(), Files()
     lines = files.bytes_of(words.lines)
-    verified = Verified(lines, files.bytes_of(words.policy), words.policy, words.script)
+    verified = Verified(lines, files.bytes_of(words.policy), words.policy, words.script or "script", names_of(words.script))
     if words.junit:
         put(words.junit, "".join(f"{it}\n" for it in junit(verified, name_of(words.policy))))
     if words.gitlab:

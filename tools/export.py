@@ -3,9 +3,10 @@
 
 What is to be set is what `mstplan edits FILE NEW` prints, or the lines of a change that PROGRAM accepts. Commands come by step, and in a
 step by switch. An edit that no command says (a cable, a MAC address, a switch's power, and what such a device doesn't have) stands in a
-comment, is told by its line on standard error, and gives status 1. Ports are called as the comments of an importer's script call them,
-or as --names or --interface say. The settings of links that count as one stand at their bundle: Cisco's Port-channel has the number of
-their key, and elsewhere its name is told with the interface of each cable (`1 is eth0 of bond0`, or a fourth word in NAMES).
+comment, is told by its line on standard error, and gives status 1. Ports are called as lines of FILE, NEW and CHANGE say (`# port a 1 is
+eth0`, as importers write them), or as --names or --interface say. The settings of links that count as one stand at their bundle: Cisco's
+Port-channel has the number of their key, and elsewhere its name is told with the interface of each cable (`# port a 1 is eth0 of bond0`, or
+a fourth word in NAMES).
 
 Forms: cisco (IOS and IOS XE with MST), arista (EOS), mstpctl (mstpd), iproute2 (ip and bridge: links and VLANs alone) and ovs (Open
 vSwitch with RSTP). What is written for cisco and ovs is what import/cisco.py and import/ovs.py read. All are made by the documents of
@@ -23,7 +24,8 @@ sys.dont_write_bytecode = True
 
 import mstplan  # noqa: E402
 from command import OK, STATUSES, TOLD, Files, guarded, name_of, tell, tell_refused, write  # noqa: E402
-from settings import Network, interfaces_of  # noqa: E402
+from interfaces import Names, port_of  # noqa: E402
+from settings import Network  # noqa: E402
 from shell_forms import FORMS  # noqa: E402
 
 TOOL = "export.py"
@@ -60,11 +62,18 @@ class Export:
             whys = [it.tried(edit) for it in devices]
             if all(whys):
                 whys = dict.fromkeys(it.removeprefix(f"{edit}: ") for it in whys)
-                by_hand.append(f"line {number} {edit}: {'; '.join(whys)}")
+                by_hand.append(f"line {number} {self.named(edit)}: {'; '.join(whys)}")
             now.make(edit)
-        by_hand += [left for it in devices for left in it.finish()]
+        for edit, mark, why in (left.partition(": ") for it in devices for left in it.finish()):
+            by_hand.append(self.named(edit) + mark + why)
         self.left += by_hand
         return [*(f"{self.comment} by hand: {it}" for it in by_hand), *(line for it in devices for line in it.lines())]
+
+    def named(self, edit):
+        """An edit, and what its port is called."""
+        port = port_of(edit)
+        interface, bundle = self.naming(*port) if port else (None, None)
+        return "{} ({}:{} is {})".format(edit, *port, f"{interface} of {bundle}" if bundle else interface) if interface else edit
 
 
 def steps_of(program, saved, change):
@@ -106,7 +115,7 @@ def words_of():
 
 def naming_of(words, files, scripts):
     """What a port's interface and its bundle are called, by bridge and number; None where nothing says it."""
-    told = interfaces_of(*scripts)
+    told = Names(*scripts).ends()
     if words.names:
         told |= names_in(files.bytes_of(words.names), words.names)
     return lambda bridge, port: told.get((bridge, port)) or (words.interface.format(bridge=bridge, port=port) or None, None)
@@ -116,7 +125,7 @@ def main():
     words, files = words_of(), Files()
     program, script = mstplan.Program(words.program), files.bytes_of(words.script)
     other = files.bytes_of(words.change or words.new)
-    naming = naming_of(words, files, [script] if words.change else [script, other])
+    naming = naming_of(words, files, [script, other])
     saved, lines = program.saved(script)
     refused = tell_refused(TOOL, words.script, lines)
     if not words.change:

@@ -92,7 +92,7 @@ class Device:
         if word not in OF_LANS and not self.lasts(word, *its[:2]):
             return
         if method is None and word in ("plug", "unplug"):
-            raise Why(f"a cable at {self.naming(its[0], int(its[1]))[0] or 'this port'}")
+            raise Why("a cable at this port")
         if method is None:
             raise Why("a cable" if word in ("addlan", "dellan", "speed") else "there is no such command")
         method(*its)

@@ -15,6 +15,11 @@ Standard output and the exit status are PROGRAM's. On standard error its own hin
 PROGRAM says which lines are refused and by which number, whether words are in their form, and what there is in a network (`save` and
 `showlag`), behind a step with the lines up to there made. Where it ends with status 2 or 3 there are no hints but its own.
 
+Where lines of FILE say what ports are called (`# port core1 2 is Te1/0/2`), a port of a hint has that in brackets behind it, as in
+`core1:2 (Te1/0/2) is a member of core1:1 (Te1/0/1)`; and where such a name stands for the number among the words, the hint has the number:
+
+  explain B P: Te1/0/2 is core1:2
+
 For example: lacking.py mstplan verify campus.script campus.policy
 """
 
@@ -32,6 +37,7 @@ sys.dont_write_bytecode = True
 import mstplan  # noqa: E402
 import settings  # noqa: E402
 from command import STATUSES, Files, guarded, write  # noqa: E402
+from interfaces import Names  # noqa: E402
 
 TOOL = "lacking.py"
 HINTS, JSON = "--hints", "--json"
@@ -188,11 +194,11 @@ class Promise:
 
 class Network:
     """What there is in a network: its bridges and its LANs, each with whether it can fail, and its ports, each with the number of the logical
-    port that it goes by, which is None in no LAN. In the network of FILE itself near names are told."""
+    port that it goes by, which is None in no LAN. In the network of FILE itself near names are told. `names` is what FILE calls ports."""
 
-    def __init__(self, standing, is_of_file):
+    def __init__(self, standing, is_of_file, names):
         saved = settings.Network(standing.saved())
-        self.is_of_file = is_of_file
+        self.is_of_file, self.names = is_of_file, names
         self.bridges = {name: it.power == "on" for name, it in saved.bridges.items()}
         self.lans = {name: it.state == "up" for name, it in saved.lans.items()}
         self.ports = {(name, number): port.lan and number for name, it in saved.bridges.items() for number, port in it.ports.items()}
@@ -226,9 +232,9 @@ class Network:
         if "*" in bridge + number:
             return f"no port of {bridge}:{number}"
         port = bridge, int(number)
-        logical, text = self.ports.get(port), "{}:{}".format(*port)
+        logical, text = self.ports.get(port), self.names.port(*port)
         if logical:
-            return f"{text} is a member of {bridge}:{logical}"
+            return f"{text} is a member of {self.names.port(bridge, logical)}"
         return f"port {text} is in no LAN" if port in self.ports else f"no port {text}"
 
     def is_judged(self, promise, item):
@@ -255,7 +261,7 @@ class Networks:
 
     def __init__(self, program, opened, asked, refusals, ends):
         self.program, self.opened, self.script, self.ends = program, opened, asked.files[0], ends
-        self.standing, self.made, self.found = None, 0, {}
+        self.standing, self.made, self.found, self.names = None, 0, {}, asked.names
         self.lines = asked.change
         self.newer = mstplan.is_second(mstplan.lines_in(self.script)) - mstplan.is_second(self.lines)
         self.refused = {it.line for it in refusals if it.of == "change"}
@@ -269,7 +275,7 @@ class Networks:
                 if edit is not None:
                     self.standing.make(edit)
             self.made = self.ends[step]
-            self.found[step] = Network(self.standing, step == 0)
+            self.found[step] = Network(self.standing, step == 0, self.names)
         return self.found[step]
 
 
@@ -282,7 +288,7 @@ class Asked:
     def __init__(self, word, flags, files, rest):
         self.word, self.flags, self.files, self.rest = word, flags, files, rest
         self.change = mstplan.lines_in(files[1] if word == "steps" else b"")
-        self.policy = mstplan.lines_in(files[-1])
+        self.policy, self.names = mstplan.lines_in(files[-1]), Names(files[0])
 
     def answer(self, program):
         """Both outputs, and the status."""
@@ -306,6 +312,8 @@ def hint_of_words(program, asked, code, networks):
     form = FORMS[asked.word][len(asked.rest)]
     its = dict(zip(form.split(), asked.rest))
     if code in ("E02", "E03"):
+        if code == "E02" and (number := asked.names.number(its.get("B"), its.get("P"))):
+            return f"{form}: {its['P']} is {its['B']}:{number}"
         said = hint_of_form(program, {name: it for name, it in its.items() if (name in NUMBERED) == (code == "E03")})
         return f"{form}: {said}" if said else f"bridge {its['B']} hasn't tree {int(its['TREE'])}"
     network = networks.behind(0)
@@ -314,12 +322,12 @@ def hint_of_words(program, asked, code, networks):
     return network.absent("bridge", its["B"]) if code == "E04" else network.no_port(its["B"], its["P"])
 
 
-def hint_of_edit(line, code):
+def hint_of_edit(line, code, names):
     """The hint of an edit that names what isn't there."""
     word, *its = (it.decode() for it in mstplan.words_in(line))
     if code == "E04":
         return f"no bridge {its[0]}"
-    return f"no port {its[0]}:{int(its[1])}" if code == "E05" else f"no LAN {its[2 if word == 'plug' else 0]}"
+    return f"no port {names.port(its[0], its[1])}" if code == "E05" else f"no LAN {its[2 if word == 'plug' else 0]}"
 
 
 def hint_of(program, asked, it, networks):
@@ -327,7 +335,7 @@ def hint_of(program, asked, it, networks):
     if it.of in FORMS:
         return f"{it.of} {hint_of_words(program, asked, it.code, networks)}"
     if it.of == "change" and it.code in ("E04", "E05", "E06"):
-        return f"change line {it.line} {hint_of_edit(asked.change[it.line - 1], it.code)}"
+        return f"change line {it.line} {hint_of_edit(asked.change[it.line - 1], it.code, asked.names)}"
     if it.of == "policy" and it.code in ("E03", "E04", "E05", "E06", "E17"):
         if it.line == 0:
             return "policy has no promise that can be judged"

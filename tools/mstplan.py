@@ -188,11 +188,11 @@ def written(script):
 # ---- records as texts have them
 
 
-def reason_in(record):
-    """What `verify` prints of a promise behind its number and its place."""
+def reason_in(record, names=None):
+    """What `verify` prints of a promise behind its number and its place. With `names` (interfaces.Names) ports have theirs beside them."""
     if record["kind"] == "policy":
         return f"{record['error']} {record['text']}"
-    it = {key: list_told(value) for key, value in record.items()}
+    it = {key: list_told(value, names) for key, value in record.items()}
     word, tree = it["expectation"], it.get("tree")
     if word == "root":
         behind = f" next {it['next']}" if "next" in it else f" of {it['bridge_count']}" if "bridge_count" in it else ""
@@ -219,7 +219,7 @@ def lines_of_step(record):
     return "{}-{}".format(*record["lines"])
 
 
-def list_told(value):
+def list_told(value, names=None):
     """A value of a record as a text has it: names and ports with `,` between, parts with spaces, VIDs as runs."""
     if value is None:
         return "-"
@@ -228,11 +228,12 @@ def list_told(value):
     if all(isinstance(it, list) for it in value):
         is_of_runs = all(isinstance(number, int) for it in value for number in it)
         return list_of(value) if is_of_runs else " ".join(map(",".join, value))
-    return ",".join(port_of(it) if isinstance(it, dict) else it for it in value)
+    return ",".join(port_of(it, names) if isinstance(it, dict) else it for it in value)
 
 
-def port_of(record):
-    return f"{record['bridge']}:{record['port']}"
+def port_of(record, names=None):
+    bridge, number = record["bridge"], record["port"]
+    return names.port(bridge, number) if names else f"{bridge}:{number}"
 
 
 def list_of(runs):

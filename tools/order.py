@@ -14,6 +14,9 @@ It prints the change in its new order; or, with status 1, `none` and why: the en
 nowhere, and the longest front that there is, with what is wrong behind it. With --fewest, where each order breaks the policy, it prints the
 least of those with the fewest steps that do, with status 1. The status is 1 also where the end doesn't keep what FILE's network doesn't.
 
+Where a person reads of a port that lines of FILE (or of CHANGE, or NEW) call by a name, it has that in brackets behind it; and in front of the
+steps stand the lines of those that the change sets (`# port acc1 2 is Te1/0/2`).
+
 For example: order.py mstplan campus.script campus.change keep.policy > ordered.change
              order.py mstplan now.script --edits wanted.script keep.policy > ordered.change
 """
@@ -29,6 +32,7 @@ sys.dont_write_bytecode = True
 
 import mstplan  # noqa: E402
 from command import OK, STATUSES, TOLD, Files, guarded, natural, tell, tell_refused, write  # noqa: E402
+from interfaces import Names  # noqa: E402
 
 TOOL = "order.py"
 MOST, EVERY, LONGEST_REASON = 100_000, 5.0, 160
@@ -83,10 +87,10 @@ def digest_of(network):
 
 
 class Judge:
-    """What a policy says of networks, each asked for once. `network` is the one before the change."""
+    """What a policy says of networks, each asked for once. `network` is the one before the change, and `names` is what ports are called."""
 
-    def __init__(self, program, policy, network, most):
-        self.program, self.policy, self.network, self.most, self.verdicts = program, policy, network, most, {}
+    def __init__(self, program, policy, network, most, names):
+        self.program, self.policy, self.network, self.most, self.names, self.verdicts = program, policy, network, most, names, {}
         records = program.records("verify", network, policy)
         promises = records[-1]["promises"]
         self.lines = {it["line"] for it in promises}
@@ -107,26 +111,26 @@ class Judge:
         if key not in self.verdicts:
             if len(self.verdicts) >= self.most:
                 raise Stopped
-            self.verdicts[key] = unkept_in(self.records(network, edits), self.lines)
+            self.verdicts[key] = unkept_in(self.records(network, edits), self.lines, self.names)
         return {line: why for line, why in self.verdicts[key].items() if is_end or line not in self.final}
 
 
-def unkept_in(records, lines):
+def unkept_in(records, lines, names):
     """Of these lines of a policy those that aren't kept in the last network that is told of, each with its reasons."""
     found = {}
     for it in records:
         if it["kind"] == "mends":
             found.pop(it["line"])
         elif it["kind"] in ("policy", "fails") and it["line"] in lines:
-            found.setdefault(it["line"], []).append(told_of(it))
+            found.setdefault(it["line"], []).append(told_of(it, names))
     return found
 
 
-def told_of(record):
-    """The line of `verify` or of `steps` that a record of a policy stands for."""
+def told_of(record, names):
+    """The line of `verify` or of `steps` that a record of a policy stands for, with what ports are called."""
     failure = record.get("failure")
     place = "" if record["kind"] == "policy" else "now " if failure is None else f"{' '.join(next(iter(failure.items())))} "
-    return f"{record['kind']} {record['line']} {place}{mstplan.reason_in(record)}"
+    return f"{record['kind']} {record['line']} {place}{mstplan.reason_in(record, names)}"
 
 
 def reason_of(unkept):
@@ -148,7 +152,7 @@ class Search:
     def make(self, step):
         """Makes a step: how many of its edits are made, and what is told of the first that is refused."""
         refused = [(edit, told[0]) for edit, told in ((it, self.standing.ask(it)) for it in step.edits) if told]
-        why = f"refused {refused[0][0]}: {refused[0][1]['error']} {refused[0][1]['text']}" if refused else None
+        why = f"refused {self.judge.names.edit(refused[0][0])}: {refused[0][1]['error']} {refused[0][1]['text']}" if refused else None
         return len(step.edits) - len(refused), why
 
     def take_back(self, count):
@@ -286,10 +290,11 @@ def cut(edits, by):
     return "\n\n".join(["mstplan 2", *("\n".join(it) for it in steps.values()), ""]).encode()
 
 
-def printed(order, is_second, failing):
-    """A change of these steps in this order."""
+def printed(order, is_second, failing, names):
+    """A change of these steps in this order, with what their ports are called."""
     note = f"# steps {listed(numbers_of(order))}" + (f", of which {failing} break the policy" if failing else "")
-    lines = [*["mstplan 2"] * is_second, note]
+    called = [it.encode("utf-8").decode("latin-1") for it in names.lines(edits_of(order))]
+    lines = [*["mstplan 2"] * is_second, note, *called]
     for step in order:
         lines += ["", *step.text]
     return "\n".join([*lines, ""]).encode("latin-1")
@@ -329,13 +334,13 @@ def words_of():
     return words
 
 
-def searched(program, words, network, change, policy, wanted):
+def searched(program, words, network, change, policy, wanted, names):
     """The steps of a change, and what a search of them has found: itself, the order, and how many of its steps fail."""
     steps, unread = steps_of(program, network, change)
     if unread:
         write("".join(["none\n", *(f"nowhere line {it['line']} {it['error']} {it['text']}\n" for it in unread)]))
         return None
-    judge = Judge(program, policy, network, words.most)
+    judge = Judge(program, policy, network, words.most, names)
     with program.standing(network) as standing:
         search = Search(standing, judge, steps, wanted)
         search.wanted = search.wanted or search.given_end()
@@ -346,7 +351,7 @@ def searched(program, words, network, change, policy, wanted):
             if before:
                 tell(TOOL, f"the network doesn't keep the policy before the change: {before}")
             for it in judge.unread:
-                tell(TOOL, told_of(it))
+                tell(TOOL, told_of(it, names))
             return search, *search.run(words.fewest)
         finally:
             tell(TOOL, f"{len(judge.verdicts)} networks looked at, {search.tried} steps tried, {time.monotonic() - search.began:.1f} s")
@@ -357,6 +362,7 @@ def main():
     program = mstplan.Program(words.program)
     script = files.bytes_of(words.script)
     change, policy = files.bytes_of(words.edits or words.files[0]), files.bytes_of(words.files[-1])
+    names = Names(script, change)
     network, lines = program.saved(script)
     refused, wanted = tell_refused(TOOL, words.script, lines), None
     if words.edits:
@@ -365,14 +371,14 @@ def main():
         wanted = End(new, [mstplan.line_of(it) for it in program.records("edits", network, new)[1:]])
         change = cut(wanted.edits, words.by)
     try:
-        found = searched(program, words, network, change, policy, wanted)
+        found = searched(program, words, network, change, policy, wanted, names)
     except Stopped:
         raise mstplan.Failed(f"{words.most} networks are looked at, and it isn't known whether there is an order; --most takes more") from None
     if found is None or found[1] is None:
         write("".join(f"{it}\n" for it in found[0].told_none()) if found else "")
         return TOLD
     search, order, failing = found
-    text = printed(order, mstplan.is_second(mstplan.lines_in(change)), failing)
+    text = printed(order, mstplan.is_second(mstplan.lines_in(change)), failing, names)
     unkept = judged(program, network, text, policy, failing, search)
     write(text)
     return TOLD if failing or unkept or refused or search.judge.unread else OK

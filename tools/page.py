@@ -28,6 +28,7 @@ import answers  # noqa: E402
 import mstplan  # noqa: E402
 import places  # noqa: E402
 import broken  # noqa: E402
+from interfaces import Names  # noqa: E402
 
 SCRIPTS = (
     "network.js", "words.js", "boxes.js", "cables.js", "picture.js", "paint.js", "sight.js", "overview.js", "telling.js", "sheets.js", "steps.js", "page.js",
@@ -71,17 +72,18 @@ class Maker:
         self.program, self.sweeping = program, sweeping
         self.policy_name, self.policy = (os.path.basename(policy), bytes_of(policy)) if policy else (None, None)
 
-    def networks(self, path, script, steps):
-        """The network of a script as the page has it, and those behind the edits of each step."""
-        networks = list(answers.networks_of(self.program, script, steps, self.sweeping))
+    def networks(self, path, script, steps, *others):
+        """The network of a script as the page has it, and those behind the edits of each step. What ports are called the script says, or else
+        one of these others."""
+        networks, names = list(answers.networks_of(self.program, script, steps, self.sweeping)), Names(*others, script)
         for network in networks:
-            network["script"] = os.path.basename(path)
+            network["script"], network["interfaces"] = os.path.basename(path), names.by_port()
         tell_refused(path, networks[0]["refused"])
         return networks
 
-    def judged(self, path, script):
+    def judged(self, path, script, *others):
         """The network of a script, with what isn't kept of the policy, where there is one."""
-        network, = self.networks(path, script, [])
+        network, = self.networks(path, script, [], *others)
         if self.policy is not None:
             network["promises"] = {"policy": self.policy_name, **self.program.promises(script, self.policy)[0]}
         return network
@@ -93,14 +95,14 @@ class Maker:
     def both(self, old_path, path):
         """Two networks, and what differs in them."""
         old, new = bytes_of(old_path), bytes_of(path)
-        after, before = self.judged(path, new), self.judged(old_path, old)
+        after, before = self.judged(path, new, old), self.judged(old_path, old, new)
         return {"after": after, "before": before, "differences": self.program.differences(old, new), "places": places.layout([after, before])}
 
     def steps(self, path, change_path):
         """A network, and what each step of a change does to it, with the network behind the step."""
         script, change = bytes_of(path), bytes_of(change_path)
         steps, judged, counts = self.program.steps(script, change, self.policy)
-        networks = self.networks(path, script, [answers.edits_in(step, script, change) for step in steps])
+        networks = self.networks(path, script, [answers.edits_in(step, script, change) for step in steps], change)
         tell_refused(change_path, [it for step in steps for it in step["refused"]])
         for step, network in zip(steps, networks[1:]):
             step["network"] = network

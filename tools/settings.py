@@ -1,12 +1,9 @@
-"""A network by the lines that `mstplan save` prints of it, changed by edits that PROGRAM has accepted; and what ports are called in the
-comments of an importer's script."""
+"""A network by the lines that `mstplan save` prints of it, changed by edits that PROGRAM has accepted."""
 
-import re
 from dataclasses import dataclass, field
 
 import mstplan
 
-NAMED = re.compile(r"([0-9]+) is (.+?)(?=, [0-9]+ is |$)")
 HIGHEST_VID, HIGHEST_COST = 4094, 200_000_000
 # What is set of a bridge and a port by one value that isn't in the way of commands.
 SILENT = ("setsyspri", "setmaxhops", "setmaxage")
@@ -182,22 +179,3 @@ class Network:
         if len(inside) != 1:
             return None, None
         return ("internal", port.internal.get(0, 0)) if True in inside else ("external", port.external)
-
-
-def interfaces_of(*scripts):
-    """What comments that importers put before `addbridge` call ports, by (bridge, number): the interface of its cable, and the bundle that
-    this is of, or None."""
-    found = {}
-    for script in scripts:
-        told = ""
-        for line in (it.decode(errors="replace") for it in mstplan.lines_in(script)):
-            if line.startswith("# "):
-                told += (" " if told else "") + line[2:]
-                continue
-            if line.startswith("addbridge ") and ": " in told:
-                name = line.split()[1]
-                for number, its in NAMED.findall(told.split(": ", 1)[1]):
-                    interface, _, bundle = its.partition(" of ")
-                    found[name, int(number)] = interface, bundle or None
-            told = ""
-    return found

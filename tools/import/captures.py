@@ -429,7 +429,7 @@ class Heard(Network):
 
     def lines_of(self, bridge):
         """The lines of a bridge."""
-        yield from comment(f"{bridge.mac}" if bridge.said else f"{bridge.mac} wasn't heard: this bridge stands for it")
+        yield from comment("bridge", bridge.mac if bridge.said else f"{bridge.mac} wasn't heard: this bridge stands for it")
         yield f"addbridge {bridge.name} {bridge.mac}"
         if bridge.region:
             yield f"setmstconfid {bridge.name} {bridge.region[1]} {self.name_of(bridge.region)}"

@@ -17,6 +17,10 @@ import sys
 import textwrap
 from dataclasses import dataclass, field
 
+sys.path.append(os.path.join(os.path.dirname(os.path.abspath(__file__)), os.pardir))
+
+from interfaces import line_of  # noqa: E402
+
 DEFAULT_SPEED = 1_000_000
 DEFAULT_PRIORITY, DEFAULT_PORT_PRIORITY, DEFAULT_MAX_AGE, DEFAULT_MAX_HOPS = 32768, 128, 20, 20
 LONGEST_NAME, LONGEST_END, LONGEST_LIST, HIGHEST_COST, HIGHEST_SPEED = 16, 10, 4000, 200_000_000, 9_999_999_999
@@ -267,9 +271,10 @@ def vids_of(text):
     return found
 
 
-def comment(text):
-    """A comment's lines, each short enough for the language, whatever the devices' words have in them. A word with hyphens isn't broken."""
-    return textwrap.wrap(printable(text), 120, initial_indent="# ", subsequent_indent="# ", break_on_hyphens=False)
+def comment(word, text):
+    """A comment's lines, each short enough for the language, whatever the devices' words have in them: none says what a port is called. A
+    word with hyphens isn't broken."""
+    return textwrap.wrap(printable(text), 120, initial_indent=f"# {word} ", subsequent_indent="# .. ", break_on_hyphens=False)
 
 
 @functools.lru_cache
@@ -437,7 +442,7 @@ class Network:
             for number, port in sorted(bridge.ports.items()):
                 yield from self.port_lines(f"{bridge.name} {number}", port, automatic(speeds.get(port.lan)))
         for lan in self.lans:
-            yield from comment(where_of(lan.ends))
+            yield from comment("LAN of", where_of(lan.ends))
             yield f"addlan {lan.name}"
             if lan.speed not in (None, DEFAULT_SPEED):
                 yield f"speed {lan.name} {lan.speed}"
@@ -446,8 +451,7 @@ class Network:
 
     @staticmethod
     def bridge_lines(bridge):
-        numbers = ", ".join(f"{number} is {port.named}" for number, port in sorted(bridge.ports.items()))
-        yield from comment(f"{bridge.label}: {numbers or 'no ports'}")
+        yield from comment("bridge", bridge.label)
         yield f"addbridge {bridge.name} {bridge.mac}"
         if bridge.region is None:
             yield f"kind {bridge.name} rstp"
@@ -466,6 +470,9 @@ class Network:
     @staticmethod
     def port_lines(its, port, cost):
         """The lines of a port, `its` being its bridge and number, and `cost` the automatic one in its LAN alone."""
+        bridge, number = its.split()
+        if port.named not in ("", number):
+            yield line_of(bridge, number, printable(port.named))
         yield f"addport {its}"
         if port.key:
             yield f"setkey {its} {port.key}"

@@ -70,6 +70,7 @@ class Network {
     this.ports = mapOf(told.ports);
     this.up = mapOf(told.up);
     this.reasons = mapOf(told.reasons);
+    this.interfaces = mapOf(told.interfaces ?? {});
     this.trees = new Map();
     this.names = new Map();
     for (const [number, tree] of Object.entries(told.trees)) {
@@ -94,6 +95,8 @@ class Network {
   isOn(bridge, failure) { return this.bridges.get(bridge).on && !failure?.takesAway("bridge", bridge); }
   bridgeIn(tree, bridge) { return this.trees.get(tree)?.bridges.get(bridge); }
   portsOf(bridge) { return this.portsAt.get(bridge) ?? []; }
+  /** What a port is called by the script, its interface and perhaps ` of ` and a bundle; null where nothing says it. */
+  interfaceOf(port) { return this.interfaces.get(port) ?? null; }
   lanOf(port) { return this.trees.get(CIST).ports.get(port).lan; }
 
   /** A logical LAN is down where no member of it is up, or the one that is left fails. */
