@@ -155,7 +155,7 @@ def of_network(reader):
 
 # Each importer's samples, of which an input has one set, and what runs it.
 IMPORTERS = {
-    "links.py": ([samples(f"campus/{name}.txt") for name in ("links", "switches")], lambda its: links.read_data(*its.popitem()[::-1])),
+    "links.py": ([*(samples(f"campus/{name}.txt") for name in ("links", "switches")), samples("campus/cables.csv", "campus/switches.csv")], of_network(links)),
     "lldp.py": ([hosts()], of_network(lldp)),
     "cisco.py": ([switches(), nexus()], of_network(cisco)),
     "ovs.py": ([samples(f"ovs/{name}") for name in ("stp", "bonds", "settings")], of_network(ovs)),

@@ -37,6 +37,14 @@ SAMPLES = [
     ("links.py", ["campus/switches.txt"], None, 0, [
         "assumed: MAC addresses, and so who is root where priorities are equal; priorities, regions, VLANs",
     ]),
+    ("links.py", ["campus/cables.csv", "campus/switches.csv"], None, 0, [
+        "switches.csv columns that aren't read: Rack",
+        "assumed: revision 0 and no tree besides the CIST in the regions EDGE, HQ",
+        "cables that aren't connected by their status are left out: 1 planned",
+        "cables to what no table of switches has are left out: 1, to printer-3",
+        "rows that tell of a cable again: 1",
+        "assumed: MAC addresses, and so who is root where priorities are equal; priorities, VLANs",
+    ]),
     ("cisco.py", ["cisco/campus"], cisco.read, 114, [
         "acc1: spanning-tree bpduguard enable isn't planned",
         "core2.cdp line 32 isn't understood: Weather: fair",
@@ -254,9 +262,9 @@ def check_strange(program):
 
 
 EMPTY = "no bridge is read: the network is empty"
-TABLE = """one a:1 b:1 10G 7 vlans=10,20-29
+TABLE = """one a:1 b:Te1/0/1 2.5gb 7 vlans=10,20-29
 two a:2 b:4096
-three a:2 b:2 0
+three a:2 b:2 1000
 four a:2 b:2 1G 65536
 five a:2 b:2 vlans=4095
 six:1 a:2
@@ -264,7 +272,7 @@ seven seventeen-letters:1 a:2
 one a:3
 eight a:1
 nine a:2 b:2 1G 7 colour=blue
-switch a mac=00:1b:21:AA:00:01 region=HQ
+switch a mac=001b.21AA.0001 region=HQ priority=4096 priority2=8192
 switch b mac=00:1b:21:aa:00:01
 switch c mac=00:1b:21:aa:00
 switch d region=nowhere
@@ -272,11 +280,14 @@ region HQ revision=1 1=10,20 2=30
 region HX 1=10 2=10
 region HY revision=65536
 \x1b[2J
+ten a:3 b:Gi1/0/1 10Gbit/s vlans=all
+eleven a:4 b:TE1/0/1
+switch e priority=4097
 """
 TABLE_TOLD = [
     "assumed: MAC addresses, and so who is root where priorities are equal; priorities, regions",
     "line 2: 4096 is no port's number, 1 to 4095: two a:2 b:4096",
-    "line 3: 0 is no speed in kb/s, 1 to 9999999999: three a:2 b:2 0",
+    "line 3: 1000 is a speed without a unit, which may be kb/s, Mb/s or Gb/s: write 1000k, 1000M or 1000G: three a:2 b:2 1000",
     "line 4: 65536 is no key, 0 to 65535: four a:2 b:2 1G 65536",
     "line 5: 4095 is no VID, or no two with the first one not greater: five a:2 b:2 vlans=4095",
     "line 6: six:1 is no name of a LAN: 1 to 16 letters, digits, _, - and ., the first a letter or a digit: six:1 a:2",
@@ -290,24 +301,83 @@ TABLE_TOLD = [
     "line 16: VLAN 10 stands in two trees: region HX 1=10 2=10",
     "line 17: 65536 is no revision, 0 to 65535: region HY revision=65536",
     "line 18: a line has a LAN, and one port A:1 or more: \\x1b[2J",
+    "line 20: the port b:TE1/0/1 stands twice: eleven a:4 b:TE1/0/1",
+    "line 21: 4097 is no priority of a switch: a multiple of 4096 from 0 to 61440; 4096 is the next below: switch e priority=4097",
     "line 14: no line has the region nowhere: switch d region=nowhere",
 ]
 TABLE_LINES = [
-    "addbridge a 00:1b:21:aa:00:01", "setmstconfid a 1 HQ", "setvid2mstid a 1 10,20", "setvid2mstid a 2 30",
-    "addbridge b 02:00:00:00:00:01", "addbridge d 02:00:00:00:00:02", "addlan one", "speed one 10000000",
-    "addport a 1", "setkey a 1 7", "setportvlans a 1 10,20-29", "plug a 1 one",
-    "addport b 1", "setkey b 1 7", "setportvlans b 1 10,20-29", "plug b 1 one",
+    "mstplan 2",
+    "# bridge a", "addbridge a 00:1b:21:aa:00:01", "setmstconfid a 1 HQ", "setvid2mstid a 1 10,20", "setvid2mstid a 2 30", "settreeprio a 0 4096",
+    "settreeprio a 2 8192", "addport a 1", "setkey a 1 7", "setportvlans a 1 10,20-29", "addport a 3",
+    "# bridge b", "addbridge b 02:00:00:00:00:01", "# port b 1 is Te1/0/1", "addport b 1", "setkey b 1 7", "setportvlans b 1 10,20-29",
+    "# port b 2 is Gi1/0/1", "addport b 2", "# bridge d", "addbridge d 02:00:00:00:00:02",
+    "# LAN of a 1 and b Te1/0/1", "addlan one", "speed one 2500000", "plug a 1 one", "plug b 1 one",
+    "# LAN of a 3 and b Gi1/0/1", "addlan ten", "speed ten 10000000", "plug a 3 ten", "plug b 2 ten",
 ]
+# Tables with headers, of each the lines of cables in the script, and what is told. The first two are as NetBox exports cables, and imports them;
+# then LibreNMS' links, which tell of each cable from both ends.
+OF_PORTS = re.compile("# port |addlan|speed |plug |setkey|setportvlans")
+HEADED = [
+    ("""ID,Label,Device A,Termination A,Device B,Termination B,Status,Type,Rack A
+1,c1,sw-1.example.net,xe-0/0/7,sw-2.example.net,xe-0/0/48,Connected,SMF,R1
+2,,sw-1.example.net,PSU1,pdu-1,4,Connected,Power,R1
+3,,sw-1.example.net,"xe-0/0/1,xe-0/0/2",sw-2.example.net,xe-0/0/1,Connected,SMF,
+4,,sw-1.example.net,xe-0/0/3,,,Planned,SMF,
+""", ["# port sw-1.example.net 7 is xe-0/0/7", "# port sw-2.example.net 48 is xe-0/0/48", "addlan c1", "plug sw-1.example.net 7 c1", "plug sw-2.example.net 48 c1"], [
+        "line 4: xe-0/0/1,xe-0/0/2 is more than one port: 3,,sw-1.example.net,xe-0/0/1,xe-0/0/2,sw-2.example.net,xe-0/0/1,Connected,SMF,",
+        "columns that aren't read: ID, Rack A", "cables that aren't connected by their status are left out: 1 planned",
+        "cables of power, consoles and other things than interfaces are left out: 1"]),
+    ("""side_a_device,side_a_type,side_a_name,side_b_device,side_b_type,side_b_name,status,label
+a,dcim.interface,Ethernet1/1,b,dcim.interface,Ethernet2/1,connected,c1
+a,dcim.consoleport,Console,t,dcim.consoleserverport,p1,connected,
+""", ["# port a 1 is Ethernet1/1", "# port b 1 is Ethernet2/1", "addlan c1", "plug a 1 c1", "plug b 1 c1"],
+     ["cables of power, consoles and other things than interfaces are left out: 1"]),
+    ("""Local Device,Local Port,Remote Device,Remote Port,Protocol
+sw1.example.com,Gi1/0/1,SW2,GigabitEthernet1/0/24,cdp
+sw2,Gi1/0/24,sw1.example.com,GigabitEthernet1/0/1,cdp
+sw1,Gi1/0/2,host,eth0,lldp
+""", ["# port sw1 1 is Gi1/0/1", "# port sw1 2 is Gi1/0/2", "# port SW2 24 is GigabitEthernet1/0/24", "# port host 1 is eth0", "addlan sw1-SW2", "plug sw1 1 sw1-SW2",
+      "plug SW2 24 sw1-SW2", "addlan sw1-host", "plug sw1 2 sw1-host", "plug host 1 sw1-host"],
+     ["columns that aren't read: Protocol", "rows that tell of a cable again: 1"]),
+    ("sep=;\r\nFrom;To;Speed (Mb/s);Trunk group;VLANs\r\na:Te1/0/1;b Te2/0/2;40000;ae3;10 20-29\r\na:Te1/0/2;b:3;10G;x;\r\na;b:4;;;\r\n",
+     ["# port a 1 is Te1/0/1 of ae3", "setkey a 1 3", "setportvlans a 1 10,20-29", "# port b 2 is Te2/0/2 of ae3", "setkey b 2 3", "setportvlans b 2 10,20-29",
+      "addlan a-b", "speed a-b 40000000", "plug a 1 a-b", "plug b 2 a-b"],
+     ["line 4: x has no number, which is the key of its links: a:Te1/0/2;b:3;10G;x;", "line 5: no port of a is named: a;b:4;;;"]),
+    ("Switch A;Port A;Switch B;Port B;Speed\na;1;b;1;10\na;2;b;2;100Mbps\na;Gi2/0/2;b;Gi0/0/0;\na;1\n",
+     ["# port a 3 is Gi2/0/2", "# port b 3 is Gi0/0/0", "addlan a-b", "speed a-b 100000", "plug a 2 a-b", "plug b 2 a-b", "addlan a-b.2", "plug a 3 a-b.2",
+      "plug b 3 a-b.2", "addlan a-1", "plug a 1 a-1"],
+     ["line 2: 10 is a speed without a unit, which may be kb/s, Mb/s or Gb/s: write 10k, 10M or 10G: a;1;b;1;10"]),
+    ("Name,Vendor,Model\nx,y,z\n", [], [
+        "line 1: this header has no columns that name two switches and their ports (Switch A, Port A, Switch B, Port B), nor switches with a MAC or a "
+        "priority: Name,Vendor,Model", EMPTY]),
+]
+
+
+def imported_table(text):
+    """What links.py writes and tells of a table, and its status."""
+    ran = subprocess.run([sys.executable, os.path.join(TOOLS, "links.py")], input=text.encode(), capture_output=True, check=False)
+    return ran.stdout.decode(), ran.stderr.decode().splitlines(), ran.returncode
+
+
+def check_headed(program):
+    """Tables with headers."""
+    wrong = []
+    for text, wanted, told in HEADED:
+        script, its, status = imported_table(text)
+        lines, its = [it for it in script.splitlines() if OF_PORTS.match(it)], [it for it in its if not it.startswith("assumed: ")]
+        wrong += [] if (lines, its, status) == (wanted, told, int(any("line " in it for it in told))) else [f"status {status}, {lines}, {its}"]
+        wrong += answers(program, script)[0]
+    return wrong
 
 
 def check_table(program):
     """A table with lines that can't be read: each is told with its number and its text, and the others are in the script."""
-    ran = subprocess.run([sys.executable, os.path.join(TOOLS, "links.py")], input=TABLE, capture_output=True, text=True, check=False)
-    wrong = [] if ran.returncode == 1 else [f"status {ran.returncode}"]
-    wrong += [f"told: {line}" for line in ran.stderr.splitlines() if line not in TABLE_TOLD]
-    wrong += [f"not told: {line}" for line in TABLE_TOLD if line not in ran.stderr.splitlines()]
-    wrong += [] if ran.stdout.splitlines() == TABLE_LINES else ran.stdout.splitlines()
-    return wrong + answers(program, ran.stdout)[0]
+    script, told, status = imported_table(TABLE)
+    wrong = [] if status == 1 else [f"status {status}"]
+    wrong += [f"told: {line}" for line in told if line not in TABLE_TOLD]
+    wrong += [f"not told: {line}" for line in TABLE_TOLD if line not in told]
+    wrong += [] if script.splitlines() == TABLE_LINES else script.splitlines()
+    return wrong + answers(program, script)[0]
 
 
 def check_words(_):
@@ -316,7 +386,7 @@ def check_words(_):
     for importer in fuzz.IMPORTERS:
         script = os.path.join(TOOLS, importer)
         for words, status in ((["--help"], 0), ([os.path.join(FILES, "none")], 1 if importer == "ovs.py" else 3),
-                              (["a", "b", "c", "d"] if importer != "ovs.py" else [], 2)):
+                              (["a", "b", "c", "d"] if importer != "ovs.py" else [], 3 if importer == "links.py" else 2)):
             out, told, its = imported(importer, words)
             if its != status or ("usage: " in out) != (status == 0) or any("Traceback" in line for line in told):
                 wrong.append(f"{importer} {' '.join(words)}: status {its}, {told[-1:]}")
@@ -434,7 +504,7 @@ def main():
         sys.exit(__doc__)
     program = os.path.abspath(sys.argv[1])
     checks = [(" ".join([importer, *words]), check_sample(program, importer, words, *more)) for importer, words, *more in SAMPLES]
-    others = {"made-up hosts": check_strange, "a table": check_table, "words": check_words, "bundles": check_bundles,
+    others = {"made-up hosts": check_strange, "a table": check_table, "tables with headers": check_headed, "words": check_words, "bundles": check_bundles,
               "Cisco's roles": check_cisco, "what is left out": check_left_out, "names of cables": check_names}
     checks += [(name, its(program)) for name, its in others.items()]
     checks += [(f"{fuzz.INPUTS} inputs of {importer}", fuzz.check(program, importer)) for importer in fuzz.IMPORTERS]

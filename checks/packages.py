@@ -35,7 +35,7 @@ DOC = "usr/share/doc/mstplan"
 SOURCES = "/etc/apt/sources.list.d/debian.sources"
 # Some commands with words and standard input below the samples, and how the first line begins that each prints.
 RUNS = [
-    ("mstplan-import-links", ["import/campus/links.txt"], None, "addbridge core1 "),
+    ("mstplan-import-links", ["import/campus/links.txt"], None, "mstplan 2"),
     ("mstplan-import-lldp", ["import/lab"], None, "mstplan 2"),
     ("mstplan-import-ovs", ["import/ovs/rstp"], None, "mstplan 2"),
     ("mstplan-import-cisco", ["import/cisco/campus"], None, "mstplan 2"),

@@ -43,19 +43,12 @@ sys.path.append(os.path.join(os.path.dirname(os.path.abspath(__file__)), os.pard
 
 import mstplan  # noqa: E402
 from network import (  # noqa: E402
-    DEFAULT_MAX_AGE, DEFAULT_MAX_HOPS, HIGHEST_COST, HIGHEST_KEY, HIGHEST_PORT, HIGHEST_VID, MOST_TREES, NOTHING_READ, STATUS_FAULT,
-    STATUS_UNREAD, STATUS_WORDS, Joined, Network, Port, Region, agreed, called, decoded, files_of, guarded, identifier, put, runs,
-    vids_of, warn, write,
+    DEFAULT_MAX_AGE, DEFAULT_MAX_HOPS, HIGHEST_COST, HIGHEST_KEY, HIGHEST_PORT, HIGHEST_VID, MOST_NAMED, MOST_TREES, NOTHING_READ, STATUS_FAULT,
+    STATUS_UNREAD, STATUS_WORDS, Joined, Network, Port, Region, agreed, called, decoded, files_of, guarded, identifier, listed, put, runs,
+    short, vids_of, warn, write,
 )
 
 ENDINGS = (".mst", ".config", ".cdp", ".lldp")
-# What the texts call an interface in full, and in short.
-SHORT = {
-    "tengigabitethernet": "Te", "gigabitethernet": "Gi", "fastethernet": "Fa", "twogigabitethernet": "Tw", "twentyfivegige": "Twe",
-    "twentyfivegigabitethernet": "Twe", "fivegigabitethernet": "Fi", "fortygigabitethernet": "Fo", "hundredgige": "Hu",
-    "hundredgigabitethernet": "Hu", "port-channel": "Po", "ethernet": "Eth",
-}
-INTERFACE = re.compile(r"([A-Za-z-]+) ?([0-9][0-9/.:]*)")
 ROLES = {"Root": "Root", "Desg": "Designated", "Altn": "Alternate", "Back": "Backup", "Mstr": "Master", "Disa": "Disabled"}
 STATES = {"FWD": True, "BLK": False}
 PER_VLAN = ("pvst", "rapid-pvst")
@@ -65,8 +58,6 @@ NUMBER, ADDRESS = "([0-9]{1,9})", "([0-9a-fA-F]{4}[.][0-9a-fA-F]{4}[.][0-9a-fA-F
 NUMBERS_LESS = 2048
 # The VLANs that each switch has.
 ALWAYS_THERE = {1, 1002, 1003, 1004, 1005}
-# How many of what many have in common are named.
-MOST_NAMED = 4
 # Lines that are in any of the texts and tell nothing.
 NOTHING = re.compile(r"\s*|[A-Za-z0-9][A-Za-z0-9_.-]*[#>].*|-+( +-+)*\s*|Load for .*|Time source is .*")
 INSTANCE = re.compile(rf"#+ MST{NUMBER}\s+vlans mapped:\s*([0-9,-]*|none)\s*")
@@ -188,12 +179,6 @@ class Switch:
         return f"Po{its.group}" if its and its.group is not None else interface
 
 
-def short(interface):
-    """An interface's name in short: TenGigabitEthernet1/0/1 is Te1/0/1."""
-    found = INTERFACE.fullmatch(interface)
-    return SHORT.get(found[1].lower(), found[1]) + found[2] if found else interface
-
-
 def mac(text):
     digits = text.replace(".", "").lower()
     return ":".join(digits[at:at + 2] for at in range(0, 12, 2))
@@ -203,12 +188,6 @@ def vids(text):
     """The VIDs of a list as a configuration writes it, with spaces or without. Raises ValueError where it is none."""
     text = re.sub(r"\s", "", text)
     return set() if text == "none" else vids_of(text)
-
-
-def listed(places):
-    """A few of these places, and how many more there are."""
-    its = list(dict.fromkeys(places))
-    return ", ".join(its[:MOST_NAMED]) + (f" and {len(its) - MOST_NAMED} more" if len(its) > MOST_NAMED else "")
 
 
 def and_more(places):

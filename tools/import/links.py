@@ -1,97 +1,63 @@
 #!/usr/bin/env python3
-"""Makes a script of a table of links: a line for each LAN with the ports on it, and perhaps lines of switches and of regions.
+"""Makes a script of tables of cables: a line for each LAN with the ports on it, or a table with a header, and perhaps what switches are.
 
-usage: links.py [FILE]    (standard input if left out, or -)
+usage: links.py [FILE ...]    (standard input if left out, or -)
+
+A table with a header (CSV, with ; , tabs or | between cells) has a row for each cable. Which column is which, the words of its head say, in
+any order: a side (A and B, local and remote, from and to) and a switch or device, or a port, interface or termination. So what NetBox
+exports of cables is read, its form for imports too, and what LibreNMS has of links:
+
+    Switch A;Port A;Switch B;Port B;Speed;LAG;VLANs          Device A,Termination A,Device B,Termination B,Status
+    core1;Te1/0/3;dist1;Te1/0/1;10G;;10,20,30                Local device,Local port,Remote device,Remote port
+
+There may be columns of the cable's name, its speed, its LAG and VLANs. Of a table with the columns Switch (or Name, Device) and MAC, Priority,
+Priority TREE or Region each row is a switch; where there is one, cables to other devices are left out, and counted. So are cables that aren't
+connected by their status, and those of power and consoles. Columns that aren't read are told. A cable that is told from both ends counts once.
+
+A table without a header has lines:
 
     LAN A:1 B:1 [SPEED] [KEY] [vlans=VIDS]
-    switch A [mac=MAC] [region=REGION]
+    switch A [mac=MAC] [priority=PRIORITY] [priorityTREE=PRIORITY ...] [region=REGION]
     region REGION [revision=REVISION] [TREE=VIDS ...]
 
-LAN is a name, A and B are switches and 1 a port's number, 1 to 4095; a line may have more than two ports, or one. SPEED is in
-kb/s, or with M or G behind it (1G), 1 to 9999999999 kb/s; a LAN without one has the planner's own default. KEY, 0 to 65535, is the
-aggregation key of all these ports: links between two switches with one key count as one link. VIDS are like 10,20-29, and all
-these ports are members of these VLANs alone; without them they are members of all. What stands behind # is left out.
+LAN is a name, A and B are switches and 1 a port: its number, 1 to 4095, or what its interface is called (core1:Te1/0/1). A line may have more
+than two ports, or one. What stands behind # is left out. Lines of all kinds may stand in any order, and several files are one table. For
+example:
 
-A switch's line gives its MAC address, as six pairs of digits with : or - between, and the MST region that it is in. A region's
-line gives its revision, 0 to 65535, and the VLANs of each tree from 1 to 4094; other VLANs are the CIST's. A switch that is in no
-region is one of its own. Lines may stand in any order. For example:
-
-    core1-dist1 core1:1 dist1:1 10G vlans=10,20,30
-    switch core1 mac=00:1b:21:aa:00:01 region=HQ
-    switch dist1 mac=00:1b:21:aa:00:02 region=HQ
+    core1-dist1 core1:1 dist1:Te1/0/1 10G vlans=10,20,30
+    switch core1 mac=00:1b:21:aa:00:01 priority=4096 region=HQ
+    switch dist1 mac=001b.21aa.0002 region=HQ
     region HQ revision=1 1=10,20 2=30
 
-and: links.py examples/import/campus/links.txt | mstplan run -
+and: links.py examples/import/campus/cables.csv examples/import/campus/switches.csv | mstplan run -
 
-What a table doesn't say is what a new switch has, and switches without a MAC address get 02:00:00:00:00:01 and on, in the order in
-which they come; add lines to the script for what isn't so. What was assumed is told on standard error. A line that can't be read or
-is out of range is told there first, with its number and its text, and left out, with status 1; so it is of a table without a switch.
-Status 2 stands for wrong words, 3 for a file that can't be read and for standard output that can't be written.
+SPEED has a unit: 10G, 2.5G, 10GB, 100M or 64k; a LAN without one has the planner's own default. KEY, 0 to 65535, is the aggregation key of all
+these ports: links between two switches with one key count as one link. In a LAG's name it is the last number, and ports are of that bundle.
+VIDS are like 10,20-29, or all, or none, and all these ports are members of these VLANs alone; without them they are members of all. MAC is in
+any form that devices print. PRIORITY is a multiple of 4096, in the CIST or in TREE. A region's line gives its revision, 0 to 65535, and the
+VLANs of each tree from 1 to 4094; other VLANs are the CIST's. A switch that is in no region is one of its own.
+
+Ports that are called by a name have the last number in it, or where another port of their switch has that, one above all of these; a comment
+in the script says which port is which. Long names of switches are cut. What a table doesn't say is what a new switch has, and switches
+without a MAC address get 02:00:00:00:00:01 and on, in the order in which they come. What was assumed is told on standard error. A line that
+can't be read or is out of range is told there first, with its number and its text, and left out, with status 1; so it is of a table without a
+switch. Status 2 stands for wrong words, 3 for a file that can't be read and for standard output that can't be written.
 """
 
+import os
 import re
 import sys
-from dataclasses import dataclass, field
 
 sys.dont_write_bytecode = True
 
-from network import (  # noqa: E402
-    HIGHEST_KEY, HIGHEST_PORT, HIGHEST_SPEED, HIGHEST_VID, MAC, MOST_BRIDGES, MOST_LANS, MOST_PORTS, MOST_TREES, NOTHING_READ, STATUS_FAULT,
-    STATUS_UNREAD, Region, called, contents, decoded, guarded, put, region_lines, runs, vids_of, warn,
-)
+from cables import REGION, End, Link, Switch, Tables, Unread, mac, port_of, priority, speed, vids, whole  # noqa: E402
+from columns import Rows, is_of_cells  # noqa: E402
+from network import HIGHEST_KEY, HIGHEST_VID, MOST_TREES, STATUS_FAULT, Region, called, contents, decoded, guarded, warn, write  # noqa: E402
 
 NAME = re.compile(r"[A-Za-z0-9][A-Za-z0-9_.-]{0,15}")
-PORT = re.compile(r"([^:]*):([0-9]+)")
-REGION = re.compile(r"[!-~]{1,32}")
-SPEED = re.compile(r"([0-9]{1,15})([MG]?)")
-UNITS = {"": 1, "M": 1_000, "G": 1_000_000}
-
-
-class Unread(Exception):
-    """A line that can't be read, and why."""
-
-
-@dataclass
-class Link:
-    """A LAN, its ports as (switch, number), its speed in kb/s, its key, and its VIDs; each of them None where none is told."""
-    lan: str
-    ports: list[tuple[str, int]]
-    speed: int | None = None
-    key: int | None = None
-    vlans: set[int] | None = None
-
-
-@dataclass
-class Switch:
-    """What a switch's own line tells: its MAC address and the name of its region, each None where it doesn't, and which line that
-    is, and its text."""
-    mac: str | None = None
-    region: str | None = None
-    where: str = ""
-    line: str = ""
-
-
-@dataclass
-class Table:
-    """The links, switches and regions of a table, and the lines that can't be read."""
-    links: list[Link] = field(default_factory=list)
-    switches: dict[str, Switch] = field(default_factory=dict)
-    regions: dict[str, Region] = field(default_factory=dict)
-    unread: list[str] = field(default_factory=list)
-
-
-def whole(word, what, low, high):
-    """A number in a range. Raises Unread for any other word."""
-    if not re.fullmatch("[0-9]{1,15}", word) or not low <= int(word) <= high:
-        raise Unread(f"{word} is no {what}, {low} to {high}")
-    return int(word)
-
-
-def vids(word):
-    try:
-        return vids_of(word)
-    except ValueError as why:
-        raise Unread(str(why)) from None
+PORT = re.compile(r"([^:=]*):([^=]+)")
+PRIORITY = re.compile("priority([0-9]{0,4})")
+NO_HEADER = "this header has no columns that name two switches and their ports (Switch A, Port A, Switch B, Port B), nor switches with a MAC or a priority"
 
 
 def name_of(word, what):
@@ -101,11 +67,11 @@ def name_of(word, what):
 
 
 def options(words, keys):
-    """The words KEY=VALUE as a dict. Raises Unread for any other word, and for a key that isn't among these or stands twice."""
+    """The words KEY=VALUE as a dict, the keys being forms. Raises Unread for any other word, and for a key that isn't among these or stands twice."""
     found = {}
     for word in words:
         key, equals, its = word.partition("=")
-        if not equals or key not in keys and not (key.isdecimal() and "TREE" in keys):
+        if not equals or not any(re.fullmatch(form, key) for form in keys.values()):
             raise Unread(f"{word} isn't one of {', '.join(f'{it}=' for it in keys)}")
         if key in found:
             raise Unread(f"{key}= stands twice")
@@ -119,35 +85,30 @@ def link(words):
     count = next((at for at, it in enumerate(found) if not it), len(found))
     if not count:
         raise Unread("a line has a LAN, and one port A:1 or more")
-    ports = [(name_of(it[1], "switch"), whole(it[2], "port's number", 1, HIGHEST_PORT)) for it in found[:count]]
-    twice = next((port for at, port in enumerate(ports) if port in ports[:at]), None)
-    if twice:
-        raise Unread("the port {}:{} stands twice".format(*twice))
-    its, others = Link(name_of(words[0], "LAN"), ports), words[1 + count:]
-    named = options([word for word in others if "=" in word], ("vlans",))
+    ends = [End(name_of(it[1], "switch"), port_of(it[2])) for it in found[:count]]
+    its, others = Link(name_of(words[0], "LAN"), ends), words[1 + count:]
+    named = options([word for word in others if "=" in word], {"vlans": "vlans"})
     others = [word for word in others if "=" not in word]
     if len(others) > 2:
         raise Unread(f"behind the ports stand a speed, a key and vlans= alone, and not {others[2]}")
     if others:
-        speed = SPEED.fullmatch(others[0])
-        if not speed:
-            raise Unread(f"{others[0]} is no speed")
-        its.speed = whole(str(int(speed[1]) * UNITS[speed[2]]), "speed in kb/s", 1, HIGHEST_SPEED)
+        its.speed = speed(others[0])
     if len(others) == 2:
-        its.key = whole(others[1], "key", 0, HIGHEST_KEY)
+        key = whole(others[1], "key", 0, HIGHEST_KEY)
+        for end in ends:
+            end.key = key
     if "vlans" in named:
-        its.vlans = vids(named["vlans"])
+        its.has_vlans, its.vlans = True, vids(named["vlans"])
     return its
 
 
 def switch(words):
     """A switch of the words of its line, behind `switch`."""
-    named = options(words[1:], ("mac", "region"))
-    its = Switch(region=named.get("region"))
-    if "mac" in named:
-        its.mac = named["mac"].lower().replace("-", ":")
-        if not MAC.fullmatch(its.mac):
-            raise Unread(f"{named['mac']} is no MAC address")
+    named = options(words[1:], {"mac": "mac", "priority": PRIORITY, "priorityTREE": PRIORITY, "region": "region"})
+    its = Switch(mac(named["mac"]) if "mac" in named else None, named.get("region"))
+    for key, value in named.items():
+        if found := PRIORITY.fullmatch(key):
+            its.priorities[whole(found[1] or "0", "tree", 0, HIGHEST_VID)] = priority(value)
     return name_of(words[0], "switch"), its
 
 
@@ -155,10 +116,12 @@ def region(words):
     """A region of the words of its line, behind `region`."""
     if not REGION.fullmatch(words[0]):
         raise Unread(f"{words[0]} is no name of a region: 1 to 32 letters, digits and other characters of ASCII")
-    its, named = Region(words[0]), options(words[1:], ("revision", "TREE"))
+    its, named = Region(words[0]), options(words[1:], {"revision": "revision", "TREE": "[0-9]+"})
     its.revision = whole(named.pop("revision", "0"), "revision", 0, HIGHEST_KEY)
     for tree, value in named.items():
         number, members = whole(tree, "tree", 1, HIGHEST_VID), vids(value)
+        if members is None:
+            raise Unread(f"{tree}={value}: all VLANs of a region are a list, 1-{HIGHEST_VID}")
         twice = next((vid for vid in sorted(members) if any(vid in other for other in its.table.values())), None)
         if twice:
             raise Unread(f"VLAN {twice} stands in two trees")
@@ -168,135 +131,63 @@ def region(words):
     return its
 
 
-class Reader:
-    """Reads the lines of a table."""
+def add(tables, words, where, line):
+    """What a line tells. Raises Unread where it can't be."""
+    is_link = len(words) < 2 or PORT.fullmatch(words[1])
+    if words[0] == "switch" and not is_link:
+        name, its = switch(words[1:])
+        its.where, its.line = where, line
+        tables.add_switch(name, its)
+    elif words[0] == "region" and not is_link:
+        tables.add_region(region(words[1:]))
+    else:
+        tables.add_link(link(words))
 
-    def __init__(self):
-        self.table, self.lans, self.plugged, self.bridges, self.macs = Table(), set(), set(), set(), set()
 
-    def read(self, text):
-        for number, line in enumerate(text.split("\n"), start=1):
-            words = line.split("#")[0].split()
-            try:
-                if words:
-                    self.add(words, f"line {number}", line.strip())
-            except Unread as why:
-                self.table.unread.append(f"line {number}: {why}: {line.strip()}")
-        for its in self.table.switches.values():
-            if its.region is not None and its.region not in self.table.regions:
-                self.table.unread.append(f"{its.where}: no line has the region {its.region}: {its.line}")
-                its.region = None
-        return self.table
+def read_lines(tables, text, place):
+    """Takes the lines of a table without a header."""
+    for number, line in enumerate(text.split("\n"), start=1):
+        words, where = line.split("#")[0].split(), f"{place}line {number}"
+        try:
+            if words:
+                add(tables, words, where, line.strip())
+        except Unread as why:
+            tables.refuse(where, why, line.strip())
 
-    def add(self, words, where, line):
-        """What a line tells. Raises Unread where it can't be."""
-        is_link = len(words) < 2 or PORT.fullmatch(words[1])
-        if words[0] == "switch" and not is_link:
-            name, its = switch(words[1:])
-            its.where, its.line = where, line
-            self.add_switch(name, its)
-        elif words[0] == "region" and not is_link:
-            its = region(words[1:])
-            if its.name in self.table.regions:
-                raise Unread(f"the region {its.name} stands twice")
-            self.table.regions[its.name] = its
+
+def read(texts):
+    """The tables of some texts, each with what its lines are called by."""
+    tables = Tables()
+    rows = Rows(tables)
+    for place, text in texts:
+        if rows.read(text, place):
+            continue
+        if is_of_cells(text):
+            tables.refuse(f"{place}line 1", NO_HEADER, text.split("\n")[0].strip())
         else:
-            self.add_link(link(words))
-
-    def add_switch(self, name, its):
-        if name in self.table.switches:
-            raise Unread(f"the switch {name} has two lines")
-        if its.mac in self.macs:
-            raise Unread(f"the MAC address {its.mac} stands twice")
-        self.hold({name})
-        if its.mac:
-            self.macs.add(its.mac)
-        self.table.switches[name] = its
-
-    def add_link(self, its):
-        if its.lan in self.lans:
-            raise Unread(f"the LAN {its.lan} stands twice")
-        twice = [port for port in its.ports if port in self.plugged]
-        if twice:
-            raise Unread("the port {}:{} stands twice".format(*twice[0]))
-        if len(self.lans) == MOST_LANS or len(self.plugged) + len(its.ports) > MOST_PORTS:
-            raise Unread(f"the planner has at most {MOST_LANS} LANs and {MOST_PORTS} ports")
-        self.hold({bridge for bridge, _ in its.ports})
-        self.lans.add(its.lan)
-        self.plugged.update(its.ports)
-        self.table.links.append(its)
-
-    def hold(self, names):
-        """Counts these switches among those of the table."""
-        if len(self.bridges | names) > MOST_BRIDGES:
-            raise Unread(f"the planner has at most {MOST_BRIDGES} switches")
-        self.bridges |= names
+            read_lines(tables, text, place)
+    rows.close()
+    tables.close()
+    return tables
 
 
-def read(text):
-    """The table of a text."""
-    return Reader().read(text)
-
-
-def script(table):
-    """The lines of a script of a table."""
-    bridges = dict.fromkeys([bridge for it in table.links for bridge, _ in it.ports] + list(table.switches))
-    taken = {it.mac for it in table.switches.values()}
-    macs = (f"02:00:00:00:{count // 256:02x}:{count % 256:02x}" for count in range(1, 2 * MOST_BRIDGES + 1))
-    free = (mac for mac in macs if mac not in taken)
-    for bridge in bridges:
-        its = table.switches.get(bridge, Switch())
-        yield f"addbridge {bridge} {its.mac or next(free)}"
-        if its.region is not None:
-            yield from region_lines(bridge, table.regions[its.region])
-    for it in table.links:
-        yield f"addlan {it.lan}"
-        if it.speed is not None:
-            yield f"speed {it.lan} {it.speed}"
-        for bridge, port in it.ports:
-            yield f"addport {bridge} {port}"
-            if it.key is not None:
-                yield f"setkey {bridge} {port} {it.key}"
-            if it.vlans is not None:
-                yield f"setportvlans {bridge} {port} {runs(it.vlans)}"
-            yield f"plug {bridge} {port} {it.lan}"
-
-
-def assumed(table):
-    """Lines of what the table doesn't tell."""
-    bridges = {bridge for it in table.links for bridge, _ in it.ports} | set(table.switches)
-    its = [table.switches.get(bridge, Switch()) for bridge in bridges]
-    which = ["priorities"]
-    which += ["regions"] if any(it.region is None for it in its) else []
-    which += ["VLANs"] if any(it.vlans is None for it in table.links) else []
-    macs = "MAC addresses, and so who is root where priorities are equal; " if any(it.mac is None for it in its) else ""
-    yield f"assumed: {macs}{', '.join(which)}"
-    if any(it.speed is None for it in table.links):
-        yield "assumed: speeds of LANs without one"
-
-
-def read_data(data, path):
-    """Prints the script of a table's bytes, and on standard error what isn't told and what can't be read, with status 1."""
+def read_files(files):
+    """The network that files, bytes by name, tell of, and lines of what can't be read."""
     told = []
-    table = read(decoded(data, path, told.append))
-    for line in script(table):
-        put(line)
-    is_empty = not table.links and not table.switches
-    for line in (*table.unread, *told, *([NOTHING_READ] if is_empty else assumed(table))):
-        warn(line)
-    if table.unread or is_empty:
-        sys.stdout.flush()
-        sys.exit(STATUS_UNREAD)
+    tables = read([(f"{os.path.basename(name)} " if len(files) > 1 else "", decoded(data, name, told.append)) for name, data in files.items()])
+    tables.told[:0] = told
+    return tables.network(), tables.unread
 
 
 def main():
-    path = (called(__doc__, 0, 1) or ["-"])[0]
-    try:
-        data = contents(path)
-    except OSError as why:
-        warn(f"{path} can't be read: {why.strerror}")
-        sys.exit(STATUS_FAULT)
-    read_data(data, path)
+    files = {}
+    for path in called(__doc__, 0) or ["-"]:
+        try:
+            files[path] = contents(path)
+        except OSError as why:
+            warn(f"{path} can't be read: {why.strerror}")
+            sys.exit(STATUS_FAULT)
+    write(*read_files(files))
 
 
 if __name__ == "__main__":

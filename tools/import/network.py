@@ -27,7 +27,16 @@ LONGEST_NAME, LONGEST_END, LONGEST_LIST, HIGHEST_COST, HIGHEST_SPEED = 16, 10, 4
 HIGHEST_PORT, HIGHEST_KEY, HIGHEST_VID = 4095, 65535, 4094
 MOST_BRIDGES, MOST_LANS, MOST_PORTS, MOST_TREES = 1024, 8192, 16384, 64
 MAC = re.compile(r"[0-9a-f]{2}(:[0-9a-f]{2}){5}")
+# What the texts call an interface in full, and in short.
+SHORT = {
+    "tengigabitethernet": "Te", "gigabitethernet": "Gi", "fastethernet": "Fa", "twogigabitethernet": "Tw", "twentyfivegige": "Twe",
+    "twentyfivegigabitethernet": "Twe", "fivegigabitethernet": "Fi", "fortygigabitethernet": "Fo", "hundredgige": "Hu",
+    "hundredgigabitethernet": "Hu", "port-channel": "Po", "ethernet": "Eth",
+}
+INTERFACE = re.compile(r"([A-Za-z-]+) ?([0-9][0-9/.:]*)")
 NOT_IN_NAMES = re.compile(r"[^A-Za-z0-9_.-]")
+# How many of what many have in common are named.
+MOST_NAMED = 4
 STATUS_UNREAD, STATUS_WORDS, STATUS_FAULT, STATUS_INTERRUPTED = 1, 2, 3, 130
 NOTHING_READ = "no bridge is read: the network is empty"
 
@@ -277,6 +286,18 @@ def comment(word, text):
     return textwrap.wrap(printable(text), 120, initial_indent=f"# {word} ", subsequent_indent="# .. ", break_on_hyphens=False)
 
 
+def short(interface):
+    """An interface's name in short: TenGigabitEthernet1/0/1 is Te1/0/1."""
+    found = INTERFACE.fullmatch(interface)
+    return SHORT.get(found[1].lower(), found[1]) + found[2] if found else interface
+
+
+def listed(places):
+    """A few of these places, and how many more there are."""
+    its = list(dict.fromkeys(places))
+    return ", ".join(its[:MOST_NAMED]) + (f" and {len(its) - MOST_NAMED} more" if len(its) > MOST_NAMED else "")
+
+
 @functools.lru_cache
 def forms(name):
     """A name, and what may stand for it, each form shorter than the one before: without a letter of its longest run of letters while
@@ -455,7 +476,8 @@ class Network:
         yield f"addbridge {bridge.name} {bridge.mac}"
         if bridge.region is None:
             yield f"kind {bridge.name} rstp"
-        else:
+        elif bridge.region != Region(bridge.mac):
+            # what a new bridge has is no line
             yield from region_lines(bridge.name, bridge.region)
         if not bridge.on:
             yield f"bridge {bridge.name} off"
