@@ -8,6 +8,7 @@ and is to refuse no line. All is the same in each run.
 import contextlib
 import functools
 import io
+import itertools
 import json
 import operator
 import os
@@ -148,6 +149,23 @@ def nexus():
     return samples(*(f"cisco/nexus/CORE-NX-0{it}" for it in ("1.mst", "1.config", "1.cdp", "2.mst", "2.config", "2.lldp")))
 
 
+# What is typed for a text of Cisco's, and how a terminal puts a pager's mark away.
+TYPED = {"config": "sh run", "mst": "show spanning-tree mst", "cdp": "sh cdp nei det", "lldp": "show lldp neighbors detail | no-more"}
+PAGERS = (" --More-- " + "\b" * 9 + " " * 8 + "\b" * 9, "\x1b[7m--More--\x1b[27m\r\x1b[K", "--More--\r\n")
+
+
+def logs(files):
+    """The texts of switches as a log of each switch's session, with a pager's mark in each twelfth line."""
+    found, marks = {}, itertools.cycle(PAGERS)
+    for name in sorted(files):
+        host, _, ending = name.rpartition(".")
+        lines = files[name].decode().split("\n")
+        lines[12::12] = [next(marks) + it for it in lines[12::12]]
+        told = found.setdefault(f"{host}.log", f"=~=~= PuTTY log =~=~=\r\nPassword:\r\n{host}>en\r\n{host}#term len 0\r\n{host}#sh ver\r\nCisco IOS Software\r\n")
+        found[f"{host}.log"] = told + "\r\n".join([f"{host}#{TYPED[ending]}", *lines, ""])
+    return {name: f"{text}{name.removesuffix('.log')}#exit\r\n".encode() for name, text in found.items()}
+
+
 def of_network(reader):
     """What runs an importer that makes a network of files, bytes by name."""
     return lambda files: write(*reader.read_files(files))
@@ -157,7 +175,7 @@ def of_network(reader):
 IMPORTERS = {
     "links.py": ([*(samples(f"campus/{name}.txt") for name in ("links", "switches")), samples("campus/cables.csv", "campus/switches.csv")], of_network(links)),
     "lldp.py": ([hosts()], of_network(lldp)),
-    "cisco.py": ([switches(), nexus()], of_network(cisco)),
+    "cisco.py": ([switches(), nexus(), logs(switches())], of_network(cisco)),
     "ovs.py": ([samples(f"ovs/{name}") for name in ("stp", "bonds", "settings")], of_network(ovs)),
 }
 

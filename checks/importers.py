@@ -442,6 +442,27 @@ def check_cisco(program):
     return wrong + ([] if told == refused else told)
 
 
+# Logs of sessions that can't be read, and why.
+LOGS = {
+    "a.log": ("a#sh run\nhostname a\n --More-- interface x\na#\n", "a.log line 3 has a pager's --More-- in it: log with `terminal length 0`"),
+    "b.txt": ("b#sh run\nhostname b\nb#sh ver\nx\nb#sh run\nhostname c\nb#\n", "`show running-config` is in b.txt line 2 and in b.txt line 6, and not alike"),
+    "c.log": ("c#sh run\nhostname c\nc#sh run\nhostname c\nc#\nd#sh span mst\nx\n", "c.log has no `show spanning-tree mst` behind a prompt"),
+    "d.log": ("d>sh span mst detail\nx\n", "d.log has no `show spanning-tree mst` and no `show running-config` behind a prompt"),
+}
+
+
+def check_sessions(_):
+    """The samples of Cisco's switches as logs of sessions, which make the same script; and logs that can't be read."""
+    wrong = []
+    for sample in ("campus", "nexus"):
+        names = sorted(os.listdir(os.path.join(FILES, "cisco", sample)))
+        files = fuzz.samples(*(f"cisco/{sample}/{it}" for it in names))
+        scripts = ["\n".join(cisco.read_files(its)[0].script()) for its in (files, fuzz.logs(files))]
+        wrong += [] if scripts[0] == scripts[1] else [f"{sample} has another script as logs"]
+    told = cisco.read_files({name: text.encode() for name, (text, _) in LOGS.items()})[1]
+    return wrong + ([] if told == [f"{name[0]} is left out: {why}" for name, (_, why) in LOGS.items()] else told)
+
+
 # Changes of the sample nexus, each of a file, that leave something out; and what is told first then.
 LEFT_OUT = [
     ("DIST-1.mst", "Te1/0/2          Altn BLK 2000 ", "Te1/0/2          Altn 2000 ", [
@@ -454,7 +475,7 @@ LEFT_OUT = [
         "CORE-NX-02 Eth1/12 hears of 7035.0910.0200 Te1/0/2, and DIST-2 Te1/0/2 isn't in MST0: that is left out",
         "DIST-2 Te1/0/2 hears of CORE-NX-02 Eth1/12, and DIST-2 Te1/0/2 isn't in MST0: that is left out",
     ]),
-    ("DIST-2.config", " instance 2 vlan 20, 40\n", "", ["DIST-2: MST2 is in DIST-2.mst, and not in DIST-2.config: it is left out"]),
+    ("DIST-2.config", " instance 2 vlan 20, 40\n", "", ["DIST-2: MST2 is printed, and isn't in the configuration: it is left out"]),
     ("CORE-NX-02.lldp", "Local Port id: Eth1/49\n", "", ["CORE-NX-02.lldp line 51: the entry before it names no neighbour"]),
     ("DIST-1.mst", "Bridge        address 7035.0910.0100", "Bridge        address 7035.0910.0200", ["DIST-2 has the MAC address of DIST-1: it is left out"]),
     ("DIST-1.mst", "##### MST0", "", ["DIST-1 is left out: DIST-1.mst has no MST0 with a line of its bridge"]),
@@ -505,7 +526,7 @@ def main():
     program = os.path.abspath(sys.argv[1])
     checks = [(" ".join([importer, *words]), check_sample(program, importer, words, *more)) for importer, words, *more in SAMPLES]
     others = {"made-up hosts": check_strange, "a table": check_table, "tables with headers": check_headed, "words": check_words, "bundles": check_bundles,
-              "Cisco's roles": check_cisco, "what is left out": check_left_out, "names of cables": check_names}
+              "Cisco's roles": check_cisco, "logs of sessions": check_sessions, "what is left out": check_left_out, "names of cables": check_names}
     checks += [(name, its(program)) for name, its in others.items()]
     checks += [(f"{fuzz.INPUTS} inputs of {importer}", fuzz.check(program, importer)) for importer in fuzz.IMPORTERS]
     for name, wrong in checks:

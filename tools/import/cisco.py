@@ -10,6 +10,10 @@ FOLDER has three files for each switch HOST, of which the last one may be either
     show cdp neighbors detail           > HOST.cdp
     show lldp neighbors detail          > HOST.lldp
 
+or one, HOST.log or HOST.txt: the log of a session with these commands behind the switch's prompt (core1# show running-config), in any
+order and cut short as they may be typed (sh run), among others. What a terminal was told is carried out; where a pager's mark is left in a
+line, or two texts of one command aren't alike, the switch is left out. It is best to begin with `terminal length 0`.
+
 For example: cisco.py examples/import/cisco/campus | mstplan run -
 
 The forms of these texts are those of Cisco's documents; no text of a real switch was at hand, and the samples are made up. So each
@@ -42,13 +46,14 @@ sys.dont_write_bytecode = True
 sys.path.append(os.path.join(os.path.dirname(os.path.abspath(__file__)), os.pardir))
 
 import mstplan  # noqa: E402
+import sessions  # noqa: E402
 from network import (  # noqa: E402
     DEFAULT_MAX_AGE, DEFAULT_MAX_HOPS, HIGHEST_COST, HIGHEST_KEY, HIGHEST_PORT, HIGHEST_VID, MOST_NAMED, MOST_TREES, NOTHING_READ, STATUS_FAULT,
     STATUS_UNREAD, STATUS_WORDS, Joined, Network, Port, Region, agreed, called, decoded, files_of, guarded, identifier, listed, put, runs,
     short, vids_of, warn, write,
 )
 
-ENDINGS = (".mst", ".config", ".cdp", ".lldp")
+ENDINGS = (".mst", ".config", ".cdp", ".lldp", *sessions.LOGS)
 ROLES = {"Root": "Root", "Desg": "Designated", "Altn": "Alternate", "Back": "Backup", "Mstr": "Master", "Disa": "Disabled"}
 STATES = {"FWD": True, "BLK": False}
 PER_VLAN = ("pvst", "rapid-pvst")
@@ -232,18 +237,16 @@ class Remarks:
 
 
 class Reader:
-    """Reads the files of a switch, line by line: what isn't understood is told."""
+    """Reads what the files of a switch say, line by line: what isn't understood is told."""
 
-    def __init__(self, host, files, network, remarks):
-        self.switch, self.files, self.network, self.remarks = Switch(host), files, network, remarks
+    def __init__(self, host, said, network, remarks):
+        self.switch, self.said, self.network, self.remarks = Switch(host), said, network, remarks
 
     def lines(self, ending):
-        """The lines of a file, each with its name and number, and without those that tell nothing."""
-        name = f"{self.switch.host}.{ending}"
-        text = decoded(self.files.get(name, b""), name, lambda _: self.remarks.add("bytes", name))
-        for number, line in enumerate(text.split("\n"), start=1):
-            line = line.rstrip("\r")
-            yield f"{name} line {number}", "" if NOTHING.fullmatch(line) else line
+        """The lines of a text, each with where it stands, and without those that tell nothing."""
+        its = self.said.get((self.switch.host, ending))
+        for number, line in its.lines if its else ():
+            yield f"{its.name} line {number}", "" if NOTHING.fullmatch(line) else line
 
     def not_understood(self, where, line, why=""):
         """Tells of a line, once for all that are the same but for numbers."""
@@ -408,9 +411,10 @@ class Switches:
 
     def __init__(self, files):
         self.network, self.remarks, self.unread, self.switches = Network(), Remarks(), [], {}
+        said, whys = sessions.said({name: decoded(data, name, lambda _, it=name: self.remarks.add("bytes", it)) for name, data in files.items()})
         for host in sorted({it.rpartition(".")[0] for it in files}):
-            its = Reader(host, files, self.network, self.remarks).read()
-            why = self.refusal(its, files)
+            its = Reader(host, said, self.network, self.remarks).read()
+            why = whys.get(host) or self.refusal(its, said, files)
             if why:
                 self.unread.append(f"{host} is left out: {why}")
             else:
@@ -419,18 +423,20 @@ class Switches:
         self.ports, self.lans, self.far = {}, Joined(), {}
 
     @staticmethod
-    def refusal(its, files):
+    def refusal(its, said, files):
         """Why a switch can't be planned, or None."""
         mst = its.instances.get(0)
         if its.mode in PER_VLAN:
             return f"its mode is {its.mode}, which has a tree for each VLAN, and those aren't planned"
         if its.mode not in (None, "mst"):
             return f"its mode is {its.mode}, which isn't known"
-        missing = [f"{its.host}.{it}" for it in ("mst", "config") if f"{its.host}.{it}" not in files]
+        missing, log = [it for it in ("mst", "config") if (its.host, it) not in said], next((it for it in sessions.LOGS if its.host + it in files), None)
+        if missing and log:
+            return f"{its.host}{log} has no {' and no '.join(f'`{sessions.COMMANDS[it]}`' for it in missing)} behind a prompt"
         if missing:
-            return f"there is no {' and no '.join(missing)}"
+            return f"there is no {' and no '.join(f'{its.host}.{it}' for it in missing)}"
         if mst is None or mst.mac is None:
-            return f"{its.host}.mst has no MST0 with a line of its bridge"
+            return f"{said[its.host, 'mst'].name} has no MST0 with a line of its bridge"
         if its.region.name and not re.fullmatch("[!-~]{1,32}", its.region.name):
             return f"its region's name, {its.region.name}, isn't of 1 to 32 letters of ASCII"
         if sum(map(bool, its.region.table.values())) > MOST_TREES:
@@ -461,11 +467,11 @@ class Switches:
             self.network.tell(f"{its.host}: its region has no name: {NO_NAME} stands for it")
         for tree, it in its.instances.items():
             if tree and tree not in bridge.region.table:
-                self.network.lose(f"{its.host}: MST{tree} is in {its.host}.mst, and not in {its.host}.config: it is left out")
+                self.network.lose(f"{its.host}: MST{tree} is printed, and isn't in the configuration: it is left out")
             elif tree:
                 bridge.priorities[tree] = self.network.fit(f"{its.host} MST{tree}", "priority", it.priority, 0, 61440, 4096)
                 if it.vids and it.vids != runs(bridge.region.table[tree]):
-                    self.network.tell(f"{its.host}: MST{tree} has other VLANs in {its.host}.mst than in {its.host}.config: these count")
+                    self.network.tell(f"{its.host}: MST{tree} is printed with other VLANs than those in the configuration: these count")
         # those with a number above the highest come last, so that none of theirs is another one's
         for interface, line in sorted(mst.ports.items(), key=lambda it: max(it[1][4] - HIGHEST_PORT, 0)):
             self.add_port(its, bridge, interface, line)
