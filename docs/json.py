@@ -235,24 +235,45 @@ def definition(kind, table):
     return closed({"query" if kind.enum == "RefusalLine" and kind.name in UNANSWERED else "kind": {"const": kind.first}, **its}, **title)
 
 
+def release():
+    """The number of the release, as the program has it."""
+    with open(os.path.join(HERE, os.pardir, "crates", "mst_command", "src", "page.rt"), encoding="utf-8") as file:
+        return re.search('VERSION: &str = "([0-9.]+)"', file.read())[1]
+
+
+def by_word(sort, key, its):
+    """A sort of objects, told apart by the word of this key alone: of each word a definition, which has its kinds, and that of the sort."""
+    named, made = collections.defaultdict(list), {}
+    for word, name in its:
+        named[word].append(ref(name))
+    for word, kinds in named.items():
+        told = {"title": f"{key} {word}", "type": "object", "properties": {key: {"const": word}}, "required": [key]}
+        made[f"{sort}Of{word[0].upper()}{word[1:]}"] = {**told, **any_of(*kinds)}
+    return {**made, sort: {"type": "object", "required": [key], "oneOf": [ref(it) for it in made]}}
+
+
 def schema():
     """The schema: a definition for each kind, and one for each sort of objects, whose kinds it names."""
     table = {key: its for key, *its in keys()}
     kinds = [kind for _, its in groups() for kind in its if (kind.enum, kind.name) not in UNPRINTED]
-    sorts = {"Answer": [], "RecordAlone": [ref("Version")], "Refused": [], "Unanswered": [], "Record": []}
+    sorts = {"Answer": [], "RecordAlone": [("version", "Version")], "Refused": [], "Unanswered": [], "Record": []}
     made = {"Version": VERSION}
     for kind in kinds:
         name = kind.enum + kind.name
         made[name] = definition(kind, table)
         of_refusal = "Refused" if kind.name in REFUSED else "Unanswered" if kind.name in UNANSWERED else "Record"
         sort = {"Query": "Answer", "RefusalLine": of_refusal}.get(kind.enum, "RecordAlone" if kind.enum in ALONE else "Record")
-        sorts[sort].append(ref(name))
+        sorts[sort].append((kind.first, name))
+    told = {"Refused": any_of(*(ref(name) for _, name in sorts["Refused"]))}
+    for sort, key in (("Answer", "query"), ("RecordAlone", "kind"), ("Unanswered", "query"), ("Record", "kind")):
+        told |= by_word(sort, key, sorts[sort])
     return {
         "$schema": "https://json-schema.org/draft/2020-12/schema",
-        "title": "A line that mstplan prints with --json",
+        "$id": f"urn:mstplan:json:{release()}",
+        "title": f"A line that mstplan {release()} prints with --json",
         "description": "Made by docs/json.py of the table of kinds of lines; docs/JSON.md tells what stays in later versions.",
-        **any_of(*(ref(sort) for sort in sorts if sort != "Record")),
-        "$defs": {**{sort: any_of(*its) for sort, its in sorts.items()}, **PARTS, **made},
+        "oneOf": [ref(sort) for sort in sorts if sort != "Record"],
+        "$defs": {**told, **PARTS, **made},
     }
 
 

@@ -25,6 +25,14 @@ class Failed(Exception):
     """The program gave no answer; the text says which words it was asked with, and what it said."""
 
 
+class Refused(Failed):
+    """The program has refused a question, by this number and with this text."""
+
+    def __init__(self, question, error, text):
+        super().__init__(f"{question}: {error} {text}")
+        self.error, self.text = error, text
+
+
 class Program:
     """A program that answers as mstplan does. Scripts are bytes, and reach it by files."""
 
@@ -69,11 +77,14 @@ class Program:
         """What stands in each line that it prints in JSON."""
         return [self.value([word], line) for line in self.run(word, "--json", *words, given=given)[0].splitlines()]
 
-    def records(self, word, *files):
-        """The records of what a word of the program's answers of these files, which are bytes."""
+    def records(self, word, *files, words=()):
+        """The records of what a word of the program's answers of these files, which are bytes; `words` are those behind the files, as those of
+        explain and advise. Raises Refused where the question isn't answered."""
         with contextlib.ExitStack() as paths:
-            values = self.values(word, *(paths.enter_context(written(file)) for file in files))
-        answers = [it["records"] for it in values if "records" in it]
+            values = self.values(word, "--", *(paths.enter_context(written(file)) for file in files), *map(str, words))
+        answers, unanswered = [it["records"] for it in values if "records" in it], [it for it in values if "query" in it and "error" in it]
+        if unanswered and not answers:
+            raise Refused(" ".join(map(str, [word, *words])), unanswered[0]["error"], unanswered[0]["text"])
         if len(answers) != 1:
             raise self.failed([word], f"{len(answers)} answers in place of one")
         return answers[0]
@@ -155,13 +166,17 @@ class Standing:
     def answer(self, line):
         """The records of its answer to a line."""
         told = self.ask(line)
+        if len(told) == 1 and "error" in told[0]:
+            raise Refused(line, told[0]["error"], told[0]["text"])
         if len(told) != 1 or "records" not in told[0]:
             raise self.program.failed(["ask"], f"{line}: no answer, but {str(told)[:MOST_OF_A_MESSAGE]}")
         return told[0]["records"]
 
     def make(self, edit):
-        """Changes the network."""
+        """Changes the network. Raises Refused where the edit is refused, and nothing has changed then."""
         told = self.ask(edit)
+        if len(told) == 1 and "error" in told[0]:
+            raise Refused(edit, told[0]["error"], told[0]["text"])
         if told:
             raise self.program.failed(["ask"], f"{edit}: {str(told)[:MOST_OF_A_MESSAGE]}")
 
