@@ -47,6 +47,7 @@ RUNS = [
     ("mstplan-promises", ["--help"], None, "usage: "),
     ("mstplan-export", ["--help"], None, "usage: "),
     ("mstplan-ci", ["--help"], None, "usage: "),
+    ("mstplan-parallel", ["../../../../bin/mstplan", "sweep", "campus.script"], None, "lan c1-c2.a "),
 ]
 # What the texts name of the repository, and what of that isn't for a package: what makes one.
 NAMED = re.compile(r"(?<![\w/.])(?:(?:examples|docs)/[\w./-]*\w|tools/(?:import/)?\w+\.py)")

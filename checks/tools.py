@@ -1,11 +1,11 @@
 #!/usr/bin/env python3
 """Tries the tools that search and translate beside the program, on drawn networks: order.py against all orders of small changes, promises.py
-by `verify`, export.py by what importers read again, ci.py by what `verify` prints, lacking.py by what it says of single items; and what each
-prints of the samples and of wrong words.
+by `verify`, export.py by what importers read again, ci.py by what `verify` prints, lacking.py by what it says of single items, parallel.py by
+what one process prints; and what each prints of the samples and of wrong words.
 
 usage: tools.py PROGRAM
 
-Each of order_runs.py, promises_runs.py, export_runs.py, ci_runs.py and lacking_runs.py can be called alone for more networks. It takes about a
+Each of order_runs.py, promises_runs.py, export_runs.py, ci_runs.py, lacking_runs.py and parallel_runs.py can be called alone for more networks. It takes about a
 minute of a processor. The exit status is 1 where something differs.
 """
 
@@ -25,6 +25,7 @@ import export_runs  # noqa: E402
 import lacking_runs  # noqa: E402
 import mstplan  # noqa: E402
 import order_runs  # noqa: E402
+import parallel_runs  # noqa: E402
 import promises_runs  # noqa: E402
 
 TOP = os.path.join(os.path.dirname(os.path.abspath(__file__)), os.pardir)
@@ -72,6 +73,11 @@ CASES = [
     ("lacking.py", ["steps", CAMPUS, "-", "-"], 1, "policy 0 E17 nothing to judge"),
     ("lacking.py", ["explain", "--json", "--hints", "--", CAMPUS, "core9", "1"], 1, '{"query":"explain","error":"E04","text":"no such bridge"}'),
     ("lacking.py", ["summary", CAMPUS], 0, "blocked 2 dist1:1,dist2:1"),
+    ("parallel.py", [], 0, ""),
+    ("parallel.py", ["-j", "2", "sweep", CAMPUS, "pairs"], 1, "sweep pairs 120 cuts 7"),
+    ("parallel.py", ["verify", CAMPUS, POLICY], 0, "verify expectations 16 hold 16"),
+    ("parallel.py", ["--json", "summary", CAMPUS, "--", ABSENT], 2, ""),
+    ("parallel.py", ["-j", "x", "sweep", CAMPUS], 2, ""),
     ("ci.py", [NONE, POLICY], 3, ""),
     ("ci.py", [NONE], 2, ""),
 ]
@@ -92,8 +98,9 @@ def faults_of_cases(program):
     """What is wrong with all of them, with a program that isn't there, and with the pages."""
     absent = [("order.py", [CAMPUS, CHANGE, KEEP]), ("promises.py", [CAMPUS]), ("export.py", [CAMPUS, CHANGED, "--to", "ovs"])]
     absent += [("lacking.py", ["verify", CAMPUS, KEEP]), ("lacking.py", ["summary", CAMPUS])]
+    absent += [("parallel.py", ["verify", CAMPUS, KEEP]), ("parallel.py", ["sweep", CAMPUS]), ("parallel.py", ["summary", CAMPUS])]
     calls = [(program, *it) for it in CASES] + [(ABSENT, tool, words, 3, "") for tool, words in absent]
-    calls += [(program, tool, ["--help"], 0, "") for tool in ("order.py", "promises.py", "export.py", "ci.py", "lacking.py")]
+    calls += [(program, tool, ["--help"], 0, "") for tool in ("order.py", "promises.py", "export.py", "ci.py", "lacking.py", "parallel.py")]
     with concurrent.futures.ThreadPoolExecutor(os.cpu_count()) as pool:
         return list(itertools.chain.from_iterable(pool.map(lambda it: faults_of_case(*it), calls)))
 
@@ -144,12 +151,16 @@ def main():
         ("words", faults_of_cases),
         ("names of ports", faults_of_names),
         *((f"{its.IN_THE_GATE} networks: {name}", lambda program, its=its: its.check(program, its.IN_THE_GATE))
-          for name, its in (("order.py", order_runs), ("promises.py", promises_runs), ("export.py", export_runs), ("ci.py", ci_runs), ("lacking.py", lacking_runs))),
+          for name, its in (("order.py", order_runs), ("promises.py", promises_runs), ("export.py", export_runs), ("ci.py", ci_runs), ("lacking.py", lacking_runs),
+                             ("parallel.py", parallel_runs))),
         ("a campus of 50 switches: promises.py", promises_runs.faults_of_campus),
         ("samples and no answers: ci.py", ci_runs.faults_of_words),
         ("changes by hand: export.py", export_runs.faults_of_words),
         ("samples: lacking.py", lacking_runs.faults_of_samples),
         ("short words: lacking.py", lacking_runs.faults_of_names),
+        ("words, files and pipes: parallel.py", parallel_runs.faults_of_words),
+        ("terminals, signals and faults: parallel.py", parallel_runs.faults_of_terminal),
+        ("long lists: parallel.py", parallel_runs.faults_of_names),
     ):
         began = time.monotonic()
         faults = its(program)
