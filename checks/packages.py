@@ -5,9 +5,10 @@ usage: packages.py PROGRAM [--root]
 
 Checked are: two packages of one program are equal; each file's owner and mode; of what is loaded the program differs from PROGRAM in
 the name of its loader and the table that it reads alone, it has no symbols, and it runs from there; the manual pages render without a
-warning, and the program's names each command; the completion is read by bash and completes; each other command calls itself by its
-name, and some run on a sample; what README.md and docs/USING.md name of examples, docs and tools is there; the .tar.gz has the same
-files; lintian finds no error. Where a tool for one of them isn't there (man, bash, lintian), it is named, and the check is left out.
+warning, and the program's names each command; the completions are read by bash, fish and zsh and complete; Vim knows a script by its
+files; each other command calls itself by its name, and some run on a sample; what README.md and docs/USING.md name of examples, docs and
+tools is there; the .tar.gz has the same files; lintian finds no error. Where a tool for one of them isn't there (man, bash, fish, zsh, vim,
+lintian), it is named, and the check is left out.
 Where dpkg-deb isn't there, that is said, and nothing is checked, with status 0.
 
 With --root, as root, a Debian of its own is made with debootstrap in a folder (of this machine's release and from its source of
@@ -16,6 +17,7 @@ packages), the .deb is installed there by apt, and the program and an importer r
 It ends with status 0; 1 where a check fails; 2 for wrong words.
 """
 
+import functools
 import os
 import re
 import shutil
@@ -47,6 +49,7 @@ RUNS = [
     ("mstplan-promises", ["--help"], None, "usage: "),
     ("mstplan-export", ["--help"], None, "usage: "),
     ("mstplan-ci", ["--help"], None, "usage: "),
+    ("mstplan-colour", ["../../../../bin/mstplan", "sweep", "campus.script"], None, "lan c1-c2.a "),
     ("mstplan-parallel", ["../../../../bin/mstplan", "sweep", "campus.script"], None, "lan c1-c2.a "),
 ]
 # What the texts name of the repository, and what of that isn't for a package: what makes one.
@@ -138,19 +141,44 @@ def manual_of(root, commands):
     return wrong
 
 
-def completion_of(root, commands):
-    """What is wrong with the completion."""
-    path = os.path.join(root, "usr/share/bash-completion/completions/mstplan")
-    wrong = ran("bash", "-n", path, text=True).stderr.splitlines()
-    for words, wanted in (("''", commands), ("su", ["summary"]), ("summary --j", ["--json"]), ("check --h", ["--help", "--hints"]),
-                          ("as", ["ask"]), ("advise campus.script ''", ["root", "forward"]), ("advise - f", ["forward"]),
-                          ("dot campus.script v", ["vlan"]), ("sweep --json campus.script p", ["pairs"]), ("sweep campus.script pairs 3/", [f"3/{it}" for it in (2, 4, 8, 16)]),
-                          ("sweep campus.script 1", [f"1/{it}" for it in (2, 4, 8, 16)]), ("dot --", ["--help", "--hints", "--version"]), ("ask --", ["--help", "--hints", "--json", "--version"])):
-        count = len(words.split())
-        text = f'. "$1"; COMP_WORDS=(mstplan {words}); COMP_CWORD={count}; _mstplan; echo "${{COMPREPLY[@]}}"'
-        found = ran("bash", "-c", text, "bash", path, text=True).stdout.split()
-        wrong += [] if sorted(found) == sorted(wanted) else [f"behind mstplan {words} stands {' '.join(found)}"]
+def completed(commands):
+    """Words behind `mstplan`, the last of which is completed, and what that may be."""
+    return [([""], commands), (["su"], ["summary"]), (["summary", "--j"], ["--json"]), (["check", "--h"], ["--help", "--hints"]), (["as"], ["ask"]),
+            (["advise", "campus.script", ""], ["root", "forward"]), (["advise", "-", "f"], ["forward"]), (["dot", "campus.script", "v"], ["vlan"]),
+            (["sweep", "--json", "campus.script", "p"], ["pairs"]), (["sweep", "campus.script", "pairs", "3/"], [f"3/{it}" for it in (2, 4, 8, 16)]),
+            (["sweep", "campus.script", "1"], [f"1/{it}" for it in (2, 4, 8, 16)]), (["path", "campus.script", "30", "A", "B", ""], ["always"]),
+            (["dot", "--"], ["--help", "--hints", "--version"]), (["ask", "--"], ["--help", "--hints", "--json", "--version"])]
+
+
+# How each shell is asked for what it offers: bash and zsh by their function, in which zsh's own words are stood in for, fish by its own word.
+ASKED = {
+    "bash": '. "$1"; shift; COMP_WORDS=(mstplan "$@"); COMP_CWORD=$#; _mstplan; printf "%s\\n" "${COMPREPLY[@]}"',
+    "zsh": "file=$1; shift; compadd() { print -l -- ${@:#--} }; _describe() { print -l -- ${commands%%:*} }; _files() { : }; "
+           'at=("$@"); words=(mstplan "$@"); CURRENT=$#words; for it in ${(f)"$(. $file)"}; do [[ $it == $at[-1]* ]] && print -r -- $it; done; true',
+    "fish": "source $argv[1]; complete -C (string join -- ' ' mstplan $argv[2..]) | string split -f1 \\t",
+}
+PLAIN = {"bash": ["--norc"], "zsh": ["-f"], "fish": ["--no-config"]}
+
+
+def completion_of(root, shell, commands):
+    """What is wrong with the completion of a shell."""
+    path = os.path.join(root, "usr", package.COMPLETIONS[shell])
+    wrong = ran(shell, "-n", path, text=True).stderr.splitlines()
+    for words, wanted in completed(commands):
+        behind = [] if shell == "fish" else [shell]
+        its = ran(shell, *PLAIN[shell], "-c", ASKED[shell], *behind, path, *words, text=True)
+        wrong += [] if sorted(its.stdout.split()) == sorted(wanted) else [f"{shell} offers behind mstplan {' '.join(words)}: {its.stdout} {its.stderr}"]
     return wrong
+
+
+def editors_of(root):
+    """What is wrong with the files for editors: Vim is to know a script by them."""
+    folder, script = os.path.join(root, "usr/share/vim/vimfiles"), os.path.join(root, DOC, "examples/campus.script")
+    known = os.path.join(root, "known")
+    words = [f"set runtimepath^={folder}", "filetype on", "syntax on", f"edit {script}", f"call writefile([b:current_syntax], '{known}')", "qall!"]
+    ran("vim", "-u", "NONE", "-i", "NONE", "-es", *(word for it in words for word in ("-c", it)), stdin=subprocess.DEVNULL)
+    is_known = os.path.exists(known) and open(known, encoding="ascii").read() == "mstplan\n"
+    return [] if is_known else ["Vim doesn't know a script"]
 
 
 def commands_of(root):
@@ -247,9 +275,10 @@ def check_contents(checks, program, folder):
     checks.say("commands", commands_of(root))
     checks.say("what the texts name", texts_of(root))
     checks.say("the archive", archive_of(root, archive, os.path.join(folder, "archive")))
-    for tool, text, its in (("man", "the manual pages", manual_of), ("bash", "the completion", completion_of)):
+    for tool, text, its in (("man", "the manual pages", lambda: manual_of(root, commands)), ("vim", "the files for editors", lambda: editors_of(root)),
+                            *((shell, f"the completion for {shell}", functools.partial(completion_of, root, shell, commands)) for shell in ASKED)):
         if shutil.which(tool):
-            checks.say(text, its(root, commands))
+            checks.say(text, its())
         else:
             checks.left_out(text, tool)
     if shutil.which("lintian"):

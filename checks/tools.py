@@ -1,12 +1,12 @@
 #!/usr/bin/env python3
 """Tries the tools that search and translate beside the program, on drawn networks: order.py against all orders of small changes, promises.py
 by `verify`, export.py by what importers read again, ci.py by what `verify` prints, lacking.py by what it says of single items, parallel.py by
-what one process prints; and what each prints of the samples and of wrong words.
+what one process prints, colour.py by the same without colours; and what each prints of the samples and of wrong words.
 
 usage: tools.py PROGRAM
 
-Each of order_runs.py, promises_runs.py, export_runs.py, ci_runs.py, lacking_runs.py and parallel_runs.py can be called alone for more networks. It takes about a
-minute of a processor. The exit status is 1 where something differs.
+Each of order_runs.py, promises_runs.py, export_runs.py, ci_runs.py, lacking_runs.py, parallel_runs.py and colour_runs.py can be called alone
+for more networks. It takes about a minute of a processor. The exit status is 1 where something differs.
 """
 
 import concurrent.futures
@@ -21,6 +21,7 @@ import time
 sys.dont_write_bytecode = True
 
 import ci_runs  # noqa: E402
+import colour_runs  # noqa: E402
 import export_runs  # noqa: E402
 import lacking_runs  # noqa: E402
 import mstplan  # noqa: E402
@@ -100,7 +101,7 @@ def faults_of_cases(program):
     absent += [("lacking.py", ["verify", CAMPUS, KEEP]), ("lacking.py", ["summary", CAMPUS])]
     absent += [("parallel.py", ["verify", CAMPUS, KEEP]), ("parallel.py", ["sweep", CAMPUS]), ("parallel.py", ["summary", CAMPUS])]
     calls = [(program, *it) for it in CASES] + [(ABSENT, tool, words, 3, "") for tool, words in absent]
-    calls += [(program, tool, ["--help"], 0, "") for tool in ("order.py", "promises.py", "export.py", "ci.py", "lacking.py", "parallel.py")]
+    calls += [(program, tool, ["--help"], 0, "") for tool in ("order.py", "promises.py", "export.py", "ci.py", "lacking.py", "parallel.py", "colour.py")]
     with concurrent.futures.ThreadPoolExecutor(os.cpu_count()) as pool:
         return list(itertools.chain.from_iterable(pool.map(lambda it: faults_of_case(*it), calls)))
 
@@ -152,12 +153,13 @@ def main():
         ("names of ports", faults_of_names),
         *((f"{its.IN_THE_GATE} networks: {name}", lambda program, its=its: its.check(program, its.IN_THE_GATE))
           for name, its in (("order.py", order_runs), ("promises.py", promises_runs), ("export.py", export_runs), ("ci.py", ci_runs), ("lacking.py", lacking_runs),
-                             ("parallel.py", parallel_runs))),
+                             ("parallel.py", parallel_runs), ("colour.py", colour_runs))),
         ("a campus of 50 switches: promises.py", promises_runs.faults_of_campus),
         ("samples and no answers: ci.py", ci_runs.faults_of_words),
         ("changes by hand: export.py", export_runs.faults_of_words),
         ("samples: lacking.py", lacking_runs.faults_of_samples),
         ("short words: lacking.py", lacking_runs.faults_of_names),
+        ("samples, terminals and words: colour.py", colour_runs.faults_of_cases),
         ("words, files and pipes: parallel.py", parallel_runs.faults_of_words),
         ("terminals, signals and faults: parallel.py", parallel_runs.faults_of_terminal),
         ("long lists: parallel.py", parallel_runs.faults_of_names),

@@ -6,9 +6,9 @@ usage: package.py PROGRAM [FOLDER]    (FOLDER takes the packages; the one where 
 PROGRAM is crates/mstplan/out/mstplan, which `rt ci` leaves where all is proved, or one that unproved.py has made. VERSION is what
 `PROGRAM --version` prints, with +unproved behind it for a program from any other place than crates/mstplan/out.
 
-Both packages have the program, its completion for bash, all of examples/, the texts of docs/, and each file of tools/ and of
-tools/import/ that is run as a command of its own: page.py is mstplan-page, import/links.py mstplan-import-links; but for the two that
-are of use in the repository alone, this one and unproved.py. Each command has a manual page, which is made of its `--help`. These
+Both packages have the program, its completion for bash, fish and zsh, syntax files for Vim and VS Code, all of examples/, the texts of docs/, and each file of tools/ and of
+tools/import/ that is run as a command of its own: page.py is mstplan-page, import/links.py mstplan-import-links; but for those
+that are of use in the repository alone, this one, completion.py and unproved.py. Each command has a manual page, which is made of its `--help`. These
 commands need Python 3.10 or later; the program needs the C library alone. The .tar.gz runs from wherever it is unpacked.
 
 The program as it is built names the toolchain's loader and the place of its libraries. In the packages it names the system's
@@ -37,6 +37,7 @@ import time
 
 sys.dont_write_bytecode = True
 
+import completion  # noqa: E402
 import mstplan  # noqa: E402
 
 HERE = os.path.dirname(os.path.abspath(__file__))
@@ -54,7 +55,12 @@ ALLOCATED, HAS_NUMBER = 2, 64
 # What tools/ has of use: commands, what they import, and what they put together.
 TOOLS = ("*.py", "import/*.py", "web/*")
 # The tools that are of use in the repository alone.
-OF_REPOSITORY = ("package.py", "unproved.py")
+OF_REPOSITORY = ("completion.py", "package.py", "unproved.py")
+# Where each shell looks for what completes a command.
+COMPLETIONS = {"bash": "share/bash-completion/completions/mstplan", "fish": "share/fish/vendor_completions.d/mstplan.fish",
+               "zsh": "share/zsh/vendor-completions/_mstplan"}
+# Where an editor looks for files, by their folder below tools/.
+EDITORS = {"editors/vim": "share/vim/vimfiles", "editors/vscode": "share/mstplan/vscode"}
 # What stands before the name of a file below tools/, for a command of the folder that is first.
 PLACES_OF = {("", ""): "", ("", "import"): "import/", ("import", ""): "../", ("import", "import"): ""}
 WRAPPER = """#!/bin/sh
@@ -81,40 +87,6 @@ CHANGES = """mstplan ({version}) unstable; urgency=medium
     file.
 
  -- {maintainer}  {date}
-"""
-COMPLETION = """# Completion of mstplan for bash, made of its help.
-_mstplan()
-{{
-    local word=${{COMP_WORDS[COMP_CWORD]}} command= last= at place=0 flags="--help --version" words= part=1
-    COMPREPLY=()
-    for (( at = 1; at < COMP_CWORD; at++ )); do
-        last=${{COMP_WORDS[at]}}
-        if [[ $last != -?* ]]; then
-            command=${{command:-$last}}
-            (( place++ ))
-        fi
-    done
-    case $command in
-{cases}
-    esac
-    if [[ $word =~ ^([0-9]+)/ ]]; then
-        part=${{BASH_REMATCH[1]}}
-    fi
-    case $command:$place:$last in
-        :*) words="{commands}" ;;
-        advise:2:*) words="root forward" ;;
-        dot:2:*) words="vlan" ;;
-        path:5:*) words="always" ;;
-        sweep:2:*) words="pairs $part/2 $part/4 $part/8 $part/16" ;;
-        sweep:3:pairs) words="$part/2 $part/4 $part/8 $part/16" ;;
-    esac
-    if [[ $word == -?* ]]; then
-        COMPREPLY=( $(compgen -W "$flags" -- "$word") )
-    elif [[ -n $words ]]; then
-        COMPREPLY=( $(compgen -W "$words" -- "$word") )
-    fi
-}}
-complete -o default -F _mstplan mstplan
 """
 
 
@@ -281,20 +253,6 @@ def manual_of_tool(command, version, page):
     yield see_also(["mstplan", *(it for it in sorted(commands_of_tools()) if it != command)])
 
 
-def completion(page, commands):
-    """The completion for bash: commands first, then files; behind - the flags that go with the command. A flag of which the page names no
-    command goes with each."""
-    flags = {}
-    for flag, text in re.findall(r"^  (--[a-z-]+) (.+\n(?: {4,}.+\n)*)", page, re.MULTILINE):
-        its = re.findall(r"[a-z]+", text.rpartition("(")[2])
-        for command in [it for it in commands if it in its] or commands:
-            flags.setdefault(command, []).append(flag)
-    every = sorted({flag for its in flags.values() for flag in its})
-    cases = [f'        "") flags+=" {" ".join(every)}" ;;']
-    cases += [f'        {command}) flags+=" {" ".join(its)}" ;;' for command, its in sorted(flags.items())]
-    return COMPLETION.format(commands=" ".join(commands), cases="\n".join(cases))
-
-
 def write(root, name, data, mode=0o644):
     """Writes a file below a folder, text or bytes."""
     path = os.path.join(root, name)
@@ -346,6 +304,14 @@ def add_manual(root, command, lines):
     write(root, f"share/man/man1/{command}.1.gz", gzip.compress(("\n".join(lines) + "\n").encode(), mtime=0))
 
 
+def add_editors(root):
+    """The syntax files for editors."""
+    for folder, place in EDITORS.items():
+        for path in glob.glob(os.path.join(HERE, folder, "**"), recursive=True):
+            if os.path.isfile(path):
+                write(root, os.path.join(place, os.path.relpath(path, os.path.join(HERE, folder))), read(path))
+
+
 def add_texts(root, version, epoch):
     """Texts and examples, in the folders that the texts name; who may do what with them; and what has changed."""
     doc = os.path.join("share", "doc", "mstplan")
@@ -360,14 +326,14 @@ def add_texts(root, version, epoch):
 def add_program(root, program, version):
     """The program with the system's loader, its manual page and its completion: the packages that it needs."""
     page = said(program, "--help")
-    block = re.search(r"^Commands:\n((?:  .*\n)+)", page, re.MULTILINE) or fault("the program's help names no commands")
-    commands = re.findall(r"^  ([a-z]+) ", block[1], re.MULTILINE)
+    commands = list(completion.commands_in(page)) or fault("the program's help names no commands")
     elf = Elf(read(program))
     elf.use_system()
     elf.strip()
     write(root, "bin/mstplan", bytes(elf.data), 0o755)
     add_manual(root, "mstplan", manual(version, page, {it: said(program, it, "--help") for it in commands}))
-    write(root, "share/bash-completion/completions/mstplan", completion(page, commands))
+    for shell, path in COMPLETIONS.items():
+        write(root, path, completion.SHELLS[shell](page))
     return needed(elf)
 
 
@@ -431,6 +397,7 @@ def make(program, folder):
         root = os.path.join(stage, "usr")
         depends = add_program(root, program, version)
         add_commands(root, version)
+        add_editors(root)
         add_texts(root, version, epoch)
         make_archive(root, f"mstplan-{version}", name + ".tar.gz", epoch)
         if not shutil.which("dpkg-deb"):
