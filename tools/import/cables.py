@@ -71,7 +71,7 @@ def mac(word):
 
 def port_of(word):
     """A port by its number, or by the name of its interface."""
-    return str(whole(word, "port's number", 1, HIGHEST_PORT)) if DIGITS.fullmatch(word) else word
+    return str(whole(word, "port's number", 1, HIGHEST_PORT)) if word.isdecimal() else word
 
 
 # ---- what is gathered

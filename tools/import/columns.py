@@ -78,7 +78,7 @@ class Columns:
     def add_of_switch(self, at, words):
         kind = kind_of(words, OF_SWITCH)
         if kind == "priority":
-            self.put(at, self.switch, (kind, next((int(it) for it in words if it.isdecimal()), 0)))
+            self.put(at, self.switch, (kind, next((int(it) for it in words if DIGITS.fullmatch(it)), 0)))
         elif kind != "switch" or not set(words) & NO_NAMES:
             self.put(at, self.switch, kind)
 
