@@ -1,5 +1,6 @@
 #!/usr/bin/env python3
-"""Reports for CI services (tools/ci.py), for tools.py: XML, annotations and JSON have just what `verify` prints, line by line.
+"""Reports for CI services (tools/ci.py), for tools.py: XML, annotations and JSON have just what `verify` prints, line by line; and the line of a
+script or of a change that is told to break a promise is one behind whose edit, made as a step of its own, `steps` tells so.
 
 usage: ci_runs.py PROGRAM [COUNT] [FIRST]    (so many networks, or 100; tools.py takes fewer)
 
@@ -22,10 +23,14 @@ CI, SAMPLES = os.path.join(TOP, "tools", "ci.py"), os.path.join(TOP, "examples")
 # nothing is to be left beside what is imported
 sys.dont_write_bytecode = True
 
+sys.path.append(os.path.join(TOP, "tools"))
+
+import culprits  # noqa: E402
 import sketch  # noqa: E402
+import steps_runs  # noqa: E402
 import verify_runs  # noqa: E402
 
-COUNT, IN_THE_GATE = 100, 20
+COUNT, IN_THE_GATE = 100, 10
 COUNTS = re.compile(r"verify expectations ([0-9]+) hold ([0-9]+)")
 TOLD = re.compile(r"(line|policy|fails|same) ([0-9]+) (.*)")
 # What a policy may have beside promises: one with marks that XML and annotations have to escape, and bytes that aren't ASCII.
@@ -121,6 +126,88 @@ def faults_of(program, number):
     return faults_of_run(program, f"network {number}", "\n".join([*script, ""]).encode(), b"\n".join([*lines, b""]))
 
 
+# ---- what did it
+
+
+def broken_by(told):
+    """By line of the policy the steps behind which it isn't kept and was before, of what `steps` prints."""
+    found, unkept, step = {}, set(), 0
+    for line in told.decode().splitlines():
+        word, number, *_ = [*line.split(), "", ""]
+        if word == "step":
+            step = int(number)
+        elif word in ("fails", "policy"):
+            if int(number) not in unkept and step:
+                found.setdefault(int(number), []).append(step)
+            unkept.add(int(number))
+        elif word == "mends":
+            unkept.discard(int(number))
+    return found
+
+
+def done_by(text):
+    """By line of the policy the places that are told to break it, and what stands there."""
+    lines, found = text.decode().splitlines(), {}
+    for line, behind in zip(lines, lines[1:]):
+        head, place = re.match(r"\S*policy:(\d+): ", line), re.match(r"    by [a-z]+:(\d+)(?:-(\d+))?: (.*)", behind)
+        if head and place:
+            found[int(head[1])] = int(place[1]), int(place[2] or place[1]), place[3]
+    return found
+
+
+def changed(draws, script):
+    """A script with some lines gone and some more, of settings."""
+    lines = [it for it in script if not it.startswith(("add", "plug")) and draws.below(8) == 0]
+    kept = [it for it in script if it not in lines]
+    bridges = [it.split()[1] for it in script if it.startswith("addbridge")]
+    return kept + [sketch.settings(draws, bridges) for _ in range(1 + draws.below(6))]
+
+
+def faults_of_base(program, number):
+    """What differs of a script beside the one before."""
+    old, draws = sketch.drawn(number), sketch.Draws(number + 4 * 10**6)
+    text = sketch.text_of(program, old)
+    policy = "\n".join(["root 0 none", *verify_runs.lines_of(verify_runs.Judged(text, text)), ""]).encode()
+    scripts = ["\n".join([*it, ""]).encode() for it in (old, changed(draws, old))]
+    with tempfile.TemporaryDirectory() as folder:
+        paths = [written(folder, *it) for it in (("old", scripts[0]), ("new", scripts[1]), ("policy", policy))]
+        out, status, error = ran(sys.executable, CI, "--run", program, "--base", paths[0], *paths[1:], "--markdown", os.path.join(folder, "md"))
+        edits = ran(program, "edits", *paths[:2])[0].partition(b"mstplan 2\n")[2].splitlines()
+        change = written(folder, "change", b"mstplan 2\n\n" + b"\n\n".join(edits) + b"\n")
+        broken = broken_by(ran(program, "steps", paths[0], change, paths[2])[0])
+        found, kept = done_by(out), unkept_in(ran(program, "verify", *paths[1:])[0]) - unkept_in(ran(program, "verify", paths[0], paths[2])[0])
+        faults = differing(f"network {number}, status", (status, error), (ran(program, "verify", *paths[1:])[1], ""))
+    said = culprits.Lines(*scripts, "new")
+    for line in kept | set(found):
+        wanted = [said.place(edits[step - 1].decode()) for step in broken.get(line, ())]
+        places = [it and (it.first, it.last, it.text) for it in wanted]
+        if found.get(line) not in places:
+            faults.append(f"network {number}: line {line} is broken by {found.get(line)} in place of {places}")
+    return faults
+
+
+def unkept_in(printed):
+    return {int(it) for it in re.findall(r"^(?:fails|policy) ([0-9]+) ", printed.decode(), re.MULTILINE)}
+
+
+def faults_of_steps(program, number):
+    """What differs of a change in steps: which step breaks a line, and the status."""
+    script, change = sketch.drawn(number), steps_runs.drawn_change(number)
+    policy = "\n".join([*steps_runs.POLICY, "roots", "root 0 none", ""]).encode()
+    with tempfile.TemporaryDirectory() as folder:
+        paths = [written(folder, name, "\n".join([*lines, ""]).encode()) for name, lines in (("script", script), ("change", change))]
+        paths.append(written(folder, "policy", policy))
+        out, status, error = ran(sys.executable, CI, "--run", program, "--change", paths[1], paths[0], paths[2], "--markdown", os.path.join(folder, "md"))
+        told, wanted, _ = ran(program, "steps", *paths)
+    lines = {int(it[0]): (int(it[1]), int(it[2])) for it in re.findall(r"^step (\d+) lines (\d+)-(\d+)", told.decode(), re.MULTILINE)}
+    firsts = {line: lines[steps[0]] for line, steps in broken_by(told).items()}
+    faults = differing(f"change {number}, status", (status, error), (wanted, ""))
+    return faults + differing(f"change {number}", {line: its[:2] for line, its in done_by(out).items()}, firsts)
+
+
+# ---- texts that are compared
+
+
 def faults_of_recipe(program):
     """What differs of the lines of USING that make a report, under `bash -e`: they come to the report, and the status is 1."""
     page = read(os.path.join(TOP, "docs", "USING.md")).decode()
@@ -143,13 +230,48 @@ def faults_of_words(program):
     answer, _, _ = ran(program, "verify", "--json", os.path.join(SAMPLES, "campus.script"), os.path.join(SAMPLES, "keep.policy"))
     for what, lines in (("no answer", b""), ("no JSON", b"verify expectations 1 hold 1\n"), ("of another policy", answer), ("half an answer", answer[:40])):
         faults += differing(what, ran(sys.executable, CI, "-", path, given=lines)[:2], (b"", 3))
-    return faults + faults_of_recipe(program) + differing("words", ran(sys.executable, CI, "-")[1], 2)
+    for its in (["-"], ["--base", path, "-", path], ["--run", program, "--base", path, "--change", path, path, path], ["-", path, "--markdown", "-", "--github"]):
+        faults += differing("words", ran(sys.executable, CI, *its)[1], 2)
+    return faults + faults_of_recipe(program) + faults_of_samples(program)
+
+
+# What is annotated of the campus beside its change, and of a change in steps.
+OF_CAMPUS = b"""::error file=campus-changed.script,line=29,title=mstplan verify%3A not kept::campus.policy:2: root 0 core1 next core2%0Anow root 0 core2 of 6
+::error file=campus-changed.script,line=98,title=mstplan verify%3A not kept::campus.policy:10: always reach 1-4094 *%0Alan dist1-acc2 reach 1-9,11-19,21-4094 parts acc1,core1,core2,dist1,dist2 acc2%0Abridge dist1 reach 1-9,11-19,21-4094 parts acc1,core1,core2,dist2 acc2
+14 of 16 promises are kept
+"""
+OF_WORSE = b"""::error file=worse.change,line=6,endLine=8,title=mstplan verify%3A not kept::keep.policy:2: root 0 core1%0Abehind step 3 now root 0 core2 of 6
+::error file=worse.change,line=8,title=mstplan verify%3A refused::8: refused line%0AE04 no such bridge
+::error file=worse.change,line=2,title=mstplan verify%3A not kept::2: step 1%0Ait cuts VLANs 1-9,11-19,21-4094
+1 of 2 promises are kept
+"""
+SUMMARY = b"""**14 of 16 promises of campus.policy are kept**
+
+| Line | What is said there | Since | Why it isn't so |
+|---|---|---|---|
+| campus.policy&#58;2 | root 0 core1 next core2 | campus-changed.script&#58;29&#58; settreeprio core2 0 1 | now root 0 core2 of 6 |
+"""
+
+
+def faults_of_samples(program):
+    """What differs of what a service gets of the samples, and where a script can't be kept from being read as mark-up."""
+    faults, told = [], []
+    for words, wanted in ((["--base", "campus.script", "campus-changed.script", "campus.policy"], OF_CAMPUS), (["--change", "worse.change", "campus.script", "keep.policy"], OF_WORSE)):
+        its = subprocess.run([sys.executable, CI, "--run", program, *words, "--github"], cwd=SAMPLES, capture_output=True, check=False)
+        faults += differing(f"annotations {words}", (its.stdout, its.returncode, its.stderr), (wanted, 1, b""))
+        told.append(subprocess.run([sys.executable, CI, "--run", program, *words, "--markdown", "-"], cwd=SAMPLES, capture_output=True, check=False).stdout)
+    parts = [SUMMARY, b"**What the change does**: regions 0, roots 1, ports 6, vlans 0\n", b"bridge dist1: cut 1-9,11-19,21-4094 parts", b"7 lines of diff"]
+    faults += [f"the summary hasn't {it}" for it in parts if it not in told[0]] + ["the summary of steps"] * (b"cutting 1 failing 1" not in told[1])
+    with tempfile.TemporaryDirectory() as folder:
+        policy = written(folder, "policy", b"root 0 <b>|`*_[x](y)</b>&\n")
+        out, status, _ = ran(sys.executable, CI, "--run", program, os.path.join(SAMPLES, "campus.script"), policy, "--markdown", "-")
+    return faults + ([] if status == 1 and not re.search(rb"[<`*\[]", out.split(b"|---|")[1].split(b"\n**Single")[0].replace(b"<br>", b"")) else [f"mark-up: {out}"])
 
 
 def check(program, count, first=0):
     """What differs, of so many networks."""
     with concurrent.futures.ThreadPoolExecutor(os.cpu_count()) as pool:
-        found = pool.map(lambda number: faults_of(program, number), range(first, first + count))
+        found = pool.map(lambda number: [*faults_of(program, number), *faults_of_base(program, number), *faults_of_steps(program, number)], range(first, first + count))
         return list(itertools.chain.from_iterable(found))
 
 

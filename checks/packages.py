@@ -6,7 +6,7 @@ usage: packages.py PROGRAM [--root]
 Checked are: two packages of one program are equal; each file's owner and mode; of what is loaded the program differs from PROGRAM in
 the name of its loader and the table that it reads alone, it has no symbols, and it runs from there; the manual pages render without a
 warning, and the program's names each command; the completions are read by bash, fish and zsh and complete; Vim knows a script by its
-files; each other command calls itself by its name, and some run on a sample; what README.md and docs/USING.md name of examples, docs and
+files; those for CI services judge a repository with two commits; each other command calls itself by its name, and some run on a sample; what README.md and docs/USING.md name of examples, docs and
 tools is there; the .tar.gz has the same files; lintian finds no error. Where a tool for one of them isn't there (man, bash, fish, zsh, vim,
 lintian), it is named, and the check is left out.
 Where dpkg-deb isn't there, that is said, and nothing is checked, with status 0.
@@ -48,7 +48,7 @@ RUNS = [
     ("mstplan-order", ["--help"], None, "usage: "),
     ("mstplan-promises", ["--help"], None, "usage: "),
     ("mstplan-export", ["--help"], None, "usage: "),
-    ("mstplan-ci", ["--help"], None, "usage: "),
+    ("mstplan-ci", ["--run", "../../../../bin/mstplan", "campus.script", "campus.policy"], None, "16 of 16 promises are kept"),
     ("mstplan-colour", ["../../../../bin/mstplan", "sweep", "campus.script"], None, "lan c1-c2.a "),
     ("mstplan-parallel", ["../../../../bin/mstplan", "sweep", "campus.script"], None, "lan c1-c2.a "),
 ]
@@ -181,6 +181,48 @@ def editors_of(root):
     return [] if is_known else ["Vim doesn't know a script"]
 
 
+# What each service's file runs run.sh with, and what stands in these files of another word.
+SERVICES = {"action.yml": '--github --markdown "$GITHUB_STEP_SUMMARY" --junit "$JUNIT"',
+            "gitlab.yml": "--junit mstplan.xml --gitlab gl-code-quality-report.json --markdown mstplan.md"}
+
+
+def repository(folder, samples):
+    """A repository whose first commit has the campus, and whose second one its change."""
+    os.mkdir(folder)
+    git = ("git", "-C", folder, "-c", "user.name=a", "-c", "user.email=a@b")
+    ran(*git, "init", "--quiet")
+    for name, message in (("campus.script", "before"), ("campus-changed.script", "after")):
+        shutil.copy(os.path.join(samples, name), os.path.join(folder, "net.script"))
+        for it in ("campus.policy", "keep.policy", "worse.change"):
+            shutil.copy(os.path.join(samples, it), folder)
+        ran(*git, "add", ".")
+        ran(*git, "commit", "--quiet", "-m", message)
+    return ran(*git, "rev-parse", "HEAD~1", text=True).stdout.strip()
+
+
+def run_of(root, folder, service, **words):
+    """One run as a service does it: the line of its file, with its words."""
+    place = os.path.join(root, "usr/share/mstplan/ci")
+    with open(os.path.join(place, service), encoding="utf-8") as file:
+        line = re.search(r"(?:run: |    - )(sh .*)", file.read())[1]
+    given = {"GITHUB_ACTION_PATH": place, "MSTPLAN": os.path.join(root, "usr"), "GITHUB_STEP_SUMMARY": os.path.join(folder, "summary.md"), "JUNIT": "mstplan.xml", "CHANGE": ""}
+    return line, ran("bash", "-c", line, cwd=folder, text=True, env={**os.environ, **given, **words})
+
+
+def services_of(root, folder):
+    """What is wrong with the files for services, each run in a repository as the service runs it."""
+    before, wrong = repository(folder, os.path.join(root, DOC, "examples")), []
+    for service, words in SERVICES.items():
+        line, its = run_of(root, folder, service, SCRIPT="net.script", POLICY="campus.policy", BASE=before)
+        told = "::error file=net.script,line=98," if service == "action.yml" else "by net.script:98: setportvlans acc2 2 10,20"
+        wrong += [] if words in line and its.returncode == 1 and told in its.stdout and not its.stderr else [f"{service}: {its}"]
+    wrong += [f"no {it}" for it in ("summary.md", "mstplan.md", "mstplan.xml", "gl-code-quality-report.json") if not os.path.exists(os.path.join(folder, it))]
+    for base, change, told in (("0" * 40, "", "file=keep.policy,line=2,"), ("", "", "file=keep.policy,line=2,"), (before, "worse.change", "file=worse.change,line=8,")):
+        _, its = run_of(root, folder, "action.yml", SCRIPT="net.script", POLICY="keep.policy", BASE=base, CHANGE=change)
+        wrong += [] if its.returncode == 1 and told in its.stdout else [f"BASE {base}, CHANGE {change}: {its}"]
+    return wrong
+
+
 def commands_of(root):
     """What is wrong with the other commands."""
     wrong, samples = [], os.path.join(root, DOC, "examples")
@@ -276,6 +318,7 @@ def check_contents(checks, program, folder):
     checks.say("what the texts name", texts_of(root))
     checks.say("the archive", archive_of(root, archive, os.path.join(folder, "archive")))
     for tool, text, its in (("man", "the manual pages", lambda: manual_of(root, commands)), ("vim", "the files for editors", lambda: editors_of(root)),
+                            ("git", "the files for CI services", lambda: services_of(root, os.path.join(folder, "repository"))),
                             *((shell, f"the completion for {shell}", functools.partial(completion_of, root, shell, commands)) for shell in ASKED)):
         if shutil.which(tool):
             checks.say(text, its())

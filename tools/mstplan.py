@@ -95,10 +95,10 @@ class Program:
             return standing.saved(), standing.refused
 
     @contextlib.contextmanager
-    def standing(self, script):
-        """The program as it stands with the network of a script, and answers one line after another."""
-        with written(script) as path, tempfile.TemporaryFile() as errors:
-            words = [self.path, "ask", "--json", path]
+    def standing(self, script, policy=None):
+        """The program as it stands with the network of a script, and answers one line after another; `verify` by this policy."""
+        with written(script) as path, written(policy or b"") as judged_by, tempfile.TemporaryFile() as errors:
+            words = [self.path, "ask", "--json", path, *[judged_by] * (policy is not None)]
             try:
                 started = subprocess.Popen(words, stdin=subprocess.PIPE, stdout=subprocess.PIPE, stderr=errors)
             except OSError as fault:

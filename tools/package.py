@@ -53,7 +53,7 @@ END, NEEDED, TEXTS, PLACES = 0, 1, 5, (15, 29)
 # A section's flag of what is loaded, and that of one that has another's number.
 ALLOCATED, HAS_NUMBER = 2, 64
 # What tools/ has of use: commands, what they import, and what they put together.
-TOOLS = ("*.py", "import/*.py", "web/*")
+TOOLS = ("*.py", "import/*.py", "web/*", "ci/*")
 # The tools that are of use in the repository alone.
 OF_REPOSITORY = ("completion.py", "package.py", "unproved.py")
 # Where each shell looks for what completes a command.
