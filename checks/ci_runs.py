@@ -175,8 +175,9 @@ def faults_of_base(program, number):
         edits = ran(program, "edits", *paths[:2])[0].partition(b"mstplan 2\n")[2].splitlines()
         change = written(folder, "change", b"mstplan 2\n\n" + b"\n\n".join(edits) + b"\n")
         broken = broken_by(ran(program, "steps", paths[0], change, paths[2])[0])
-        found, kept = done_by(out), unkept_in(ran(program, "verify", *paths[1:])[0]) - unkept_in(ran(program, "verify", paths[0], paths[2])[0])
-        faults = differing(f"network {number}, status", (status, error), (ran(program, "verify", *paths[1:])[1], ""))
+        now, wanted, _ = ran(program, "verify", *paths[1:])
+        found, kept = done_by(out), unkept_in(now) - unkept_in(ran(program, "verify", paths[0], paths[2])[0])
+        faults = differing(f"network {number}, status", (status, error), (wanted, ""))
     said = culprits.Lines(*scripts, "new")
     for line in kept | set(found):
         wanted = [said.place(edits[step - 1].decode()) for step in broken.get(line, ())]
@@ -197,7 +198,8 @@ def faults_of_steps(program, number):
     with tempfile.TemporaryDirectory() as folder:
         paths = [written(folder, name, "\n".join([*lines, ""]).encode()) for name, lines in (("script", script), ("change", change))]
         paths.append(written(folder, "policy", policy))
-        out, status, error = ran(sys.executable, CI, "--run", program, "--change", paths[1], paths[0], paths[2], "--markdown", os.path.join(folder, "md"))
+        words = ["--change", paths[1], paths[0], paths[2], "--markdown", os.path.join(folder, "md")]
+        out, status, error = ran(sys.executable, CI, "--run", program, *words)
         told, wanted, _ = ran(program, "steps", *paths)
     lines = {int(it[0]): (int(it[1]), int(it[2])) for it in re.findall(r"^step (\d+) lines (\d+)-(\d+)", told.decode(), re.MULTILINE)}
     firsts = {line: lines[steps[0]] for line, steps in broken_by(told).items()}
@@ -230,7 +232,8 @@ def faults_of_words(program):
     answer, _, _ = ran(program, "verify", "--json", os.path.join(SAMPLES, "campus.script"), os.path.join(SAMPLES, "keep.policy"))
     for what, lines in (("no answer", b""), ("no JSON", b"verify expectations 1 hold 1\n"), ("of another policy", answer), ("half an answer", answer[:40])):
         faults += differing(what, ran(sys.executable, CI, "-", path, given=lines)[:2], (b"", 3))
-    for its in (["-"], ["--base", path, "-", path], ["--run", program, "--base", path, "--change", path, path, path], ["-", path, "--markdown", "-", "--github"]):
+    both = ["--run", program, "--base", path, "--change", path, path, path]
+    for its in (["-"], ["--base", path, "-", path], both, ["-", path, "--markdown", "-", "--github"]):
         faults += differing("words", ran(sys.executable, CI, *its)[1], 2)
     return faults + faults_of_recipe(program) + faults_of_samples(program)
 
@@ -256,22 +259,26 @@ SUMMARY = b"""**14 of 16 promises of campus.policy are kept**
 def faults_of_samples(program):
     """What differs of what a service gets of the samples, and where a script can't be kept from being read as mark-up."""
     faults, told = [], []
-    for words, wanted in ((["--base", "campus.script", "campus-changed.script", "campus.policy"], OF_CAMPUS), (["--change", "worse.change", "campus.script", "keep.policy"], OF_WORSE)):
-        its = subprocess.run([sys.executable, CI, "--run", program, *words, "--github"], cwd=SAMPLES, capture_output=True, check=False)
+    base, change = ["--base", "campus.script", "campus-changed.script", "campus.policy"], ["--change", "worse.change", "campus.script", "keep.policy"]
+    for words, wanted in ((base, OF_CAMPUS), (change, OF_WORSE)):
+        in_samples = {"cwd": SAMPLES, "capture_output": True, "check": False}
+        its = subprocess.run([sys.executable, CI, "--run", program, *words, "--github"], **in_samples)
         faults += differing(f"annotations {words}", (its.stdout, its.returncode, its.stderr), (wanted, 1, b""))
-        told.append(subprocess.run([sys.executable, CI, "--run", program, *words, "--markdown", "-"], cwd=SAMPLES, capture_output=True, check=False).stdout)
+        told.append(subprocess.run([sys.executable, CI, "--run", program, *words, "--markdown", "-"], **in_samples).stdout)
     parts = [SUMMARY, b"**What the change does**: regions 0, roots 1, ports 6, vlans 0\n", b"bridge dist1: cut 1-9,11-19,21-4094 parts", b"7 lines of diff"]
     faults += [f"the summary hasn't {it}" for it in parts if it not in told[0]] + ["the summary of steps"] * (b"cutting 1 failing 1" not in told[1])
     with tempfile.TemporaryDirectory() as folder:
         policy = written(folder, "policy", b"root 0 <b>|`*_[x](y)</b>&\n")
         out, status, _ = ran(sys.executable, CI, "--run", program, os.path.join(SAMPLES, "campus.script"), policy, "--markdown", "-")
-    return faults + ([] if status == 1 and not re.search(rb"[<`*\[]", out.split(b"|---|")[1].split(b"\n**Single")[0].replace(b"<br>", b"")) else [f"mark-up: {out}"])
+    row = out.split(b"|---|")[1].split(b"\n**Single")[0].replace(b"<br>", b"")
+    return faults + ([] if status == 1 and not re.search(rb"[<`*\[]", row) else [f"mark-up: {out}"])
 
 
 def check(program, count, first=0):
     """What differs, of so many networks."""
     with concurrent.futures.ThreadPoolExecutor(os.cpu_count()) as pool:
-        found = pool.map(lambda number: [*faults_of(program, number), *faults_of_base(program, number), *faults_of_steps(program, number)], range(first, first + count))
+        checks = (faults_of, faults_of_base, faults_of_steps)
+        found = pool.map(lambda number: [fault for its in checks for fault in its(program, number)], range(first, first + count))
         return list(itertools.chain.from_iterable(found))
 
 

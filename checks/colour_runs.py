@@ -9,7 +9,6 @@ Networks are drawn by their numbers. The exit status is 1 where something differ
 
 import itertools
 import os
-import pty
 import re
 import subprocess
 import sys
@@ -21,6 +20,7 @@ COLOUR, SAMPLES = os.path.join(TOP, "tools", "colour.py"), os.path.join(TOP, "ex
 sys.dont_write_bytecode = True
 
 import sketch  # noqa: E402
+import terminals  # noqa: E402
 
 COUNT, IN_THE_GATE = 50, 4
 ESCAPE = re.compile(rb"\x1b\[[0-9;]*m")
@@ -54,20 +54,8 @@ def coloured(*words):
 
 def at_terminal(words, env):
     """What a terminal gets of standard output, with its ends of lines as they were, and the status."""
-    leader, follower = pty.openpty()
-    with subprocess.Popen(words, stdin=subprocess.DEVNULL, stdout=follower, stderr=subprocess.DEVNULL, cwd=SAMPLES, env=env) as its:
-        os.close(follower)
-        shown = b""
-        while True:
-            try:
-                piece = os.read(leader, 4096)
-            except OSError:
-                break
-            if not piece:
-                break
-            shown += piece
-    os.close(leader)
-    return shown.replace(b"\r\n", b"\n"), its.returncode
+    status, _, got = terminals.shown(words, "stdout", cwd=SAMPLES, env=env)
+    return got.replace(b"\r\n", b"\n"), status
 
 
 def plain_faults(program, what, words):
@@ -100,14 +88,16 @@ def faults_of_cases(program):
         faults += differ + ([] if wanted is None or found == wanted else [f"{words}: {found} in place of {wanted}"])
     words = [sys.executable, COLOUR, program, "verify", "campus-changed.script", "campus.policy"]
     told, shown = ran(*words[2:])[1], coloured(*words[2:])[1]
-    for env, wanted in (({"TERM": "xterm"}, shown), ({"TERM": "xterm", "NO_COLOR": "1"}, told), ({"TERM": "dumb"}, told), ({"TERM": "xterm", "NO_COLOR": ""}, shown)):
+    plain, xterm = [{"TERM": "xterm", "NO_COLOR": "1"}, {"TERM": "dumb"}], [{"TERM": "xterm"}, {"TERM": "xterm", "NO_COLOR": ""}]
+    for env, wanted in [*((it, told) for it in plain), *((it, shown) for it in xterm)]:
         found = at_terminal(words, {**environment, **env})
         faults += [] if found == (wanted, 1) else [f"at a terminal with {env}: {found}"]
     faults += [] if ran(*words) == ran(*words[2:]) else ["without a terminal"]
     odd = b"fails 1 now x\n\xff\x00port\r\nport A 1 Root -> Master\r\nfails 2 now y"
     faults += [] if ran(sys.executable, COLOUR, given=odd)[:2] == (0, odd) else ["what comes by standard input"]
     status, out, _ = ran(sys.executable, COLOUR, "--always", given=odd)
-    faults += [] if (status, ESCAPE.sub(b"", out), IN_COLOUR.findall(out)) == (0, odd, [b"fails 1", b"Root", b"Master", b"fails 2"]) else [f"standard input in colours: {out}"]
+    told = status, ESCAPE.sub(b"", out), IN_COLOUR.findall(out)
+    faults += [] if told == (0, odd, [b"fails 1", b"Root", b"Master", b"fails 2"]) else [f"standard input in colours: {out}"]
     faults += [] if ran(sys.executable, COLOUR, "--sometimes")[0] == 2 else ["wrong words"]
     return faults + ([] if ran(sys.executable, COLOUR, "--always", "/nonexistent/mstplan", "run")[0] == 3 else ["a program that isn't there"])
 

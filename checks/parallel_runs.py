@@ -10,7 +10,6 @@ Networks and policies are drawn by their numbers. The exit status is 1 where som
 import concurrent.futures
 import itertools
 import os
-import pty
 import signal
 import subprocess
 import sys
@@ -25,13 +24,16 @@ sys.path.append(TOOLS)
 
 import promise_parts  # noqa: E402
 import sketch  # noqa: E402
+import terminals  # noqa: E402
 import verify_runs  # noqa: E402
 
 COUNT, IN_THE_GATE = 100, 6
 PARALLEL = os.path.join(TOOLS, "parallel.py")
-SCOPES = [b"", b"always ", b"always ", b"\talways\t ", b"finally always ", b"finally ", b"after lan * ", b"after bridge * ", b"after lan L*,L1 "]
+SCOPES = [b"", b"always ", b"always ", b"\talways\t ", b"finally always ", b"finally "]
+SCOPES += [b"after lan * ", b"after bridge * ", b"after lan L*,L1 "]
 # Lines that say nothing, that can't be read or that name what isn't there, and long ones.
-ODD = [b"", b"# always fits", b"always", b"always always fits", b"always finally fits", b"finally always", b"always fits x", b"always root 0", b"always  fits\r",
+ODD = [b"", b"# always fits", b"always", b"always always fits", b"always finally fits", b"finally always", b"always fits x", b"always root 0",
+       b"always  fits\r",
        b"always root 0 none_such", b"always root 77 A", b"always reach 0 *", b"always together 1-9 none*", b"always reach 10 n\xffo*", b"always roots 0",
        b"always fits" + b" " * 4085, b"always fits" + b" " * 4086, b"always together 1-4094 " + b",".join([b"*"] * 900), b"after lan none fits"]
 
@@ -79,10 +81,12 @@ def faults_of_words(program):
     campus, changed, policy = (os.path.join(SAMPLES, it) for it in ("campus.script", "campus-changed.script", "campus.policy"))
     with open(changed, "rb") as file:
         given = file.read()
-    calls = [["sweep", campus], ["sweep", "--json", changed], ["sweep", "-"], ["sweep", "-", "pairs"], ["verify", "--", "-", policy], ["verify", "-", "-"],
-             ["verify", campus, policy], ["verify", "--json", changed, policy], ["verify", changed, os.devnull], ["verify", os.devnull, policy], ["sweep", os.devnull]]
+    calls = [["sweep", campus], ["sweep", "--json", changed], ["sweep", "-"], ["sweep", "-", "pairs"], ["sweep", os.devnull]]
+    calls += [["verify", "--", "-", policy], ["verify", "-", "-"], ["verify", campus, policy], ["verify", "--json", changed, policy]]
+    calls += [["verify", changed, os.devnull], ["verify", os.devnull, policy]]
     faults = itertools.chain.from_iterable(differing(program, "words", its, given) for its in calls)
-    as_one = [["summary", campus], ["sweep", campus, "2/1"], ["verify", "/nonexistent", policy], ["sweep"], ["verify", campus], ["sweep", "--jsno", campus], ["sweep", "/"], []]
+    as_one = [["summary", campus], ["sweep", campus, "2/1"], ["verify", "/nonexistent", policy], ["sweep"], ["verify", campus]]
+    as_one += [["sweep", "--jsno", campus], ["sweep", "/"], []]
     for its in as_one:
         wanted, found = ran(program, *its), ran(sys.executable, PARALLEL, program, *its)
         said = b"parallel.py: %b has no parts here, and runs as one\n" % its[0].encode() if its else b""
@@ -102,25 +106,6 @@ def slow_program(program, folder):
     return path
 
 
-def at_terminal(words, env):
-    """Runs words with standard error at a terminal: status, standard output, and what the terminal got."""
-    leader, follower = pty.openpty()
-    with subprocess.Popen(words, stdin=subprocess.DEVNULL, stdout=subprocess.PIPE, stderr=follower, env=env) as its:
-        os.close(follower)
-        out = its.stdout.read()
-    shown = b""
-    while True:
-        try:
-            piece = os.read(leader, 4096)
-        except OSError:
-            piece = b""
-        if not piece:
-            break
-        shown += piece
-    os.close(leader)
-    return its.returncode, out, shown
-
-
 def runs(number):
     try:
         os.kill(number, 0)
@@ -138,7 +123,8 @@ def stopped(words, folder, env, number):
         its.send_signal(number)
         out, errors = its.communicate()
     left = [it for it in os.listdir(folder) if it.isdecimal() and runs(int(it))]
-    return [] if (its.returncode, out, errors, left) == (3, b"", b"parallel.py: stopped\n", []) else [f"signal {number}: {its.returncode}, {out[:80]}, {errors[-200:]}, {left} run still"]
+    is_right = (its.returncode, out, errors, left) == (3, b"", b"parallel.py: stopped\n", [])
+    return [] if is_right else [f"signal {number}: {its.returncode}, {out[:80]}, {errors[-200:]}, {left} run still"]
 
 
 def faults_of_terminal(program):
@@ -148,7 +134,7 @@ def faults_of_terminal(program):
     with tempfile.TemporaryDirectory() as folder:
         slow = slow_program(program, folder)
         words = [sys.executable, PARALLEL, slow, "-j", "2", "sweep", campus]
-        status, out, shown = at_terminal(words, {**os.environ, "WAIT": "1.3"})
+        status, out, shown = terminals.shown(words, "stderr", env={**os.environ, "WAIT": "1.3"})
         is_told = shown.startswith(b"\r\x1b[Ksweep: 0 of 2 parts, 0:0") and shown.endswith(b"\r\x1b[K") and b"\n" not in shown
         if (status, out) != ran(program, "sweep", campus)[:2] or not is_told:
             faults.append(f"progress: {status}, {out[-80:]}, {shown}")
@@ -164,7 +150,7 @@ def faults_of_faults(program, campus):
     faults = []
     with tempfile.TemporaryDirectory() as folder:
         for text, said in (("kill -9 $$", "exit status -9"), ("echo out of memory >&2; exit 3", "exit status 3: out of memory")):
-            path = written(folder, "fails", f'#!/bin/sh\n{text}\n'.encode())
+            path = written(folder, "fails", f"#!/bin/sh\n{text}\n".encode())
             os.chmod(path, 0o755)
             status, out, errors = ran(sys.executable, PARALLEL, path, "sweep", campus)
             if (status, out) != (3, b"") or said.encode() not in errors:

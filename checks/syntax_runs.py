@@ -29,8 +29,10 @@ import syntax  # noqa: E402
 
 HERE = os.path.dirname(os.path.abspath(__file__))
 # Words in the form of arguments, by what these are; and words that are in the form of none.
-RIGHT = {"B": "core1", "L": "a-b.1", "MAC": "00:1B-21:aa:00:01", "CNAME": "EDGE/1!", "VIDS": "1-9,20", "VIDS|all|none": "none", "Tree": "2", "Steps": "3", "Next": "next",
-         "Bridge": "core1", "NextBridge": "9", "Lan": "x", "Vids": "10", "Names": "core*,x,*", "Ports": "core1:2,x*:*", "Roles": "Root,Disabled"}
+RIGHT = {"B": "core1", "L": "a-b.1", "MAC": "00:1B-21:aa:00:01", "CNAME": "EDGE/1!", "VIDS": "1-9,20", "VIDS|all|none": "none", "Tree": "2",
+         "Steps": "3", "Next": "next", "Bridge": "core1", "NextBridge": "9", "Lan": "x", "Vids": "10", "Names": "core*,x,*", "Ports": "core1:2,x*:*", "Roles": "Root,Disabled"}
+SCOPES = ("always", "finally", "finally  always", "after lan x*,y", "finally after\tbridge *")
+SCOPES += ("always always", "always finally", "after x", "after lan", "after lan x:1", "after lan x always")
 WRONG = ("-x", "a_name_of_more_than_16", "1,,2", "é", "1-", "ab:", "maybe")
 VIM = """set nocompatible
 set encoding=utf-8
@@ -79,8 +81,7 @@ def policy_lines():
     for word, arguments in re.findall(r'^    b"(\w+)" \w+ \[([\w ]*)\];$', text, re.MULTILINE):
         right = [word, *(RIGHT[it] for it in arguments.split())]
         lines += [" ".join(it) for it in changed(right)]
-        scopes = ("always", "finally", "finally  always", "after lan x*,y", "finally after\tbridge *", "always always", "always finally", "after x", "after lan", "after lan x:1", "after lan x always")
-        lines += [f"{scope} {' '.join(right)}" for scope in scopes]
+        lines += [f"{scope} {' '.join(right)}" for scope in SCOPES]
     return [*dict.fromkeys(lines), "", "always", "finally", "# x"]
 
 
@@ -169,7 +170,8 @@ def main():
     if len(sys.argv) != 2:
         sys.exit(__doc__)
     faults, count = check(os.path.abspath(sys.argv[1]))
-    print("".join(f"{it}\n" for it in faults[:20]) + ("" if shutil.which("vim") else "left out, for vim is missing: Vim's files\n") + f"{count} lines: {len(faults)} faults")
+    left_out = "" if shutil.which("vim") else "left out, for vim is missing: Vim's files\n"
+    print("".join(f"{it}\n" for it in faults[:20]) + f"{left_out}{count} lines: {len(faults)} faults")
     return 1 if faults else 0
 
 

@@ -158,8 +158,10 @@ def place_culprits(program, scripts, path, policy, answer, before):
 
 def words_of():
     usage, text = __doc__.split(USAGE)[1].split("\n\n", 1)
-    parser = argparse.ArgumentParser(description=f"{__doc__.split(USAGE)[0]}\n\n{text}", usage=usage, epilog=STATUSES, formatter_class=argparse.RawDescriptionHelpFormatter)
-    parser.add_argument("lines", metavar="LINES", help="what `mstplan verify --json FILE POLICY` has printed, or with --run the script FILE; - is standard input")
+    parser = argparse.ArgumentParser(description=f"{__doc__.split(USAGE)[0]}\n\n{text}", usage=usage, epilog=STATUSES,
+                                     formatter_class=argparse.RawDescriptionHelpFormatter)
+    what = "what `mstplan verify --json FILE POLICY` has printed, or with --run the script FILE; - is standard input"
+    parser.add_argument("lines", metavar="LINES", help=what)
     called = "what it calls ports; with --run FILE calls them so, and this is its name alone"
     parser.add_argument("policy", metavar="POLICY", help="the policy that was judged, by the name that it has in the repository")
     parser.add_argument("--run", metavar="PROGRAM", help="mstplan, or a file that runs it: it judges FILE")

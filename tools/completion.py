@@ -168,7 +168,8 @@ def zsh(page):
 
 def fish(page):
     commands = [f"complete -c mstplan -n __mstplan_is_first -f -a {it} -d {quoted(text, QUOTE_IN_FISH)}" for it, text in commands_in(page).items()]
-    flags = [f"complete -c mstplan -n '__mstplan_is_of {' '.join(its)}' -l {it[2:]} -d {quoted(text, QUOTE_IN_FISH)}" for it, (its, text) in flags_in(page).items()]
+    flags = [f"complete -c mstplan -n '__mstplan_is_of {' '.join(its)}' -l {it[2:]} -d {quoted(text, QUOTE_IN_FISH)}"
+             for it, (its, text) in flags_in(page).items()]
     offered = []
     for command, count, last, words in OFFERED:
         behind = " ".join(filter(None, (command, str(count), last)))

@@ -24,7 +24,8 @@ def cut_short(rows, most, others):
 def folded(title, lines):
     """Lines as they are printed, below a line that opens them."""
     if lines:
-        yield from ("", f"<details><summary>{plain(title)}</summary>", "", "```text", *cut_short(lines, MOST_LINES, "and {} lines more"), "```", "", "</details>")
+        yield from ("", f"<details><summary>{plain(title)}</summary>", "", "```text")
+        yield from (*cut_short(lines, MOST_LINES, "and {} lines more"), "```", "", "</details>")
 
 
 def cuts_in(swept):

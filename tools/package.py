@@ -6,10 +6,11 @@ usage: package.py PROGRAM [FOLDER]    (FOLDER takes the packages; the one where 
 PROGRAM is crates/mstplan/out/mstplan, which `rt ci` leaves where all is proved, or one that unproved.py has made. VERSION is what
 `PROGRAM --version` prints, with +unproved behind it for a program from any other place than crates/mstplan/out.
 
-Both packages have the program, its completion for bash, fish and zsh, syntax files for Vim and VS Code, all of examples/, the texts of docs/, and each file of tools/ and of
-tools/import/ that is run as a command of its own: page.py is mstplan-page, import/links.py mstplan-import-links; but for those
-that are of use in the repository alone, this one, completion.py and unproved.py. Each command has a manual page, which is made of its `--help`. These
-commands need Python 3.10 or later; the program needs the C library alone. The .tar.gz runs from wherever it is unpacked.
+Both packages have the program, its completion for bash, fish and zsh, syntax files for Vim and VS Code, an action of GitHub and a
+template of GitLab, all of examples/, the texts of docs/, and each file of tools/ and of tools/import/ that is run as a command of its
+own: page.py is mstplan-page, import/links.py mstplan-import-links; but for those that are of use in the repository alone, this one,
+completion.py and unproved.py. Each command has a manual page, which is made of its `--help`. These commands need Python 3.10 or later;
+the program needs the C library alone. The .tar.gz runs from wherever it is unpacked.
 
 The program as it is built names the toolchain's loader and the place of its libraries. In the packages it names the system's
 loader, and no place: the loader's name and the table of entries that it reads are changed where they stand, so neither patchelf nor

@@ -62,7 +62,8 @@ def words_of():
     parser = argparse.ArgumentParser(description=__doc__, epilog=STATUSES, formatter_class=argparse.RawDescriptionHelpFormatter,
                                      usage="%(prog)s PROGRAM [-j N] WORD ..")
     parser.add_argument("program", metavar="PROGRAM", help="mstplan, or a file that runs it; behind it stand its words")
-    parser.add_argument("-j", "--jobs", metavar="N", type=natural, default=processors(), help="how many run at a time; as many as there are processors without it")
+    jobs = "how many run at a time; as many as there are processors without it"
+    parser.add_argument("-j", "--jobs", metavar="N", type=natural, default=processors(), help=jobs)
     words = sys.argv[1:]
     at = 3 if words[1:2] in (["-j"], ["--jobs"]) else 2 if re.match("-j.|--jobs=", "".join(words[1:2])) else 1
     front = parser.parse_args(words[:at])

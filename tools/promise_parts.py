@@ -239,7 +239,8 @@ class Whole:
     def always_told(found, count, holds):
         words = found[2].removeprefix(b"finally ")
         front = b"finally " if found[3] == b"true" else b""
-        return b'{"line":%b,"promise":"%balways %b","scope":"always","finally":%b,"network_count":%d,"holds":%b}' % (found[1], front, words, found[3], count, holds)
+        told = b'{"line":%b,"promise":"%balways %b","scope":"always","finally":%b,"network_count":%d,"holds":%b}'
+        return told % (found[1], front, words, found[3], count, holds)
 
 
 def networks_of(promise, lans, bridges):
