@@ -11,9 +11,10 @@ import re
 from dataclasses import dataclass, field
 
 import mstplan
-from command import write
+from command import tell, write
 from running import tell_errors
 
+TOOL = "parallel.py"
 FINALLY, ALWAYS, TOGETHER = b"finally", b"always", b"together"
 # Of an expectation which of its words name a bridge, or a LAN, that isn't looked at where it has failed itself.
 OWN_BRIDGES, OWN_LANS = {b"root": (2, 4)}, {b"carries": (1,), b"avoids": (1,)}
@@ -272,6 +273,8 @@ def verify(flags, files, calls):
     lines = mstplan.lines_in(policy)
     promises = [it for it in map(promise_in, range(1, len(lines) + 1), lines) if it]
     lans, bridges = failures_in(calls.saved(script)) if promises else ((), ())
+    if not promises:
+        tell(TOOL, "the policy has no line with always to cut, and verify runs as one")
     count = min(calls.jobs * PARTS_OF_A_PROCESSOR, (len(lans) + len(bridges)) // LEAST_FAILURES + 1)
     parts = parts_of(promises, lans, bridges, count)
     for it in promises:
