@@ -181,7 +181,7 @@ def faults_of_base(program, number):
     said = culprits.Lines(*scripts, "new")
     for line in kept | set(found):
         wanted = [said.place(edits[step - 1].decode()) for step in broken.get(line, ())]
-        places = [it and (it.first, it.last, it.text) for it in wanted]
+        places = [it and (it.first, it.last, it.text + " is gone" * it.is_gone) for it in wanted]
         if found.get(line) not in places:
             faults.append(f"network {number}: line {line} is broken by {found.get(line)} in place of {places}")
     return faults
@@ -268,6 +268,12 @@ def faults_of_samples(program):
     parts = [SUMMARY, b"**What the change does**: regions 0, roots 1, ports 6, vlans 0\n", b"bridge dist1: cut 1-9,11-19,21-4094 parts", b"7 lines of diff"]
     faults += [f"the summary hasn't {it}" for it in parts if it not in told[0]] + ["the summary of steps"] * (b"cutting 1 failing 1" not in told[1])
     with tempfile.TemporaryDirectory() as folder:
+        base, lines = os.path.join(SAMPLES, "campus.script"), read(os.path.join(SAMPLES, "campus.script")).splitlines(keepends=True)
+        at = lines.index(b"plug acc2 1 dist1-acc2\n") + 1
+        script = written(folder, "net", b"".join(lines[:at - 1] + lines[at:]))
+        out, status, _ = ran(sys.executable, CI, "--run", program, "--base", base, script, os.path.join(SAMPLES, "campus.policy"), "--github")
+        told = f"::error file={script},line={at},title=mstplan verify%3A not kept::net:{at}: plug acc2 1 dist1-acc2 is gone%0Acampus.policy:".encode()
+        faults += [] if status == 1 and out.startswith(told) else [f"a line that is gone: {status}, {out}"]
         policy = written(folder, "policy", b"root 0 <b>|`*_[x](y)</b>&\n")
         out, status, _ = ran(sys.executable, CI, "--run", program, os.path.join(SAMPLES, "campus.script"), policy, "--markdown", "-")
     row = out.split(b"|---|")[1].split(b"\n**Single")[0].replace(b"<br>", b"")

@@ -77,7 +77,8 @@ def annotations(verified):
         its = case.place
         places.setdefault((its.path, its.first, its.last, case.kind), []).append(case)
     for (path, first, last, kind), cases in places.items():
-        lines = [line for case in cases[:MOST_CASES] for line in [title_of(case), *case.texts(MOST_ANNOTATED)]]
+        lines = [cases[0].place.told()] * cases[0].place.is_gone
+        lines += [line for case in cases[:MOST_CASES] for line in [title_of(case), *case.texts(MOST_ANNOTATED)]]
         lines += [f"and {len(cases) - MOST_CASES} lines more"] * (len(cases) > MOST_CASES)
         text = escaped("\n".join(map(printable, lines)))
         path, title = (escaped(printable(word), "%\r\n:,") for word in (path, f"mstplan verify: {TYPES[kind]}"))

@@ -89,7 +89,7 @@ class Lines:
             return Place(self.path, number, number, shown(self.lines[number - 1]))
         if removed:
             number = self.gone[removed[-1]]
-            return Place(self.path, number, number, f"{shown(self.before[removed[-1] - 1])} is gone")
+            return Place(self.path, number, number, shown(self.before[removed[-1] - 1]), True)
         return None
 
 

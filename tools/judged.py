@@ -18,15 +18,16 @@ def printable(text):
 
 @dataclass
 class Place:
-    """Lines of a script or of a change that did something, and what stands there."""
+    """Lines of a script or of a change that did something, and what stands there, or stood there and is gone."""
     path: str
     first: int
     last: int
     text: str
+    is_gone: bool = False
 
     def told(self):
         lines = str(self.first) if self.first == self.last else f"{self.first}-{self.last}"
-        return f"{name_of(self.path)}:{lines}: {self.text}"
+        return f"{name_of(self.path)}:{lines}: {self.text}{' is gone' * self.is_gone}"
 
 
 @dataclass
