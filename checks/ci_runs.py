@@ -30,7 +30,7 @@ import sketch  # noqa: E402
 import steps_runs  # noqa: E402
 import verify_runs  # noqa: E402
 
-COUNT, IN_THE_GATE = 100, 10
+COUNT, IN_THE_GATE = 100, 8
 COUNTS = re.compile(r"verify expectations ([0-9]+) hold ([0-9]+)")
 TOLD = re.compile(r"(line|policy|fails|same) ([0-9]+) (.*)")
 # What a policy may have beside promises: one with marks that XML and annotations have to escape, and bytes that aren't ASCII.

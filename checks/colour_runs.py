@@ -22,7 +22,7 @@ sys.dont_write_bytecode = True
 import sketch  # noqa: E402
 import terminals  # noqa: E402
 
-COUNT, IN_THE_GATE = 50, 4
+COUNT, IN_THE_GATE = 50, 2
 ESCAPE = re.compile(rb"\x1b\[[0-9;]*m")
 IN_COLOUR = re.compile(rb"\x1b\[[1-9][0-9;]*m([^\x1b]*)\x1b\[0m")
 ROLE_AT_END = re.compile(rb"^port .* (Root|Designated|Alternate|Backup|Master|Disabled)$", re.MULTILINE)

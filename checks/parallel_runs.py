@@ -27,7 +27,7 @@ import sketch  # noqa: E402
 import terminals  # noqa: E402
 import verify_runs  # noqa: E402
 
-COUNT, IN_THE_GATE = 100, 6
+COUNT, IN_THE_GATE = 100, 4
 PARALLEL = os.path.join(TOOLS, "parallel.py")
 SCOPES = [b"", b"always ", b"always ", b"\talways\t ", b"finally always ", b"finally "]
 SCOPES += [b"after lan * ", b"after bridge * ", b"after lan L*,L1 "]

@@ -6,7 +6,7 @@ what one process prints, colour.py by the same without colours; and what each pr
 usage: tools.py PROGRAM
 
 Each of order_runs.py, promises_runs.py, export_runs.py, ci_runs.py, lacking_runs.py, parallel_runs.py and colour_runs.py can be called alone
-for more networks. It takes about a minute of a processor. The exit status is 1 where something differs.
+for more networks. It takes about a minute and a half of a processor. The exit status is 1 where something differs.
 """
 
 import concurrent.futures

@@ -223,25 +223,21 @@ class Whole:
         by_number = {it.number: it for it in self.promises}
         for record in split(told, b'},{"line":') if told else []:
             found = PROMISE.fullmatch(record)
-            promise = by_number.get(int(found[1])) if found else None
-            if promise is None:
-                yield self.always(record, found)
-                continue
-            count = networks_of(promise, lans, bridges)
-            holds = b"null" if count == 0 else b"false" if self.rows[promise.number] else b"true"
-            yield self.always_told(found, count, holds)
+            number = int(found[1]) if found else None
+            if number not in self.found:
+                yield record
+            elif number not in by_number:
+                yield with_always(found, 0, b"null")
+            else:
+                count = networks_of(by_number[number], lans, bridges)
+                yield with_always(found, count, b"null" if count == 0 else b"false" if self.rows[number] else b"true")
 
-    def always(self, record, found):
-        """A promise that isn't cut, or one with `always` that is refused."""
-        is_cut = found and int(found[1]) in self.found
-        return self.always_told(found, 0, b"null") if is_cut else record
 
-    @staticmethod
-    def always_told(found, count, holds):
-        words = found[2].removeprefix(b"finally ")
-        front = b"finally " if found[3] == b"true" else b""
-        told = b'{"line":%b,"promise":"%balways %b","scope":"always","finally":%b,"network_count":%d,"holds":%b}'
-        return told % (found[1], front, words, found[3], count, holds)
+def with_always(found, count, holds):
+    """The record of a line with `always`, by that of the line without: in how many networks it is judged, and whether it holds."""
+    front = b"finally " if found[3] == b"true" else b""
+    told = b'{"line":%b,"promise":"%balways %b","scope":"always","finally":%b,"network_count":%d,"holds":%b}'
+    return told % (found[1], front, found[2].removeprefix(front), found[3], count, holds)
 
 
 def networks_of(promise, lans, bridges):
