@@ -140,6 +140,8 @@ def main():
             build(here, program)
     except KeyboardInterrupt:
         sys.exit("\nstopped")
+    except FileNotFoundError as why:
+        sys.exit(f"not built: {why.filename}: {why.strerror}")
     used = os.times()
     print(f"{(used.children_user + used.children_system) / 60:.1f} minutes of a processor", file=sys.stderr)
     print(program)
