@@ -106,8 +106,10 @@ def faults_of_cases(program):
         return list(itertools.chain.from_iterable(pool.map(lambda it: faults_of_case(*it), calls)))
 
 
-# What lines of the campus call some ports; of each tool files and words, how it ends, and lines that it prints or tells.
+# What lines of the campus call some ports, and one that gives a port another role; of each tool files and words, how it ends, and lines that it
+# prints or tells.
 CALLED = "# port acc1 1 is Gi1/0/1\n# port core1 1 is Te1/0/1\n#port core1 2 is Te1/0/2 of Po1\n# port acc2 2 is Gi1/0/2\n# port acc1 9 is Gi1/0/9\n"
+CHEAPER = "setportpathcost acc2 2 1\n"
 NAMED = [
     ("lacking.py", ["verify", "FILE", "POLICY"], 1, ["policy line 1 core1:2 (Te1/0/2 of Po1) is a member of core1:1 (Te1/0/1)", "policy line 2 no port acc1:9 (Gi1/0/9)"]),
     ("lacking.py", ["explain", "FILE", "acc1", "gi1/0/1"], 1, ["explain B P: gi1/0/1 is acc1:1"]),
@@ -121,6 +123,19 @@ NAMED = [
     ("ci.py", ["TOLD", "ROLES", "--script", "FILE", "--junit", "-"], 1, [
         '      <failure type="not kept" message="now role 0 acc2:2 (Gi1/0/2) Alternate">now role 0 acc2:2 (Gi1/0/2) Alternate</failure>']),
     ("ci.py", ["TOLD", "ROLES", "--script", ABSENT], 1, ["    now role 0 acc2:2 Alternate"]),
+    ("ci.py", ["FILE", "ROLES", "--run", "PROGRAM", "--script", ABSENT, "--markdown", "-"], 1, [
+        "| script&#58;1 | role 0 acc2&#58;2 Designated |  | now role 0 acc2&#58;2 (Gi1/0/2) Alternate |"]),
+    ("ci.py", ["CHEAP", "HOLDS", "--run", "PROGRAM", "--base", "FILE"], 1, [
+        "    by script:101: setportpathcost acc2 2 1 (acc2:2 is Gi1/0/2)", "    now role 0 acc2:2 (Gi1/0/2) Root"]),
+    ("ci.py", ["CHEAP", "HOLDS", "--run", "PROGRAM", "--base", "FILE", "--junit", "-"], 1, [
+        '    <testcase classname="script" name="1: role 0 acc2:2 Alternate" file="HOLDS" line="1">',
+        '      <failure type="not kept" message="now role 0 acc2:2 (Gi1/0/2) Root">now role 0 acc2:2 (Gi1/0/2) Root',
+        "by script:101: setportpathcost acc2 2 1 (acc2:2 is Gi1/0/2)</failure>"]),
+    ("ci.py", ["CHEAP", "HOLDS", "--run", "PROGRAM", "--base", "FILE", "--github"], 1, [
+        "::error file=CHEAP,line=101,title=mstplan verify%3A not kept::script:1: role 0 acc2:2 Alternate%0Anow role 0 acc2:2 (Gi1/0/2) Root"]),
+    ("ci.py", ["FILE", "LEADS", "--run", "PROGRAM", "--base", "CHEAP"], 1, [
+        "    by script:100: setportpathcost acc2 2 1 (acc2:2 is Gi1/0/2) is gone", "    now role 0 acc2:2 (Gi1/0/2) Alternate"]),
+    ("ci.py", ["FILE", "HOLDS", "--run", "PROGRAM", "--change", "COST"], 1, ["    behind step 1 now role 0 acc2:2 (Gi1/0/2) Root"]),
 ]
 
 
@@ -129,16 +144,18 @@ def faults_of_names(program):
     with open(CAMPUS, encoding="utf-8") as file:
         given = {"FILE": file.read() + CALLED, "POLICY": "role 0 core1:2 Root\nrole 0 acc1:9 Root\n", "WHOLE": "reach 1-4094 *\n",
                  "ROLES": "role 0 acc2:2 Designated\nrole 0 core1:1 Designated\n", "COSTS": "setportvlans dist1 3 10,20\n\nsetportpathcost acc1 1 200000\n",
-                 "CHANGE": "\nsetportpathcost acc2 1 200000\n\nunplug acc1 1\nunplug acc1 9\n"}
+                 "CHANGE": "\nsetportpathcost acc2 1 200000\n\nunplug acc1 1\nunplug acc1 9\n", "COST": CHEAPER, "HOLDS": "role 0 acc2:2 Alternate\n",
+                 "LEADS": "role 0 acc2:2 Root\n"}
+        given["CHEAP"] = given["FILE"] + CHEAPER
     faults = []
     with contextlib.ExitStack() as opened:
         paths = {name: opened.enter_context(mstplan.written(text.encode())) for name, text in given.items()}
         told = subprocess.run([program, "verify", "--json", paths["FILE"], paths["ROLES"]], capture_output=True, check=False).stdout
-        paths["TOLD"] = opened.enter_context(mstplan.written(told))
+        paths["PROGRAM"], paths["TOLD"] = program, opened.enter_context(mstplan.written(told))
         for tool, words, status, wanted in NAMED:
             called = [sys.executable, os.path.join(TOP, "tools", tool), *([] if tool == "ci.py" else [program]), *(paths.get(it, it) for it in words)]
             ran = subprocess.run(called, capture_output=True, text=True, check=False)
-            printed = (ran.stdout + ran.stderr).splitlines()
+            printed = (ran.stdout + ran.stderr).replace(paths["CHEAP"], "CHEAP").replace(paths["HOLDS"], "HOLDS").splitlines()
             faults += [f"{tool} {' '.join(words)}: {it!r} isn't in {printed}" for it in wanted if it not in printed]
             faults += [f"{tool} {' '.join(words)}: status {ran.returncode}"] * (ran.returncode != status)
     return faults

@@ -8,6 +8,7 @@ them, the other half is looked at. An edit may have no line: then it is the plac
 import difflib
 
 import mstplan
+from interfaces import Names
 from judged import Place
 
 # How many words behind its own say what a line is about, and which line an edit takes back.
@@ -71,12 +72,13 @@ def changed_lines(old, new):
 
 
 class Lines:
-    """The lines of a script, and where each edit is said there."""
+    """The lines of a script, and where each edit is said there, with what its port is called."""
 
     def __init__(self, old, new, path):
         self.path, self.lines, self.before = path, mstplan.lines_in(new), mstplan.lines_in(old)
         self.edits, self.old_edits = list(edits_in(new)), list(edits_in(old))
         self.added, self.gone = changed_lines(old, new)
+        self.names = Names(old, new)
 
     def place(self, edit):
         """Where an edit is said, or None."""
@@ -86,15 +88,14 @@ class Lines:
         removed = [number for number, its in self.old_edits if number in self.gone and about(its) == about(words)]
         if same or similar:
             number = (same or similar)[-1]
-            return Place(self.path, number, number, shown(self.lines[number - 1]))
+            return Place(self.path, number, number, self.shown(self.lines[number - 1]))
         if removed:
             number = self.gone[removed[-1]]
-            return Place(self.path, number, number, shown(self.before[removed[-1] - 1]), True)
+            return Place(self.path, number, number, self.shown(self.before[removed[-1] - 1]), True)
         return None
 
-
-def shown(line):
-    return " ".join(line.decode(errors="replace").split())
+    def shown(self, line):
+        return self.names.edit(" ".join(line.decode(errors="replace").split()))
 
 
 def edits_between(program, old, new):
