@@ -38,6 +38,25 @@ return {
   wide: names.filter(it => it.querySelector(".name").getBoundingClientRect().width > it.querySelector(".box").getBoundingClientRect().width).length,
   letter: Math.min(...names.map(it => parseFloat(getComputedStyle(it.querySelector(".name")).fontSize))) * document.getElementById("network").getScreenCTM().a,
 };"""
+# Cables that pass behind a switch's box, and signs of ports that are wider written than drawn.
+HIDDEN = """
+const boxes = [...picture.spots].map(([name, spot]) => ({ name, ...edgesOf(spot) })), found = [];
+for (const cable of picture.cables) {
+  const points = cable.points(), drawn = [], own = cable.ends.map(it => it.node);
+  for (let i = 1; i < points.length; i += points[i][2] ? 3 : 1) {
+    const curve = points[i][2] ? points.slice(i - 1, i + 3) : [points[i - 1], points[i - 1], points[i], points[i]];
+    for (let part = 0; part <= 32; part += 1) drawn.push(pointOf(curve, part / 32));
+  }
+  const left = Math.min(...drawn.map(it => it[0])), right = Math.max(...drawn.map(it => it[0]));
+  for (const box of boxes.filter(it => !own.includes(it.name) && it.right > left && it.left < right)) {
+    if (drawn.some(([x, y]) => x > box.left && x < box.right && y > box.top && y < box.bottom)) found.push(`${cable.key} behind ${box.name}`);
+  }
+}
+for (const [port, sign] of picture.signs) {
+  const [text, shape] = ["text", ".shape"].map(it => sign.querySelector(it).getBBox().width);
+  if (text > shape) found.push(`${port} is cut`);
+}
+return found;"""
 SIGNS = 'return [...document.querySelectorAll("#network .port")].map(it => [it.dataset.port, it.dataset.role]);'
 IN_SIGHT = """
 const node = document.querySelector(`#network [data-bridge="${arguments[0]}"]`).getBoundingClientRect();
@@ -91,7 +110,7 @@ def network_in(lines):
             lans[word[3]]["ports"].append(f"{word[1]}:{word[2]}")
     bridges = {word[1]: {} for word in words if word[0] == "addbridge"}
     tree = {"kind": "tree", "tree": 0, "root": "c1", "next": "c2", "bridge_count": len(bridges)}
-    return {"bridges": bridges, "lans": lans, "summary": [tree]}
+    return {"bridges": bridges, "lans": lans, "interfaces": {}, "summary": [tree]}
 
 
 def check_places(expect):
@@ -128,6 +147,7 @@ def check_large(browser, program, folder, expect):
     expect.equal("large: compared", browser.compared()[1], 0)
     laid = browser.run(LAID)
     expect.equal("large: boxes", (laid["boxes"] <= MOST_SEEN, laid["over"], laid["wide"], laid["letter"] > LEAST_LETTER), (True, 0, 0, True))
+    expect.equal("large: cables behind boxes", browser.run(HIDDEN), [])
     check_boxes(browser, path, expect)
     check_find(browser, expect)
     expect.equal("large: errors of the browser", browser.errors(), [])
@@ -154,6 +174,7 @@ def check_boxes(browser, path, expect):
     roles = sorted([port, told["role"]] for port, told in data["after"]["trees"]["0"]["ports"].items())
     expect.equal("boxes: all roles", sorted(browser.run(SIGNS)), roles)
     expect.equal("boxes: nothing lies on another", browser.run(LAID)["over"], 0)
+    expect.equal("boxes: cables behind boxes", browser.run(HIDDEN), [])
     browser.click("#boxes")
     expect.equal("boxes: closed again", browser.run(members), 0)
 
@@ -234,12 +255,80 @@ def check_words(browser, names, pair, expect):
     apart = 'return [...document.querySelectorAll("#network .node.apart")].map(it => it.dataset.bridge);'
     browser.open(pair, "fail=lan+dist1-acc2")
     expect.equal("a cut where a tree is shown", browser.run(apart), ["acc2"])
+    browser.open(pair, "vlan=30")
+    expect.equal("a VLAN that is all right", browser.run('return document.getElementById("banner").className;'), "well")
+    browser.open(pair, "fail=bridge+core2")
+    expect.equal("the overview after a failure", browser.run(HEADING), "Overview after switch core2 has failed")
+    expect.equal("a new root, and whose", "new root of MST 2 for all 3 switches: core1, before core2" in browser.run(BANNER), True)
     for vid, told in ((10, "VLAN 10 isn't cut"), (1, "VLAN 1 is cut")):
         browser.open(pair, f"vlan={vid}&fail=lan+dist1-acc2")
         expect.equal(f"banner of VLAN {vid}", told in browser.run(BANNER), True)
     browser.click("#tabs [data-sheet='promises']")
     said = browser.run('return [...document.querySelectorAll("#sheet .said")].map(it => it.textContent);')
     expect.equal("promises in sentences", (len(said) > 0, [it for it in said if not is_sentence(it)]), (True, []))
+
+
+def pair_script(count, number, with_names):
+    """Two switches with so many below them, of which each has a link to both: a1, a2 and so on. Ports have such numbers, and names or none."""
+    names = ["core1", "core2", *(f"a{place}" for place in range(1, count + 1))]
+    lines = [line for place, name in enumerate(names, 1) for line in (f"addbridge {name} 02:00:00:00:00:{place:02x}", f"setmstconfid {name} 1 net")]
+    lines += ["settreeprio core1 0 1", "settreeprio core2 0 2"]
+    used = collections.Counter()
+    for first, second in [("core1", "core2"), *((core, name) for name in names[2:] for core in names[:2])]:
+        lines.append(f"addlan {first}-{second}")
+        for name in (first, second):
+            used[name] += 1
+            port = number + used[name]
+            lines += [f"addport {name} {port}", f"plug {name} {port} {first}-{second}"]
+            lines += [f"# port {name} {port} is Te1/0/{port}" + (" of Po1" if second == "core2" else "")] * with_names
+    return lines
+
+
+def check_pairs(browser, program, folder, expect, made):
+    """Three access switches on one pair, and more: nothing is hidden or cut, whatever ports are called, and a2 stands before a10."""
+    for count, number, with_names in ((3, 0, False), (12, 1000, False), (3, 0, True), (20, 1000, True)):
+        name = f"pair-{count}-{number}-{with_names}"
+        browser.open(made(program, folder, name, expect, [written(folder, f"{name}.script", pair_script(count, number, with_names))]))
+        laid = browser.run(LAID)
+        expect.equal(f"{name}: hidden, and boxes over others", (browser.run(HIDDEN), laid["over"]), ([], 0))
+        spots = browser.run("return [...picture.spots].filter(([name]) => name[0] === 'a').sort(([, a], [, b]) => a.y - b.y || a.x - b.x).map(([name]) => name);")
+        expect.equal(f"{name}: order", spots, [f"a{place}" for place in range(1, count + 1)])
+        texts = browser.run('return [..."12"].map(it => document.querySelector(`#network [data-port="core1:${Number(it) + arguments[0]}"] text`).textContent);', number)
+        expect.equal(f"{name}: signs", texts, ["Po1", f"Te1/0/{number + 2}"] if with_names else [str(number + 1), str(number + 2)])
+        frame = browser.run("const { width, height } = picture.svg.getBoundingClientRect(); return [width / sight.whole.width, height / sight.whole.height];")
+        expect.equal(f"{name}: the picture fills the frame", max(frame) / min(frame) < 1.6, True)
+
+
+def check_path(browser, path, expect):
+    """A path that is typed is drawn, by its address as well, and after a failure the new one."""
+    browser.open(path)
+    for field, bridge in (("from", "acc1"), ("to", "core1")):
+        browser.run("const box = document.getElementById(arguments[0]); box.value = arguments[1]; box.dispatchEvent(new Event('input'));", field, bridge)
+    drawn = "return [...document.querySelectorAll('#network .cable.' + arguments[0])].map(it => it.dataset.lan).sort();"
+    expect.equal("path: without a VLAN that of the first", (browser.run(HEADING), browser.run(drawn, "path")), ("Path of VLAN 1", ["core1-dist1", "dist1-acc1"]))
+    browser.open(path, "vlan=30&from=acc1&to=core1")
+    expect.equal("path: by its address", browser.run(drawn, "path"), ["c1-c2.a", "core2-dist1", "dist1-acc1"])
+    browser.click("#panel .row[data-fail='lan core2-dist1']")
+    expect.equal("path: after a failure", [browser.run(drawn, kind) for kind in ("path", "was")], [["core1-dist1", "dist1-acc1"], ["c1-c2.a", "core2-dist1"]])
+    banner = browser.run(BANNER)
+    expect.equal("path: in the banner", ("acc1 → dist1 → core1" in banner, "before it: acc1 → dist1 → core2 → core1" in banner), (True, True))
+    browser.click("#banner [data-clear='path']")
+    expect.equal("path: none", (browser.run(drawn, "path"), "has failed" in browser.run(BANNER)), ([], True))
+
+
+def check_phone(browser, path, expect):
+    """On a phone the overview stands above the picture, and what is selected over the page, which is no broader than the screen."""
+    browser.driver.execute_cdp_cmd("Emulation.setDeviceMetricsOverride", {"width": 390, "height": 844, "deviceScaleFactor": 1, "mobile": True})
+    browser.open(path)
+    top = "return document.getElementById(arguments[0]).getBoundingClientRect().top;"
+    expect.equal("phone: overview first", browser.run(top, "panel") < browser.run(top, "network"), True)
+    browser.click("#network [data-bridge='dist1']")
+    detail = 'const it = document.getElementById("detail"); return [it.hidden, it.querySelector("h2")?.textContent ?? null];'
+    expect.equal("phone: a switch", (browser.run(detail), browser.run(HEADING)), ([False, "Switch dist1"], "Overview"))
+    browser.click("#detail [data-close]")
+    expect.equal("phone: closed", browser.run(detail), [True, None])
+    expect.equal("phone: as broad as the screen", browser.run("return document.documentElement.scrollWidth;"), 390)
+    browser.driver.execute_cdp_cmd("Emulation.clearDeviceMetricsOverride", {})
 
 
 def is_sentence(text):
@@ -255,6 +344,9 @@ def check_views(browser, program, folder, expect, made):
     campus_page = made(program, folder, "views", expect, [old])
     check_keyboard(browser, campus_page, expect)
     check_media(browser, campus_page, expect)
+    check_path(browser, campus_page, expect)
+    check_phone(browser, campus_page, expect)
+    check_pairs(browser, program, folder, expect, made)
     names = made(program, folder, "names", expect, [written(folder, "names.script", names_script())])
     check_words(browser, names, made(program, folder, "cut", expect, [new, "--old", old, "--policy", policy]), expect)
-    return 4
+    return 8

@@ -33,7 +33,7 @@ SAMPLES = os.path.join(TOP, "examples")
 SYSTEM_PYTHON = "/usr/bin/python3"
 # It takes three minutes.
 SECONDS, SECONDS_OF_A_STEP, SECONDS_TO_END = 420, 60, 20
-MOST_PORTS, MOST_FAILURES, MOST_VLANS = 16, 16, 6
+MOST_PORTS, MOST_FAILURES, MOST_VLANS, MOST_PATHS = 16, 16, 6, 24
 CAMPUS = ["4", "10"]
 # Of the drawn networks of sketch.py some, with shared LANs, links of a class, RSTP bridges and restricted roles.
 DRAWN = (0, 2, 9, 10)
@@ -123,6 +123,27 @@ ENTER = """
 const box = document.getElementById("vlan");
 box.value = arguments[0];
 box.dispatchEvent(new Event("input"));"""
+# The path between two switches in a VLAN, and after which failures it is another one.
+PATHS = """
+const [vid, from, to] = arguments, paths = new Paths(network), { count, others } = paths.always(vid, from, to);
+const path = paths.path(vid, from, to, null), by = path => (path ? ` hops ${path.length}${path.length ? ` by ${bridgesOf(from, path).join()}` : ""}` : " none");
+return [
+  `path ${vid} ${from} ${to}${path ? ` hops ${path.length}` : " none"}`,
+  ...(path ?? []).map(({ from, lan, to }, i) => `hop ${i + 1} ${from} ${lan} ${to}`),
+  ...others.map(({ failure, path }) => `${failure.key}${by(path)}`),
+  `path failures ${count} other ${others.filter(it => it.path).length} none ${others.filter(it => !it.path).length}`,
+];"""
+# What is told beside the picture of the network after the failure that is shown: roots, blocked ports, what LANs carry, and costs to the root.
+AFTER = """
+const { failure } = shown, trees = network.treeNumbers;
+return {
+  roots: trees.flatMap(tree => network.rootsIn(tree, failure).map(it => [tree, it.root, it.bridges.length, it.next])),
+  blocked: trees.flatMap(tree => network.blockedIn(tree, failure).map(port => `${tree} ${port}`)).sort(),
+  carried: Object.fromEntries([...network.lans.keys()].map(lan => [lan, network.carried(lan, failure).text])),
+  costs: trees.flatMap(tree => [...network.bridges.keys()].filter(it => network.root(tree, it, failure) !== null)
+    .map(it => [tree, it, network.cost(tree, it, failure).ext ?? null, network.cost(tree, it, failure).int])),
+  told: document.getElementById("panel").innerText,
+};"""
 ISLANDS = "return arguments[0].map(vid => network.islands(vid, shown.failure));"
 FRAME = "return document.getElementById('network').getAttribute('viewBox');"
 
@@ -143,6 +164,11 @@ def spread(items, most):
     """At most so many of a list, from all over it."""
     items = list(items)
     return items[:: -(-len(items) // most) or 1]
+
+
+def in_order(name):
+    """Names with numbers go by these."""
+    return [int(it) if it.isdecimal() else it for it in re.split(r"([0-9]+)", name)]
 
 
 # ---- the browser
@@ -303,7 +329,7 @@ class Page:
         wanted = {f"{words[0]} {words[1]}": words[-1] != "-" for words in swept}
         self.browser.click("#tabs [data-sheet='failures']")
         rows = [row["fail"] for row in self.browser.view()["rows"]]
-        self.equal("failures", rows, sorted(wanted, key=lambda key: not wanted[key]))
+        self.equal("failures", rows, sorted(wanted, key=lambda key: (not wanted[key], key.startswith("bridge "), in_order(key))))
         for place, key in enumerate(spread(wanted, MOST_FAILURES)):
             self.check_failure(key, wanted[key], list(self.text.trees)[place % len(self.text.trees)])
         self.equal("no failure left", self.browser.view()["crosses"], 0)
@@ -315,6 +341,7 @@ class Page:
         self.browser.click(f"#trees [data-tree='{tree}']")
         view = self.shows(f"after {key}", tree, after, self.text)
         self.equal(f"{key} cuts", (view["warned"], "are cut" in view["banner"]), (is_cut, is_cut))
+        self.check_after(key, after)
         if what == "bridge" or name in cables_of(self.text):
             self.equal(f"cross of {key}", view["crosses"], 2)
         # One VID of each kind that the islands make.
@@ -322,6 +349,29 @@ class Page:
         found = self.browser.run(ISLANDS, kinds)
         self.equal(f"islands after {key}", [sorted(it) for it in found], [sorted(map(list, after.islands[vid])) for vid in kinds])
         self.browser.click("#banner [data-clear]")
+
+    def check_after(self, key, after):
+        """What is told of the network after a failure is what the program says of one that has failed in its script."""
+        script = [*self.script, f"{key} {'down' if key.startswith('lan ') else 'off'}"]
+        summary = [line.split() for line in sketch.run(self.program, ["summary", "-"], script)[0].splitlines()]
+        found = self.browser.run(AFTER)
+        roots = [[int(it[1]), it[3], int(it[6]), None if it[8] == "-" else it[8]] for it in summary if it[0] == "tree"]
+        self.equal(f"after {key}, roots", found["roots"], sorted(roots, key=lambda it: (it[0], in_order(it[1]))))
+        blocked = [f"{it[1]} {port}" for it in summary if it[0] == "blocked" and it[2] != "-" for port in it[2].split(",")]
+        self.equal(f"after {key}, blocked ports", found["blocked"], sorted(blocked))
+        carried = {lan: sketch.list_of(vids) for lan in found["carried"] if (vids := sketch.carried(after, lan))}
+        self.equal(f"after {key}, VLANs carried", {lan: text for lan, text in found["carried"].items() if text}, carried)
+        costs = [[tree, bridge, *((int(entry[1][1]), int(entry[1][3])) if tree == 0 else (None, int(entry[1][1])))]
+                 for tree, told in after.trees.items() for bridge, entry in told.bridges.items() if entry]
+        self.equal(f"after {key}, costs", sorted(found["costs"]), sorted(costs))
+        self.equal(f"after {key}, panel", "after this failure" in found["told"], True)
+
+    def check_paths(self):
+        """The path between two switches, and what becomes of it after each single failure, is that of the program."""
+        bridges, vids = list(self.text.trees[0].bridges), sorted({str(active): vid for vid, active in self.text.active.items()}.values())
+        pairs = spread(itertools.product(spread(vids, MOST_VLANS), itertools.permutations(bridges, 2)), MOST_PATHS)
+        for vid, (first, last) in pairs:
+            self.equal(f"path {vid} {first} {last}", self.browser.run(PATHS, vid, first, last), self.answer(["path", "-", str(vid), first, last, "always"]))
 
     def check_vlans(self):
         cables = cables_of(self.text)
@@ -360,7 +410,9 @@ class Page:
         self.check_reasons()
         self.check_failures()
         self.check_vlans()
+        self.check_paths()
         self.check_sheets()
+        self.equal("cables behind boxes, signs that are cut", self.browser.run(page_views.HIDDEN), [])
         self.equal("errors of the browser", self.browser.errors(), [])
         return compared
 

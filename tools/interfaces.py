@@ -51,8 +51,8 @@ class Names:
         return {port: (interface.strip(), bundle.strip() or None) for port, (interface, _, bundle) in parts.items()}
 
     def by_port(self):
-        """The names by ports as texts have these, `core1:1`."""
-        return {f"{bridge}:{number}": name for (bridge, number), name in self.found.items()}
+        """The names by ports as texts have these, `core1:1`: of each its interface, and behind it the bundle that this is of where it is of one."""
+        return {f"{bridge}:{number}": [name for name in names if name] for (bridge, number), names in self.ends().items()}
 
     def port(self, bridge, number):
         """A port as a person reads of it: behind its number its name in brackets, if it has one."""

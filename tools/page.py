@@ -31,8 +31,8 @@ import broken  # noqa: E402
 from interfaces import Names  # noqa: E402
 
 SCRIPTS = (
-    "network.js", "words.js", "boxes.js", "cables.js", "picture.js", "paint.js", "sight.js", "overview.js", "telling.js", "sheets.js", "steps.js", "page.js",
-    "keys.js",
+    "network.js", "words.js", "boxes.js", "cables.js", "ways.js", "picture.js", "paint.js", "sight.js", "overview.js", "telling.js", "paths.js",
+    "sheets.js", "steps.js", "page.js", "keys.js",
 )
 STATUSES = """exit status: 0; 1 where a line of a script or of the change is refused (the page is made, and tells it); 2 where the words
 are wrong; 3 where a file can't be read or written, or PROGRAM doesn't answer"""

@@ -163,11 +163,12 @@ def changed_by(standing, failure):
 
 
 def changes_of(records, names):
-    """Ports that get another role by a failure, by tree and role, and roots with the bridges that have them, by the records of `changes`.
+    """Ports that get another role by a failure, by tree and role, and roots and costs to them with the bridges that have them, by the records
+    of `changes`.
 
     A bridge that the failure takes away has no root afterwards, and isn't among them. `names` are bridges by identifier.
     """
-    roles, roots = {}, {}
+    roles, roots, costs = {}, {}, {}
     for record in records:
         if record["kind"] == "port":
             roles.setdefault((record["tree"], record["new_role"]), []).append(port_of(record))
@@ -175,7 +176,16 @@ def changes_of(records, names):
             before, after = root_in(record["old_vector"]), root_in(record["new_vector"])
             if before != after:
                 roots.setdefault((record["tree"], names[before], names[after]), []).append(record["bridge"])
-    return {"roles": [[*told, ",".join(ports)] for told, ports in roles.items()], "roots": [[*pair, ",".join(bridges)] for pair, bridges in roots.items()]}
+            before, after = cost_in(record["old_vector"]), cost_in(record["new_vector"])
+            if before != after:
+                costs.setdefault((record["tree"], *after), []).append(record["bridge"])
+    changes = {"roles": roles, "roots": roots, "costs": costs}
+    return {what: [[*told, ",".join(names)] for told, names in found.items()] for what, found in changes.items()}
+
+
+def cost_in(vector):
+    """The external and the internal cost of a vector; one of an MSTI has no external cost."""
+    return vector.get("ext"), vector["int"]
 
 
 def root_in(vector):

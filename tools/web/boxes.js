@@ -74,8 +74,6 @@ class Layout {
     Object.assign(this, { boxes, stands, ends });
     this.spots = new Map();
     this.frames = new Map();
-    // Of what stands below the roots its row, and where lines that go past others come to it.
-    this.cells = new Map();
     if (boxes.rows) this.layRows();
     else this.take(boxes.places);
   }
@@ -99,18 +97,16 @@ class Layout {
     const head = this.sizeOfRows([tops], ""), room = columns.reduce((sum, it) => sum + it + beside, -beside);
     this.width = Math.max(head.width, room, 0);
     this.putRows([tops], "", 0, 0, this.width);
-    this.firstTop = head.height + BELOW_ROOTS;
-    let top = this.firstTop;
-    rows.filter(row => row.length).forEach((row, place) => {
+    let top = head.height + BELOW_ROOTS;
+    for (const row of rows.filter(it => it.length)) {
       let left = (this.width - room) / 2;
       row.forEach((name, i) => {
         const size = this.sizeOf(name);
         this.put(name, left + (columns[i] - size.width) / 2, top, size);
-        this.cells.set(name, { row: place, top, beside: left - beside / 2 });
         left += columns[i] + beside;
       });
       top += this.sizeOfRow(row, GAPS[""]).height + below;
-    });
+    }
     this.height = top - below;
   }
 
@@ -167,11 +163,5 @@ class Layout {
     }
     this.frames.set(name, spot);
     this.putRows(this.boxes.all.get(name).rows, name.split(" ")[0], left + INSIDE, top + INSIDE + TITLE_HEIGHT, width - 2 * INSIDE);
-  }
-
-  /** Where a line from a root goes down beside others, if it does: its cell. */
-  past(from, to) {
-    const cell = this.cells.get(this.boxes.outermost(to));
-    return cell && cell.row > 0 && this.boxes.rows[0].includes(from) ? cell : null;
   }
 }

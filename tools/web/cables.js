@@ -3,8 +3,9 @@
 
 const SVG = "http://www.w3.org/2000/svg";
 const LEVEL = 4;
-// How far a port's sign is from its switch.
-const SIGN_AT = 15;
+// Of a port's sign: how high it is, how wide one letter of a long text makes it and what is beside them, how far it is from its switch, and what
+// of the cable is straight behind it. Two letters are as in a disc.
+const SIGN_HEIGHT = 17, SIGN_LETTER = 6.2, BESIDE_LETTERS = 9, SIGN_GAP = 6, STRAIGHT = 4;
 const OUTWARD = { bottom: [0, 1], top: [0, -1], left: [-1, 0], right: [1, 0] };
 
 function element(name, attributes, parent, text) {
@@ -15,21 +16,31 @@ function element(name, attributes, parent, text) {
   return made;
 }
 
-const disc = attributes => sign => element("circle", { class: "shape", ...attributes }, sign);
-const square = (side, attributes) => sign => {
-  const sides = { x: -side / 2, y: -side / 2, width: side, height: side };
-  element("rect", { class: "shape", ...sides, stroke: "var(--box)", "stroke-width": 1.2, ...attributes }, sign);
+/** How wide the sign with a text is. */
+const signWidth = text => (text.length > 2 ? SIGN_LETTER * text.length + BESIDE_LETTERS : SIGN_HEIGHT);
+
+/** A sign of such a height, with round ends or corners; it is as much wider than high as a text makes it. */
+const plate = (height, rx, attributes) => (sign, wide = SIGN_HEIGHT) => {
+  const width = wide - SIGN_HEIGHT + height;
+  element("rect", { class: "shape", x: -width / 2, y: -height / 2, width, height, rx, ...attributes }, sign);
 };
-/** The sign of each role, and the colour of the port's number in it. */
+const pointed = attributes => (sign, wide = SIGN_HEIGHT) => {
+  const end = wide / 2 + 1.5, flat = Math.max(0, end - 10);
+  const points = [[-end, 0], [-flat, -10], [flat, -10], [end, 0], [flat, 10], [-flat, 10]];
+  element("polygon", { class: "shape", points: points.map(it => it.join()).join(" "), ...attributes }, sign);
+};
+const EDGE = { stroke: "var(--box)", "stroke-width": 1.2 };
+/** The sign of each role, and the colour of the text in it. */
 const SIGNS = {
-  Root: [disc({ r: 8.5, fill: "var(--root)", stroke: "var(--box)", "stroke-width": 1.2 }), "#fff"],
-  Designated: [disc({ r: 8, fill: "var(--box)", stroke: "var(--designated)", "stroke-width": 2 }), "var(--designated)"],
-  Alternate: [square(16, { rx: 2, fill: "var(--blocks)" }), "#fff"],
-  Backup: [square(16, { rx: 2, fill: "var(--blocks)" }), "#fff"],
-  Master: [square(14, { rx: 1, fill: "var(--master)", transform: "rotate(45)" }), "#fff"],
-  Disabled: [disc({ r: 7.5, fill: "var(--rule)", stroke: "var(--faint)", "stroke-dasharray": "2 2" }), "var(--soft)"],
-  none: [disc({ r: 7, fill: "var(--ground)", stroke: "var(--pale)" }), "var(--faint)"],
+  Root: [plate(17, 8.5, { fill: "var(--root)", ...EDGE }), "#fff"],
+  Designated: [plate(16, 8, { fill: "var(--box)", stroke: "var(--designated)", "stroke-width": 2 }), "var(--designated)"],
+  Alternate: [plate(16, 2, { fill: "var(--blocks)", ...EDGE }), "#fff"],
+  Backup: [plate(16, 2, { fill: "var(--blocks)", ...EDGE }), "#fff"],
+  Master: [pointed({ fill: "var(--master)", ...EDGE }), "#fff"],
+  Disabled: [plate(15, 7.5, { fill: "var(--rule)", stroke: "var(--faint)", "stroke-dasharray": "2 2" }), "var(--soft)"],
+  none: [plate(14, 7, { fill: "var(--ground)", stroke: "var(--pale)" }), "var(--faint)"],
 };
+const drawRing = plate(25, 12.5, { class: "ring" });
 
 function drawCross(parent, half, [x, y] = [0, 0]) {
   for (const slope of [1, -1]) {
@@ -41,17 +52,6 @@ function drawCross(parent, half, [x, y] = [0, 0]) {
 function pointOf(curve, time) {
   const rest = 1 - time, weights = [rest ** 3, 3 * rest ** 2 * time, 3 * rest * time ** 2, time ** 3];
   return [0, 1].map(axis => weights.reduce((sum, weight, i) => sum + weight * curve[i][axis], 0));
-}
-
-/** The point of a curve that is so far from its first end, and its middle where it is shorter. */
-function pointAlong(curve, distance) {
-  let last = pointOf(curve, 0), sum = 0;
-  for (let time = 0.01; time <= 0.5 && sum < distance; time += 0.01) {
-    const next = pointOf(curve, time);
-    sum += Math.hypot(next[0] - last[0], next[1] - last[1]);
-    last = next;
-  }
-  return last;
 }
 
 /** Where names may stand: places that are taken, and none that lies on another. */
@@ -86,13 +86,14 @@ class Cable {
     this.ends = ends.sort((a, b) => a.spot.y - b.spot.y || a.spot.x - b.spot.x);
     const [from, to] = this.ends;
     this.isLevel = Math.abs(from.spot.y - to.spot.y) < LEVEL;
-    // A cable to a switch of the same rank goes above those that stand between.
+    // A cable to a switch of the same rank goes above what stands between.
     this.isArch = this.isLevel && [...spots.values()].some(({ x, y }) =>
       Math.abs(y - from.spot.y) < LEVEL && (x - from.spot.x) * (x - to.spot.x) < 0);
     const sides = this.isArch ? ["top", "top"] : this.isLevel ? ["right", "left"] : ["bottom", "top"];
     this.ends.forEach((end, i) => {
       end.side = sides[i];
       end.toward = this.ends[1 - i].spot;
+      end.text = end.ports.length > 1 || isBundle ? "" : end.ports.map(signText).join("");
     });
   }
 
@@ -100,40 +101,57 @@ class Cable {
   get key() { return this.isBundle ? `links ${this.ends.map(end => end.node).sort().join("|")}` : `lan ${this.lan}`; }
   get ports() { return this.ends.flatMap(end => end.ports); }
 
-  curve() {
-    const [from, to] = this.ends.map(end => end.at), length = Math.hypot(from[0] - to[0], from[1] - to[1]);
-    let reach = length * 0.42;
-    if (this.isArch) reach = Math.min(length * 0.28, 90);
-    else if (!this.isLevel) reach = Math.min(reach, Math.abs(from[1] - to[1]) * 0.62 + 6);
-    const [first, second] = this.ends.map(({ at, side }) => OUTWARD[side].map((step, axis) => at[axis] + step * reach));
-    return [from, first, second, to];
+  /** Its points from one end to the other, of which those of a curve are marked: [x, y, "C"] are the curve's middles and its end. `way` has
+   *  where it goes down between others, as [x, top, bottom] each, and of an arch how high it is. */
+  points() {
+    const [from, to] = this.ends.map(({ at, side, straight }) => [at, OUTWARD[side].map((step, axis) => at[axis] + step * straight)]);
+    if (this.isArch) return this.arch(from, to);
+    if (this.isLevel) return [from[0], from[1], ...this.curve(from[1], to[1], 0), to[0]];
+    const points = [from[0], from[1]];
+    let last = from[1];
+    for (const [x, top, bottom] of this.way ?? []) {
+      points.push(...this.curve(last, [x, top], 1), [x, bottom]);
+      last = [x, bottom];
+    }
+    return [...points, ...this.curve(last, to[1], 1), to[0]];
   }
 
-  /** How it is drawn, and the curve from each of its ends on; its middle is found by the way. */
-  drawing() {
-    const text = points => points.map(point => point.map(it => it.toFixed(1)).join(" ")).join(" ");
-    if (!this.past) {
-      this.curved = this.curve();
-      this.middle = pointOf(this.curved, 0.5);
-      return { path: `M${text(this.curved.slice(0, 1))} C${text(this.curved.slice(1))}`, curves: [this.curved, [...this.curved].reverse()] };
+  /** A curve that begins and ends along an axis, and is nowhere beyond its ends there. */
+  curve(from, to, axis) {
+    const half = (to[axis] - from[axis]) / 2, middles = [from, to].map((point, i) => point.map((it, at) => (at === axis ? it + half * (i ? -1 : 1) : it)));
+    return [...middles, to].map(([x, y]) => [x, y, "C"]);
+  }
+
+  arch([from], [to]) {
+    const high = this.high, round = Math.min(22, Math.abs(to[0] - from[0]) / 2, from[1] - high), turn = to[0] > from[0] ? round : -round;
+    const corner = (x, y, other) => [[x, y, "C"], [x, y, "C"], [...other, "C"]];
+    return [from, [from[0], high + round], ...corner(from[0], high, [from[0] + turn, high]), [to[0] - turn, high], ...corner(to[0], high, [to[0], high + round]), to];
+  }
+
+  /** How it is drawn, as a path. Its longest piece and the middle of that are found by the way. */
+  path() {
+    const points = this.points(), told = [`M${textOfPoint(points[0])}`];
+    let longest = -1;
+    for (let i = 1; i < points.length; i += points[i][2] ? 3 : 1) {
+      const isCurve = Boolean(points[i][2]), piece = isCurve ? points.slice(i - 1, i + 3) : [points[i - 1], points[i - 1], points[i], points[i]];
+      const length = Math.hypot(piece[0][0] - piece[3][0], piece[0][1] - piece[3][1]);
+      told.push(`${isCurve ? "C" : "L"}${(isCurve ? piece.slice(1) : [points[i]]).map(textOfPoint).join(" ")}`);
+      if (length > longest) [longest, this.curved] = [length, piece];
     }
-    const { x, from, to } = this.past, [above, below] = this.ends.map(end => end.at);
-    const upper = [above, [above[0], above[1] + 52], [x, from - 52], [x, from]], half = (below[1] - to) / 2;
-    const lower = [[x, to], [x, to + half], [below[0], below[1] - half - 16], below];
-    this.middle = [x, (from + to) / 2];
-    this.curved = upper;
-    return { path: `M${text([above])} C${text(upper.slice(1))} L${text([[x, to]])} C${text(lower.slice(1))}`, curves: [upper, [...lower].reverse()] };
+    this.middle = pointOf(this.curved, 0.5);
+    return told.join(" ");
   }
 
   /** Where the LAN's name may stand, best first: off the crossings in the middle, and beside a level cable. */
   labelSpots() {
-    const curve = this.curved;
-    const isSteep = !this.isLevel && Math.abs(curve[0][0] - curve[3][0]) <= 40;
-    const times = isSteep || this.isLevel ? [0.5, 0.4, 0.6, 0.32, 0.68, 0.25, 0.75] : [0.33, 0.4, 0.27, 0.6, 0.67, 0.5, 0.22, 0.74];
+    const curve = this.curved, isFlat = Math.abs(curve[0][1] - curve[3][1]) < LEVEL;
+    const isSteep = !isFlat && Math.abs(curve[0][0] - curve[3][0]) <= 40;
+    const times = isSteep || isFlat ? [0.5, 0.4, 0.6, 0.32, 0.68, 0.25, 0.75] : [0.33, 0.4, 0.27, 0.6, 0.67, 0.5, 0.22, 0.74];
     const beside = this.ends[0].at[1] <= this.ends[0].spot.y ? [-13, -24] : [14, 25];
     return times.flatMap(time => {
       const [x, y] = pointOf(curve, time);
-      return this.isLevel ? beside.map(step => [x, y + step]) : [[x, y]];
+      return isFlat ? beside.map(step => [x, y + step]) : [[x, y]];
     });
   }
 }
+const textOfPoint = ([x, y]) => `${x.toFixed(1)} ${y.toFixed(1)}`;

@@ -13,8 +13,10 @@ FROM, LEAST, BESIDE = 60, 4, 6
 MOST_OPEN, MOST_SEEN = 60, 24
 # A part of the network has no more than this, nor than twice the root of how many there are.
 SMALL_PART = 24
-FORM = 2.3
-SIZE_CLOSED, SIZE_OPEN = (210, 116), (340, 280)
+# The frame's form, width by height; how much room a part takes, closed and open; and what stands above all of them.
+FORM = 1.35
+SIZE_CLOSED, SIZE_OPEN, HEAD = (210, 116), (340, 280), 170
+EMPTY = 0.15
 
 
 def in_order(name):
@@ -106,8 +108,15 @@ class Folds:
             return self.ranked(names)
         is_open = any(self.boxes.get(name, {}).get("open") for name in names)
         width, height = SIZE_OPEN if is_open else SIZE_CLOSED
-        columns = max(1, round(math.sqrt(FORM * len(names) * height / width)))
+        count = len(names)
+        columns = min(range(1, count + 1), key=lambda it: size_of(count, it, width, height))
         return rows_of(names, columns)
+
+
+def size_of(count, columns, width, height):
+    """How large a picture of so many parts in so many columns is, in the frame's form; what is empty in its last row makes it larger."""
+    rows = math.ceil(count / columns)
+    return max(columns * width / FORM, rows * height + HEAD) * (1 + EMPTY * (rows * columns - count) / columns)
 
 
 def folded(near, rank):

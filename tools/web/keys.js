@@ -10,6 +10,7 @@ function addressOf() {
   if (shown.vid !== null) told.set("vlan", shown.vid);
   else if (shown.tree !== CIST) told.set("tree", shown.tree);
   if (shown.failure) told.set("fail", shown.failure.key);
+  for (const end of ["from", "to"]) if (shown[end] !== null) told.set(end, shown[end]);
   if (shown.selected) told.set("at", shown.selected);
   if (shown.sheet !== SHEETS[0][0]) told.set("sheet", shown.sheet);
   if (boxes.changed.size) told.set("open", boxes.isAnyClosed ? [...boxes.changed].join(",") : "all");
@@ -17,7 +18,7 @@ function addressOf() {
 }
 
 // What the browser's Back leaves again, and stays on the page.
-const OPENED = ["net", "fail", "at", "sheet"];
+const OPENED = ["net", "fail", "at", "sheet", "from", "to"];
 
 function showAddress() {
   const told = addressOf(), last = new URLSearchParams(location.hash.slice(1));
@@ -48,6 +49,8 @@ function readAddress() {
   shown.tree = network.trees.has(tree) ? tree : CIST;
   shown.vid = Number.isInteger(vid) && vid >= 1 && vid <= LAST_VID ? vid : null;
   shown.failure = network.failures.get(told.get("fail")) ?? null;
+  for (const end of ["from", "to"]) shown[end] = networks.some(it => it.bridges.has(told.get(end))) ? told.get(end) : null;
+  openPath();
   shown.selected = told.get("at");
   shown.sheet = SHEETS.some(([name]) => name === told.get("sheet")) ? told.get("sheet") : SHEETS[0][0];
 }
@@ -67,6 +70,22 @@ function reveal(selected) {
   if (spot && boxes.rows) sight.goTo(spot);
 }
 
+/** One end of a path is chosen, or none. Without a VLAN it is the first one that joins both ends. */
+function choose(end, bridge) {
+  shown[end] = bridge;
+  openPath();
+}
+
+/** Shows a VLAN for a path, and opens the boxes that it goes through. */
+function openPath() {
+  const { from, to } = shown;
+  if (from === null || to === null) return;
+  const joining = network.groups.find(({ islands }) => islands.some(it => it.includes(from) && it.includes(to)));
+  shown.vid ??= joining ? vids(joining.vids).first : 1;
+  const path = route.paths.path(shown.vid, from, to, shown.failure);
+  if ((path ? bridgesOf(from, path) : [from, to]).map(bridge => boxes.reveal(bridge)).some(Boolean)) redraw();
+}
+
 /** Selects something. From elsewhere than in the picture the picture goes there. */
 function select(selected, at) {
   shown.selected = selected;
@@ -74,6 +93,12 @@ function select(selected, at) {
   byId("find").value = "";
   if (!at.closest("#network")) reveal(selected);
   if (isInSheet(at)) toTop();
+}
+
+/** A switch's own button chooses it: its other end isn't told any more, but the path. */
+function choosing(end, bridge) {
+  if (shown[end === "from" ? "to" : "from"] !== null) shown.selected = null;
+  choose(end, bridge);
 }
 
 /** What a click does, by the first of these names that the element has as data-NAME. */
@@ -96,7 +121,17 @@ const CLICKS = {
     const lan = [...network.lans].find(([, { members }]) => failure.what === "lan" && members.includes(failure.name));
     select(lan ? `lan ${lan[0]}` : key, at);
   },
-  clear: what => { shown[what === "vlan" ? "vid" : "failure"] = null; },
+  close: () => {
+    if (!shown.find && telling.selected(shown) === null) CLICKS.clear("path");
+    shown.selected = null;
+    shown.find = byId("find").value = "";
+  },
+  clear: what => {
+    const cleared = { vlan: ["vid"], failure: ["failure"], path: ["from", "to"] };
+    for (const it of cleared[what]) shown[it] = null;
+  },
+  from: bridge => choosing("from", bridge),
+  to: bridge => choosing("to", bridge),
   rows: () => { shown.isWhole = true; },
   boxes: () => {
     boxes.makeAll(boxes.isAnyClosed);
@@ -166,6 +201,15 @@ byId("vlan").addEventListener("input", ({ target }) => {
   shown.vid = isFine && target.value !== "" ? vid : null;
   changed();
 });
+for (const end of ["from", "to"]) {
+  byId(end).addEventListener("input", ({ target }) => {
+    const name = target.value.trim(), isThere = networks.some(it => it.bridges.has(name));
+    target.classList.toggle("warned", name !== "" && !isThere);
+    if (isThere) shown.selected = null;
+    choose(end, isThere ? name : null);
+    changed();
+  });
+}
 byId("find").addEventListener("input", ({ target }) => {
   shown.find = target.value.trim();
   showPanel();

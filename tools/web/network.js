@@ -43,7 +43,7 @@ class Vids {
 const vidsRead = new Map();
 const vids = text => kept(vidsRead, text ?? "", () => new Vids(text));
 
-/** A single failure: what it cuts, the roles that it changes, and the roots. */
+/** A single failure: what it cuts, the roles that it changes, the roots, and the costs to them. */
 class Failure {
   constructor(told) {
     Object.assign(this, told);
@@ -52,6 +52,7 @@ class Failure {
   /** The role of each port that gets another one, and the root of each bridge that does, by tree; made when it is asked for. */
   get roleAfter() { return this.rolesMade ??= this.byTree(this.roles); }
   get rootAfter() { return this.rootsMade ??= this.byTree(this.roots.map(([tree, , root, bridges]) => [tree, root, bridges])); }
+  get costAfter() { return this.costsMade ??= this.byTree(this.costs.map(([tree, ext, int, bridges]) => [tree, { ext, int }, bridges])); }
   byTree(lists) {
     const made = new Map();
     for (const [tree, value, names] of lists) for (const name of names.split(",")) kept(made, tree, () => new Map()).set(name, value);
@@ -95,8 +96,6 @@ class Network {
   isOn(bridge, failure) { return this.bridges.get(bridge).on && !failure?.takesAway("bridge", bridge); }
   bridgeIn(tree, bridge) { return this.trees.get(tree)?.bridges.get(bridge); }
   portsOf(bridge) { return this.portsAt.get(bridge) ?? []; }
-  /** What a port is called by the script, its interface and perhaps ` of ` and a bundle; null where nothing says it. */
-  interfaceOf(port) { return this.interfaces.get(port) ?? null; }
   lanOf(port) { return this.trees.get(CIST).ports.get(port).lan; }
 
   /** A logical LAN is down where no member of it is up, or the one that is left fails. */
@@ -116,6 +115,28 @@ class Network {
     if (!told || told.power === "off" || !this.isOn(bridge, failure)) return null;
     const root = tree === CIST ? told.root ?? told.root_id : told.regional ?? told.regional_id;
     return failure?.rootAfter.get(tree)?.get(bridge) ?? root;
+  }
+
+  /** The cost of a bridge to its root: an external and an internal one in the CIST, else the latter alone. */
+  cost(tree, bridge, failure) { return failure?.costAfter.get(tree)?.get(bridge) ?? this.bridgeIn(tree, bridge); }
+
+  /** The roots in a tree by name, each with the bridges that have it, and which of the others comes next. */
+  rootsIn(tree, failure) {
+    const having = new Map();
+    for (const bridge of this.trees.get(tree).bridges.keys()) {
+      const root = this.root(tree, bridge, failure);
+      if (root !== null) kept(having, root, () => []).push(bridge);
+    }
+    const identifier = bridge => this.bridgeIn(tree, bridge).bridge_id;
+    return [...having].sort(([one], [other]) => byNumbers(one, other)).map(([root, bridges]) => {
+      const others = bridges.filter(it => it !== root).sort((a, b) => byOrder(identifier(a), identifier(b)));
+      return { root, bridges, next: others[0] ?? null };
+    });
+  }
+
+  /** The ports that block in a tree. */
+  blockedIn(tree, failure) {
+    return [...this.trees.get(tree).ports.keys()].filter(port => BLOCKING.has(this.role(tree, port, failure))).sort(byNumbers);
   }
 
   /** The priority of a bridge in a tree, from 0 to 61440, which its identifier begins with. */
@@ -195,8 +216,30 @@ class Network {
   /** Whether a LAN has ports of two bridges. */
   isBetween(lan) { return new Set(this.lans.get(lan).ports.map(bridgeOf)).size > 1; }
 
-  /** The VIDs that go over a LAN from bridge to bridge: a LAN that the program doesn't tell of has none. */
-  carried(lan) { return vids(this.carriedBy.get(lan) ?? ""); }
+  /** Classes of VIDs that go the same ways in any case. */
+  get classes() { return this.classesMade ??= classesOf([this]); }
+
+  /** The VIDs that go over a LAN from bridge to bridge: while all is well as the program tells it, of a LAN that it doesn't tell of none. */
+  carried(lan, failure) { return failure ? this.carriedAfter(lan, failure) : vids(this.carriedBy.get(lan) ?? ""); }
+
+  carriedAfter(lan, failure) {
+    const going = this.isDown(lan, failure) ? [] : this.classes.filter(({ first }) => this.isGoing(lan, first, failure));
+    return vids(listOf(togetherOf(going)));
+  }
+
+  /** Whether a VLAN goes over a LAN from bridge to bridge. */
+  isGoing(lan, vid, failure) {
+    const passing = this.lans.get(lan).ports.filter(port => this.isMember(port, vid) && this.isActive(port, vid, failure));
+    return new Set(passing.map(bridgeOf)).size > 1;
+  }
+
+  /** VLANs with equal islands, as lists: the program's, or those after a failure. */
+  groupsAfter(failure) {
+    if (!failure) return this.groups.map(it => it.vids);
+    const found = new Map();
+    for (const it of this.classes) kept(found, this.islands(it.first, failure).map(island => island.join()).join("|"), () => []).push(it);
+    return [...found.values()].map(classes => listOf(togetherOf(classes))).sort((a, b) => vids(a).first - vids(b).first);
+  }
 
   /** The identifier of a bridge's root in the CIST, of its regional root in an MSTI; null where it is off or hasn't the tree. */
   rootId(tree, bridge) {
@@ -205,7 +248,17 @@ class Network {
   }
 }
 
-/** Classes of VIDs that every bridge of these networks has in one tree, and every port is a member of alike: the least VID, and how many. */
+/** The runs of VIDs of some classes, those that meet as one. */
+function togetherOf(classes) {
+  const runs = [];
+  for (const [first, last] of classes.flatMap(it => it.runs).sort((a, b) => a[0] - b[0])) {
+    if (runs.length && runs.at(-1)[1] === first - 1) runs.at(-1)[1] = last;
+    else runs.push([first, last]);
+  }
+  return runs;
+}
+
+/** Classes of VIDs that every bridge of these networks has in one tree, and every port is a member of alike: the least VID, how many, and which. */
 function classesOf(networks) {
   const ports = networks.flatMap(network => [...network.ports.values()]), bridges = networks.flatMap(network => [...network.bridges.values()]);
   const lists = new Set([...ports.map(port => port.vlans), ...bridges.flatMap(bridge => Object.values(bridge.vids))]);
@@ -214,8 +267,9 @@ function classesOf(networks) {
   const sorted = [...begins].filter(vid => vid <= LAST_VID).sort((a, b) => a - b);
   const classes = new Map();
   sorted.forEach((first, i) => {
-    const same = kept(classes, sets.map(set => Number(set.has(first))).join(""), () => ({ first, count: 0 }));
-    same.count += (sorted[i + 1] ?? LAST_VID + 1) - first;
+    const same = kept(classes, sets.map(set => Number(set.has(first))).join(""), () => ({ first, count: 0, runs: [] })), end = sorted[i + 1] ?? LAST_VID + 1;
+    same.count += end - first;
+    same.runs.push([first, end - 1]);
   });
   return [...classes.values()];
 }
@@ -252,7 +306,7 @@ const MOST_WORK = 1e8;
 class Comparison {
   constructor(network, tally) {
     Object.assign(this, { network, tally });
-    this.classes = classesOf([network]);
+    this.classes = network.classes;
     this.made = new Map();
   }
 
@@ -277,16 +331,13 @@ class Comparison {
       yield;
     }
     for (const { tree, ports: blocked } of network.summary.filter(it => it.kind === "blocked")) {
-      const ports = [...network.trees.get(tree).ports.keys()].filter(port => BLOCKING.has(network.role(tree, port, null)));
-      tally.expect(`blocked ports of tree ${tree}`, ports, blocked.map(portText));
+      tally.expect(`blocked ports of tree ${tree}`, network.blockedIn(tree, null), blocked.map(portText));
+      const told = network.summary.filter(it => it.kind === "tree" && it.tree === tree).map(it => [it.root, it.bridge_count, it.next]);
+      tally.expect(`roots of tree ${tree}`, network.rootsIn(tree, null).map(it => [it.root, it.bridges.length, it.next]), told);
     }
-    for (const [lan, { ports }] of network.lans) {
+    for (const lan of network.lans.keys()) {
       if (network.isDown(lan, null)) continue;
-      const passing = vid => ports.filter(port => network.isMember(port, vid) && network.isActive(port, vid, null));
-      const own = this.classes.filter(({ first }) => new Set(passing(first).map(bridgeOf)).size > 1);
-      const told = network.carried(lan);
-      const fits = own.every(({ first }) => told.has(first)) && own.reduce((sum, { count }) => sum + count, 0) === told.count;
-      tally.expect(`VLANs that LAN ${lan} carries`, [fits], [true]);
+      tally.expect(`VLANs that LAN ${lan} carries`, [network.carriedAfter(lan, null).text], [network.carried(lan, null).text]);
       yield;
     }
   }

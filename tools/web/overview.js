@@ -7,10 +7,22 @@ class Overview {
     Object.assign(this, { network, all, telling });
   }
 
-  told() {
+  /** Of the network while all is well, or after the failure that is shown. */
+  told({ failure }) {
+    const trees = this.network.treeNumbers.map(tree => this.roots(tree, failure));
+    if (failure) {
+      return markup`<h2>Overview after ${entityName(failure)} has failed</h2>${this.cuts(failure)}${trees}
+        ${this.regions(failure)}${this.spares(failure)}`;
+    }
     return markup`<h2>Overview</h2><div class="minor">Click a switch, a cable or a port's number; by keyboard Tab and Enter.</div>
-      ${this.all.before ? this.change() : ""}${this.refusals()}${this.network.treeNumbers.map(tree => this.roots(tree))}
-      ${this.regions()}${this.ties()}${this.spares()}${this.looks()}${this.notes()}`;
+      ${this.all.before ? this.change() : ""}${this.refusals()}${trees}
+      ${this.regions(null)}${this.ties()}${this.spares(null)}${this.looks()}${this.notes()}`;
+  }
+
+  /** What a failure cuts, and the roots that it makes. */
+  cuts(failure) {
+    const cuts = failure.parts.map(([cut, parts]) => markup`<div class="warning">VLANs ${listed(cut)} come apart:</div><div>${partsTold(parts)}</div>`);
+    return cuts.length ? cuts : markup`<div class="fine">No VLAN is cut between the switches that stay.</div>`;
   }
 
   change() {
@@ -52,19 +64,22 @@ class Overview {
     return rows.length ? markup`<h3>Refused lines</h3>${table(["", ""], rows)}` : "";
   }
 
-  roots(tree) {
-    const told = this.network.summary.filter(it => it.tree === tree), { ports: blocked } = told.find(it => it.kind === "blocked");
-    const rows = told.filter(it => it.kind === "tree").map(it =>
-      [this.telling.bridgeJump(it.root), it.priority, it.next ? [this.telling.bridgeJump(it.next), ` ${it.next_priority}`] : DASH, it.bridge_count]);
-    const ports = blocked.length > MOST_NAMES ? `${blocked.length} ports` : joined(blocked.map(portText).map(portJump), ", ");
+  roots(tree, failure) {
+    const { network, telling } = this, blocked = network.blockedIn(tree, failure);
+    const nextOf = next => (next ? [telling.bridgeJump(next), ` ${network.priority(tree, next)}`] : DASH);
+    const rows = network.rootsIn(tree, failure).map(({ root, next, bridges }) =>
+      [telling.bridgeJump(root), network.priority(tree, root), nextOf(next), bridges.length]);
+    const ports = blocked.length > MOST_NAMES ? `${blocked.length} ports` : joined(blocked.map(portJump), ", ");
     return markup`<h3>${treeName(tree)}</h3>${table(["Root", "Priority", "Next", "#Switches"], rows)}
       ${minor(["Blocked: ", blocked.length ? ports : "no port"])}`;
   }
 
   /** Regions by name. An RSTP bridge is a region of its own, which isn't told of each. */
-  regions() {
-    const { network, telling } = this, all = network.regions.filter(it => it.region_kind === "mstp");
-    const alone = network.regions.filter(it => it.region_kind === "rstp").flatMap(it => it.bridges);
+  regions(failure) {
+    const { network, telling } = this, isOn = bridge => !failure?.takesAway("bridge", bridge);
+    const standing = network.regions.map(it => ({ ...it, bridges: it.bridges.filter(isOn).sort(byNumbers) })).filter(it => it.bridges.length);
+    const all = standing.filter(it => it.region_kind === "mstp");
+    const alone = standing.filter(it => it.region_kind === "rstp").flatMap(it => it.bridges).sort(byNumbers);
     const names = bridges => some(bridges.map(bridge => telling.bridgeJump(bridge)), MOST_NAMES);
     const rows = all.slice(0, MOST_NAMES).map(({ name, revision, bridges }) => {
       const sign = markup`<span class="hue" style="background:${telling.hue(bridges[0])}"></span>`;
@@ -89,8 +104,8 @@ class Overview {
       }
     }
     if (!ties.size) return "";
-    const rows = [...ties].slice(0, MOST_PORTS).map(([pair, ports]) => {
-      const blocked = ports.size > 4 ? `${ports.size} ports` : joined([...ports].map(portJump), ", ");
+    const rows = [...ties].sort(([one], [other]) => byNumbers(one, other)).slice(0, MOST_PORTS).map(([pair, ports]) => {
+      const blocked = ports.size > 4 ? `${ports.size} ports` : joined([...ports].sort(byNumbers).map(portJump), ", ");
       const bridges = joined(pair.split(" ").map(bridge => this.telling.bridgeJump(bridge)), " before ");
       return markup`<div>${bridges} ${minor(["blocks ", blocked])}</div>`;
     });
@@ -99,13 +114,13 @@ class Overview {
       ${minor("Costs and priorities are equal there.")}`;
   }
 
-  spares() {
-    const { network } = this, isUsed = port => network.role(CIST, port, null) !== "Disabled";
-    const isSpare = ([lan, { ports }]) => network.isBetween(lan) && ports.every(isUsed) && !network.carried(lan).count;
-    const spare = [...network.lans].filter(isSpare);
+  spares(failure) {
+    const { network } = this, isUsed = port => network.role(CIST, port, failure) !== "Disabled";
+    const isSpare = ([lan, { ports }]) => network.isBetween(lan) && ports.every(isUsed) && !network.carried(lan, failure).count;
+    const spare = [...network.lans].filter(isSpare).sort(([one], [other]) => byNumbers(one, other));
     if (!spare.length) return "";
     const told = spare.length > MOST_NAMES ? `${spare.length} links` : joined(spare.map(([lan]) => lanJump(lan)), ", ");
-    return markup`<h3>Spare links</h3><div>${told} ${minor(`${spare.length === 1 ? "carries" : "carry"} no VLAN while all is well`)}</div>`;
+    return markup`<h3>Spare links</h3><div>${told} ${minor(`${spare.length === 1 ? "carries" : "carry"} no VLAN ${failure ? "now" : "while all is well"}`)}</div>`;
   }
 
   /** What is most often a slip. */

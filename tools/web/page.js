@@ -17,20 +17,22 @@ const SHEETS = [
   ["blocked", "Blocked ports"],
 ].filter(([name]) => !LACKS[name]);
 const MOST_BUTTONS = 12, MOST_GROUPS = 8;
-const shown = { tree: CIST, vid: null, failure: null, selected: null, sheet: SHEETS[0][0], otherTime: "", find: "", isWhole: false };
+const shown = { tree: CIST, vid: null, failure: null, selected: null, from: null, to: null, sheet: SHEETS[0][0], otherTime: "", find: "", isWhole: false };
 // What is shown of the network at a place. Rings are roles that the other one, where there is one, has otherwise.
-let place, network, other, picture, telling, sheets;
+let place, network, other, picture, telling, sheets, route;
 
 /** Goes to a network of the page, with what is selected as far as it is there. */
 function goTo(at) {
   if (at === place) return;
   place = at;
   network = networks[place];
+  interfaces = network.interfaces;
   other = (ALL.before ? networks[1 - place] : networks[place - 1]) ?? null;
   picture = new Picture(network, boxes);
   sight.resize(picture.layout);
   telling = new Telling(network, ALL, picture);
   sheets = new Sheets(network, telling);
+  route = new PathTelling(network, telling);
   if (!network.trees.has(shown.tree)) shown.tree = CIST;
   shown.failure = network.failures.get(shown.failure?.key) ?? null;
 }
@@ -43,6 +45,14 @@ function redraw() {
 
 function roleBefore(tree, port) {
   return other && !shown.failure ? other.role(tree, port, null) : network.role(tree, port, null);
+}
+
+/** The path that is chosen: the one that is shown, and the one that it is compared with, where there is such a network. */
+function pathsShown() {
+  const { vid, from, to, failure } = shown;
+  if (from === null || to === null || vid === null) return null;
+  const before = failure ? route.paths.path(vid, from, to, null) : other ? new Paths(other).path(vid, from, to, null) : undefined;
+  return { path: route.paths.path(vid, from, to, failure), before };
 }
 
 function put(id, content) {
@@ -62,16 +72,18 @@ function showControls() {
   ]);
   put("groups", groups.length > MOST_GROUPS ? "" : groups.map(group =>
     button("vlan", vids(group.vids).first, shortened(group.vids, 14), shown.vid !== null && vids(group.vids).has(shown.vid), group.vids)));
-  if (document.activeElement !== byId("vlan")) byId("vlan").value = shown.vid ?? "";
+  for (const [id, value] of [["vlan", shown.vid], ["from", shown.from], ["to", shown.to]]) {
+    if (document.activeElement !== byId(id)) byId(id).value = value ?? "";
+  }
   byId("boxes").hidden = !boxes.rows;
   byId("boxes").textContent = boxes.isAnyClosed ? "open all" : "close all";
 }
 
-function showBanner() {
-  const told = sheets.banner(shown), banner = byId("banner");
+function showBanner(paths) {
+  const told = paths ? route.banner(shown, paths.path, paths.before) : sheets.banner(shown), banner = byId("banner");
   banner.hidden = !told;
   if (!told) return;
-  banner.className = told[0] ? "warned" : "";
+  banner.className = told[0];
   put("banner", told[1]);
 }
 
@@ -97,13 +109,21 @@ function showSheet() {
   put("sheet", sheetTold(shown.sheet, shown.isWhole));
 }
 
+const narrow = matchMedia("(max-width: 700px)");
+
+/** On a phone the overview stands first, and what is selected lies over the lower part of the page. */
 function showPanel() {
-  put("panel", shown.find ? telling.found(shown) : telling.panel(shown));
+  const paths = pathsShown(), ofPath = () => (paths ? route.panel(shown, paths.path, paths.before) : null);
+  const told = shown.find ? telling.found(shown) : telling.selected(shown) ?? ofPath(), isOver = Boolean(narrow.matches && told);
+  put("panel", told && !isOver ? told : telling.overview.told(shown));
+  byId("detail").hidden = !isOver;
+  put("detail", isOver ? [markup`<button data-close="" aria-label="close">×</button>`, told] : "");
 }
+narrow.addEventListener("change", showPanel);
 
 /** Shows something, and leaves the focus where it is: what had it may have been made anew, with the same data. */
 function keepingFocus(show) {
-  const at = document.activeElement, part = at?.closest("#panel, #sheet, #tabs, #trees, #times, #groups, #network, #banner, #chips");
+  const at = document.activeElement, part = at?.closest("#panel, #detail, #sheet, #tabs, #trees, #times, #groups, #network, #banner, #chips");
   const data = Object.entries(at?.dataset ?? {}).map(([key, value]) => `[data-${key}="${CSS.escape(value)}"]`).join("");
   show();
   if (!part || document.contains(at)) return;
@@ -114,12 +134,13 @@ function keepingFocus(show) {
 function showAll() {
   const otherTime = change ? "before the step" : `${TIMES[1 - place]} the change`;
   shown.otherTime = shown.failure ? "was" : otherTime;
+  const paths = pathsShown();
   keepingFocus(() => {
     showHead();
     showControls();
     showStep();
-    showBanner();
-    new Painter(picture, shown, roleBefore).paint();
+    showBanner(paths);
+    new Painter(picture, shown, roleBefore, paths).paint();
     showPanel();
     showSheet();
   });
@@ -210,6 +231,7 @@ async function compareAll() {
 }
 
 function begin() {
+  put("switches", [...new Set(networks.flatMap(it => [...it.bridges.keys()]))].sort(byNumbers).map(it => markup`<option value="${it}"></option>`));
   readAddress();
   showLegend();
   if (shown.selected) reveal(shown.selected);

@@ -3,9 +3,12 @@
 
 /** A picture with what is shown in it: `shown` is a tree or a VLAN, a failure or none, and what is selected. */
 class Painter {
-  /** `roleBefore` is what a port's role is compared with. */
-  constructor(picture, shown, roleBefore) {
+  /** `roleBefore` is what a port's role is compared with, and `paths` a path that is shown and the one that it is compared with, or null. */
+  constructor(picture, shown, roleBefore, paths) {
     Object.assign(this, { picture, shown, roleBefore, network: picture.network });
+    this.hops = (paths?.path ?? []).map(({ from, to }) => [from, to]);
+    this.hopsBefore = (paths?.before ?? []).map(({ from, to }) => [from, to]);
+    this.onPath = new Set(paths?.path ? bridgesOf(shown.from, paths.path) : paths ? [shown.from, shown.to] : []);
     const { vid, failure } = shown, { network } = this;
     this.having = vid === null ? network.bridges : network.having(vid);
     const islands = vid === null ? [] : network.inhabited(vid, failure);
@@ -39,12 +42,18 @@ class Painter {
     const states = cable.links.map(link => this.stateOf(link.lan, link.ports.filter(Boolean)));
     const state = STATES.find(it => states.includes(it)), speeds = cable.links.map(({ lan }) => this.network.lans.get(lan).speed);
     const { speed, told } = { speed: Math.max(...speeds), told: this.toldOfCable(cable, states) };
-    this.mark(cable.drawn, cable.key, `cable ${state}${cable.isBundle ? " bundle" : ""}`, told);
+    const way = this.isOn(this.hops, cable) ? " path" : this.isOn(this.hopsBefore, cable) ? " was" : "";
+    this.mark(cable.drawn, cable.key, `cable ${state}${cable.isBundle ? " bundle" : ""}${way}`, told);
     cable.line.style.strokeWidth = state.startsWith("forwards") ? this.breadth(speed) : "";
     cable.drawn.querySelector("title").textContent = told;
     cable.drawn.querySelectorAll(".cross").forEach(line => line.remove());
     if (cable.links.some(({ lan }) => this.isTaken(lan))) drawCross(cable.drawn, 7, cable.middle);
     if (cable.isBundle) for (const end of cable.ends) this.paintSum(end);
+  }
+
+  /** Whether one of these hops goes over a cable: all ports of a link are its, which are one where the LAN is a box. */
+  isOn(hops, { links }) {
+    return hops.length > 0 && links.some(({ ports }) => hops.some(hop => ports.filter(Boolean).every(port => hop.includes(port))));
   }
 
   /** How broad a cable is that forwards; of many cables less. */
@@ -68,11 +77,11 @@ class Painter {
   }
 
   drawRole(sign, role, isOther, text) {
-    const [draw, ink] = SIGNS[role ?? "none"];
+    const [draw, ink] = SIGNS[role ?? "none"], told = String(text), width = signWidth(told);
     sign.textContent = "";
-    if (isOther) element("circle", { class: "ring", r: 12.5 }, sign);
-    draw(sign);
-    element("text", { y: 3.4, fill: ink }, sign, text);
+    if (isOther) drawRing(sign, width);
+    draw(sign, width);
+    element("text", { y: 3.4, fill: ink }, sign, told);
   }
 
   paintSign(port, sign) {
@@ -80,7 +89,7 @@ class Painter {
     const told = `${port} ${role ?? absent}${role !== before ? ` (${this.shown.otherTime} ${before ?? absent})` : ""}`;
     this.mark(sign, `port ${port}`, `port${role !== before ? " changed" : ""}`, `Port ${told}`);
     sign.setAttribute("data-role", role ?? "none");
-    this.drawRole(sign, role, role !== before, numberOf(port));
+    this.drawRole(sign, role, role !== before, signText(port));
     element("title", {}, sign, told);
   }
 
@@ -91,7 +100,7 @@ class Painter {
     for (const port of ports) counts.set(this.role(port), (counts.get(this.role(port)) ?? 0) + 1);
     const sorted = [...counts].sort((a, b) => b[1] - a[1]), [role, count] = sorted[0];
     const isOther = ports.some(port => this.role(port) !== this.roleBefore(this.treeOf(port), port));
-    this.drawRole(sum, role, isOther, ports.length > 1 ? count : numberOf(ports[0]));
+    this.drawRole(sum, role, isOther, ports.length > 1 ? count : signText(ports[0]));
     element("title", {}, sum, sorted.map(([it, many]) => `${many} ${it ?? "not in this tree"}`).join(", "));
   }
 
@@ -107,7 +116,7 @@ class Painter {
     const cut = vid === null && isOn && this.apart.has(bridge) ? `cut off: ${shortened(network.cutOff(failure).get(bridge), 10)}` : "";
     const written = cut || (!isOn ? "off" : !hasTree ? "not in this tree" : text);
     const said = [`Switch ${bridge}`, written, relation === " apart" && !cut ? "apart" : ""].filter(Boolean).join(", ");
-    this.mark(box, `bridge ${bridge}`, `node${state}${relation}`, said);
+    this.mark(box, `bridge ${bridge}`, `node${state}${relation}${this.onPath.has(bridge) ? " path" : ""}`, said);
     box.querySelector(".told").textContent = written;
     this.crossed(box, failure?.takesAway("bridge", bridge));
   }

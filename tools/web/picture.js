@@ -33,9 +33,15 @@ class Picture {
     this.layout = new Layout(this.boxes, stands, this.endsOf(lines));
     this.spots = this.layout.spots;
     this.cables = lines.map(({ links, nodes, isBundle }) => new Cable(links, nodes, this.spots, isBundle));
-    const past = this.pastOthers();
+    const ways = new Ways(this.layout, this.boxes);
     this.spreadEnds();
-    this.spreadPast(past);
+    ways.find(this.cables);
+    // Now it is known where each end goes at first.
+    for (const { ends: [from, to], way } of this.cables.filter(it => it.way.length)) {
+      [from.toward, to.toward] = [way[0], way.at(-1)].map(([x, y]) => ({ x, y }));
+    }
+    this.spreadEnds();
+    ways.find(this.cables);
     this.drawAll();
   }
 
@@ -68,45 +74,40 @@ class Picture {
     return ends;
   }
 
-  /** Lines from a root that go down between the columns, by where that is. */
-  pastOthers() {
-    const lanes = new Map();
-    for (const cable of this.cables) {
-      const [from, to] = cable.ends, cell = this.layout.past(from.node, to.node);
-      if (!cell) continue;
-      kept(lanes, cell.beside, () => []).push({ cable, cell });
-      from.toward = { x: cell.beside, y: cell.top };
-    }
-    return [...lanes.values()];
-  }
-
-  /** They are spread there, those that go farthest down on the left. */
-  spreadPast(lanes) {
-    for (const lane of lanes) {
-      lane.sort((a, b) => b.cell.row - a.cell.row || b.cable.ends[1].at[0] - a.cable.ends[1].at[0] || a.cable.ends[0].at[0] - b.cable.ends[0].at[0]);
-      lane.forEach(({ cable, cell }, i) => {
-        const across = cell.beside + ((i + 1) / (lane.length + 1) - 0.5) * (GAPS[""][0] - 8);
-        cable.past = { x: across, from: this.layout.firstTop - 14, to: cell.top - 14 };
-      });
-    }
-  }
-
   /** The ends of cables are spread along the sides of the boxes, in the order of where they go. */
   spreadEnds() {
     const sides = new Map();
     for (const end of this.cables.flatMap(cable => cable.ends)) kept(sides, `${end.node} ${end.side}`, () => []).push(end);
     for (const ends of sides.values()) {
-      const { spot, side } = ends[0], [across, down] = OUTWARD[side];
       ends.sort((a, b) => a.toward.x - b.toward.x || b.toward.y - a.toward.y);
-      // Signs that would lie on each other stand in more rows.
-      const rows = down ? (ends.length > MANY_ENDS ? 2 : 1) : Math.min(3, Math.ceil((ends.length + 1) * 17 / spot.height));
-      const room = down ? Math.min(spot.width - 16, Math.max(26 * ends.length, 64)) : spot.height;
-      ends.forEach((end, i) => {
-        const moved = ((i + 1) / (ends.length + 1) - 0.5) * room;
-        end.at = [spot.x + (down ? moved : across * spot.width / 2), spot.y + (down ? down * spot.height / 2 : moved)];
-        end.signAt = SIGN_AT + (i % rows) * 19;
-      });
+      if (OUTWARD[ends[0].side][1]) this.spreadAcross(ends);
+      else this.spreadDown(ends);
     }
+  }
+
+  /** Ends above or below a box. Long texts that don't fit beside each other stand upright; signs that are too many stand in two rows. */
+  spreadAcross(ends) {
+    const { spot, side } = ends[0], widths = ends.map(end => signWidth(end.text)), sum = widths.reduce((all, it) => all + it + 9, 0);
+    const isUpright = sum > spot.width - 16 && widths.some(it => it > SIGN_HEIGHT), rows = ends.length > MANY_ENDS && !isUpright ? 2 : 1;
+    const taken = isUpright ? ends.map(() => SIGN_HEIGHT + 9) : widths.map(it => it + 9), all = taken.reduce((total, it) => total + it, 0);
+    const room = Math.min(spot.width - 16, Math.max(all, 64));
+    let before = 0;
+    ends.forEach((end, i) => {
+      const across = ((before + taken[i] / 2) / all - 0.5) * room, deep = isUpright ? widths[i] : SIGN_HEIGHT;
+      before += taken[i];
+      end.at = [spot.x + across, spot.y + OUTWARD[side][1] * spot.height / 2];
+      Object.assign(end, { isUpright, signAt: SIGN_GAP + deep / 2 + (i % rows) * 19, straight: SIGN_GAP + deep + (rows - 1) * 19 + STRAIGHT });
+    });
+  }
+
+  /** Ends at the left or the right of a box. Signs that would lie on each other stand in more rows. */
+  spreadDown(ends) {
+    const { spot, side } = ends[0], rows = Math.min(3, Math.ceil((ends.length + 1) * SIGN_HEIGHT / spot.height));
+    const wide = Math.max(...ends.map(end => signWidth(end.text)));
+    ends.forEach((end, i) => {
+      end.at = [spot.x + OUTWARD[side][0] * spot.width / 2, spot.y + ((i + 1) / (ends.length + 1) - 0.5) * spot.height];
+      Object.assign(end, { isUpright: false, signAt: SIGN_GAP + wide / 2 + (i % rows) * (wide + 2), straight: 0 });
+    });
   }
 
   drawAll() {
@@ -135,20 +136,19 @@ class Picture {
   }
 
   drawCable(cable, layer, signs) {
-    const { path, curves } = cable.drawing();
+    const path = cable.path();
     const data = cable.isBundle ? { "data-links": cable.key.slice(6) } : { "data-lan": cable.lan };
     cable.drawn = element("g", { ...data, ...REACHED }, layer);
     element("path", { class: "near", d: path }, cable.drawn);
     cable.line = element("path", { class: "line", d: path }, cable.drawn);
     element("title", {}, cable.drawn);
-    cable.ends.forEach((end, i) => {
-      if (!end.ports.length) return;
-      const at = pointAlong(curves[i], end.signAt);
-      this.labels.take(at, 18, 18);
-      const place = { transform: `translate(${at.map(it => it.toFixed(1)).join(" ")})` };
+    for (const end of cable.ends.filter(it => it.ports.length)) {
+      const at = end.at.map((it, axis) => it + OUTWARD[end.side][axis] * end.signAt), wide = signWidth(end.text) + 1;
+      this.labels.take(at, ...(end.isUpright ? [18, wide] : [wide, 18]));
+      const place = { transform: `translate(${textOfPoint(at)})${end.isUpright ? " rotate(-90)" : ""}` };
       if (cable.isBundle) end.sum = element("g", { class: "sum", ...place }, signs);
       else this.signs.set(end.ports[0], element("g", { ...REACHED, "data-port": end.ports[0], ...place }, signs));
-    });
+    }
   }
 
   /** A cable's name, where it lies on nothing else. It is seen at any rate where the cable is selected. */

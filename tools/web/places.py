@@ -1,7 +1,7 @@
 """Where the switches stand in the picture, in points: roots above, the others as far below as they are links away.
 
-Switches that are linked to the same others stand together in rows. Graphviz's `dot` puts the switches of a rank in order;
-without it they stand by name.
+Switches that are linked to the same others stand together in rows, by their names. Graphviz's `dot` puts all others of a rank in order; without
+it they stand by name, too.
 """
 
 import math
@@ -10,6 +10,7 @@ import shutil
 import subprocess
 
 import folds
+from folds import in_order
 
 BOX_HEIGHT, BOX_WIDTH, LAN_WIDTH, END_WIDTH = 54, 116, 90, 26
 BESIDE, BELOW, BELOW_RANK = 44, 104, 122
@@ -17,8 +18,14 @@ BESIDE, BELOW, BELOW_RANK = 44, 104, 122
 LETTER, LAN_LETTER, BESIDE_NAME = 9.2, 6.2, 18
 # Between two blocks of a rank, in a picture of few nodes and in any other.
 BROAD, NARROW, FEW = 210, 110, 14
-# In rows of how many alike switches may stand, and the form of the picture that is best, width by height.
-FOLDS, FORM = (8, 6, 5, 4, 3, 2), 1.7
+# In rows of how many alike switches may stand, and the form of the frame, width by height.
+FOLDS, FORM = (8, 6, 5, 4, 3, 2), 1.6
+# Pictures of which one is larger by no more than this are alike: the one with the longer rows is taken.
+CLOSE = 40
+# How much broader a picture may be made that is too high for the frame.
+BROADER = 1.5
+# What of a port's text is its sign: how wide a letter is and what is beside them. A text of two letters is no wider than END_WIDTH.
+SIGN_LETTER, BESIDE_SIGN, LEAST_SIGN, MOST_FOR_SIGNS = 6.2, 9, 17, 260
 POINTS_OF_AN_INCH = 72
 DOT_SECONDS = 60
 
@@ -70,7 +77,7 @@ def ranks_of(near, tops):
 def blocks_of(near, rank, fold):
     """Nodes that stand together, by the first name: more of one rank than fit in a row that are linked to the same others."""
     groups = {}
-    for name in sorted(near):
+    for name in sorted(near, key=in_order):
         groups.setdefault((rank[name], frozenset(near[name])), []).append(name)
     blocks = {}
     for members in groups.values():
@@ -78,14 +85,23 @@ def blocks_of(near, rank, fold):
     return blocks
 
 
-def widths_of(network, near):
-    """The width of each node: a switch with many links is broader, so that their ends stay apart."""
-    ends = dict.fromkeys(near, 0)
+def widths_of(network, near, signs):
+    """The width of each node: a switch with many links is broader, so that their ends stay apart, and so is one on which few long signs fit
+    beside each other. Others stand upright."""
+    ends = {name: [] for name in near}
     for told in network["lans"].values():
         for port in told["ports"] if len(told["ports"]) > 1 else []:
-            ends[port.split(":")[0]] += 1
-    broad = {name: END_WIDTH * math.ceil(ends[name] * 2 / 3) + 16 if ends[name] > 6 else 0 for name in near}
-    return {name: max(LAN_WIDTH if name.startswith("lan ") else BOX_WIDTH, broad[name], room_for(name)) for name in near}
+            ends[port.split(":")[0]].append(signs[port])
+    broad = {name: END_WIDTH * math.ceil(len(its) * 2 / 3) + 16 if len(its) > 6 else 0 for name, its in ends.items()}
+    beside = {name: math.ceil(sum(its) + BESIDE_SIGN * len(its)) + 24 for name, its in ends.items()}
+    return {name: max(LAN_WIDTH if name.startswith("lan ") else BOX_WIDTH, broad[name], room_for(name), beside[name] if beside[name] <= MOST_FOR_SIGNS else 0)
+            for name in near}
+
+
+def signs_of(network):
+    """How wide the sign of each port is."""
+    texts = {port: network["interfaces"].get(port, [port.split(":")[1]])[-1] for told in network["lans"].values() for port in told["ports"]}
+    return {port: SIGN_LETTER * len(text) + BESIDE_SIGN if len(text) > 2 else LEAST_SIGN for port, text in texts.items()}
 
 
 def room_for(name):
@@ -95,23 +111,22 @@ def room_for(name):
 
 
 class Block:
-    """Nodes in rows of at most `fold`; every other row is moved by half a step, so that cables reach the lower ones."""
+    """Nodes in rows of at most `fold` and about as many each, one below another, so that cables go straight down between them."""
 
-    def __init__(self, members, widths, fold):
-        self.members, self.widths = members, [widths[name] for name in members]
-        self.columns = min(len(members), fold)
+    def __init__(self, members, widths, fold, below):
+        self.members, self.widths, self.below = members, [widths[name] for name in members], below
+        self.rows = math.ceil(len(members) / fold)
+        self.columns = math.ceil(len(members) / self.rows)
         self.step = max(self.widths) + BESIDE
-        self.rows = math.ceil(len(members) / self.columns)
-        self.width = self.columns * self.step + (80 if self.rows > 1 else -BESIDE)
-        self.height = BOX_HEIGHT + (self.rows - 1) * BELOW
+        self.width = self.columns * self.step - BESIDE + (2 * BESIDE if self.rows > 1 else 0)
+        self.height = BOX_HEIGHT + (self.rows - 1) * below
 
     def spots(self, centre, top):
         """The place of each member: its middle from the left and from above, and its width."""
         for place, (name, width) in enumerate(zip(self.members, self.widths)):
             row, column = divmod(place, self.columns)
-            moved = 0 if self.rows == 1 else self.step / 4 * (1 if row % 2 else -1)
             across = (column - (self.columns - 1) / 2) * self.step
-            yield name, [centre + across + moved, top + row * BELOW, width]
+            yield name, [centre + across, top + row * self.below, width]
 
 
 def graph_of(blocks, near, rank, gap):
@@ -119,12 +134,13 @@ def graph_of(blocks, near, rank, gap):
     block_of = {name: first for first, block in blocks.items() for name in block.members}
     lines = ["graph {", "  node [shape=box, fixedsize=true];", f"  nodesep={gap / 2 / POINTS_OF_AN_INCH:.2f};"]
     for depth in sorted(set(rank.values())):
-        lines.append("  { rank=same; " + " ".join(f'"{first}";' for first in sorted(blocks) if rank[first] == depth) + " }")
-    for first, block in sorted(blocks.items()):
+        lines.append("  { rank=same; " + " ".join(f'"{first}";' for first in sorted(blocks, key=in_order) if rank[first] == depth) + " }")
+    for first, block in sorted(blocks.items(), key=lambda it: in_order(it[0])):
         size = block.width / POINTS_OF_AN_INCH, block.height / POINTS_OF_AN_INCH
         lines.append(f'  "{first}" [width={size[0]:.2f}, height={size[1]:.2f}];')
-    links = {tuple(sorted((block_of[a], block_of[b]), key=lambda it: (rank[it], it))) for a in near for b in near[a]}
-    lines += [f'  "{a}" -- "{b}" [weight={4 if rank[a] != rank[b] else 1}];' for a, b in sorted(links) if a != b]
+    links = {tuple(sorted((block_of[a], block_of[b]), key=lambda it: (rank[it], in_order(it)))) for a in near for b in near[a]}
+    sorted_links = sorted(links, key=lambda it: [in_order(name) for name in it])
+    lines += [f'  "{a}" -- "{b}" [weight={4 if rank[a] != rank[b] else 1}];' for a, b in sorted_links if a != b]
     return "\n".join([*lines, "}"])
 
 
@@ -140,37 +156,65 @@ def centres_of(graph):
     return {words[1].strip('"'): float(words[2]) * POINTS_OF_AN_INCH for words in lines if words and words[0] == "node"}
 
 
-def laid_out(network, near, rank, fold):
-    """The picture with alike switches in rows of at most `fold`: the spots of all nodes, and its size."""
-    widths = widths_of(network, near)
-    blocks = {first: Block(members, widths, fold) for first, members in blocks_of(near, rank, fold).items()}
-    gap = BROAD if len(near) <= FEW else NARROW
-    centres = centres_of(graph_of(blocks, near, rank, gap))
-    spots, top = {}, 0
-    for depth in sorted(set(rank.values())):
-        row = sorted((first for first in blocks if rank[first] == depth), key=lambda it: (centres.get(it, 0), it))
-        right = 0
-        for first in row:
-            half = blocks[first].width / 2
-            centre = max(centres.get(first, 0), right + half)
-            right = centre + half + gap / 2 - 1
-            spots.update(blocks[first].spots(centre, top))
-        top += max(blocks[first].height for first in row) + BELOW_RANK
-    return fitted(spots, rank)
+class Picture:
+    """The nodes of networks, and what their places go by: their neighbours, their ranks, and how wide signs and nodes are."""
+
+    def __init__(self, network, near, rank):
+        self.near, self.rank = near, rank
+        signs = signs_of(network)
+        self.widths = widths_of(network, near, signs)
+        # What upright signs take of the room between two rows, at one side.
+        self.more = max(signs.values(), default=LEAST_SIGN) - LEAST_SIGN
+
+    def laid_out(self, fold):
+        """The picture with alike switches in rows of at most `fold`: the spots of all nodes, and its size."""
+        members = blocks_of(self.near, self.rank, fold)
+        blocks = {first: Block(names, self.widths, fold, BELOW + self.more) for first, names in members.items()}
+        gap = BROAD if len(self.near) <= FEW else NARROW
+        centres = self.by_names(blocks, centres_of(graph_of(blocks, self.near, self.rank, gap)))
+        rows, top = [], 0
+        for depth in sorted(set(self.rank.values())):
+            row = sorted((first for first in blocks if self.rank[first] == depth), key=lambda it: (centres.get(it, 0), in_order(it)))
+            spots, right = {}, 0
+            for first in row:
+                half = blocks[first].width / 2
+                centre = max(centres.get(first, 0), right + half)
+                right = centre + half + gap / 2 - 1
+                spots.update(blocks[first].spots(centre, top))
+            rows.append((spots, right))
+            top += max(blocks[first].height for first in row) + BELOW_RANK + 2 * self.more
+        return self.fitted(rows if centres else middled(rows))
+
+    def by_names(self, blocks, centres):
+        """Blocks that are linked alike stand by their names, whatever order `dot` gave them."""
+        alike = {}
+        for first in centres:
+            alike.setdefault((self.rank[first], frozenset(self.near[first]), blocks[first].width), []).append(first)
+        return {first: centre for names in alike.values()
+                for first, centre in zip(sorted(names, key=in_order), sorted(centres[name] for name in names))}
+
+    def fitted(self, rows):
+        """The picture from its left edge on. One that is too wide for the frame gets more room from rank to rank, one that is too high more
+        beside each other."""
+        spots = {name: spot for row, _ in rows for name, spot in row.items()}
+        left = min((x - width / 2 for x, _, width in spots.values()), default=0)
+        right = max((x + width / 2 for x, _, width in spots.values()), default=0)
+        high = max((y for _, y, _ in spots.values()), default=0) + BOX_HEIGHT
+        more = max(0, min(((right - left) / FORM - high) / max(1, len(rows) - 1), 2 * BELOW_RANK))
+        broader = min(max(1, high * FORM / max(right - left, 1)), BROADER)
+        placed = {name: [round((x - left) * broader), round(y + self.rank[name] * more), width] for name, (x, y, width) in spots.items()}
+        height = max((y for _, y, _ in placed.values()), default=0) + BOX_HEIGHT
+        return {"spots": placed, "width": round((right - left) * broader), "height": height}
 
 
-def fitted(spots, rank):
-    """The picture from its left edge on. A wide one gets more room from rank to rank, so that cables stay apart."""
-    left = min((x - width / 2 for x, _, width in spots.values()), default=0)
-    right = max((x + width / 2 for x, _, width in spots.values()), default=0)
-    more = max(0, min(0.075 * (right - left) - BELOW_RANK, 2 * BELOW_RANK))
-    placed = {name: [round(x - left), round(y + rank[name] * more), width] for name, (x, y, width) in spots.items()}
-    height = max((y for _, y, _ in placed.values()), default=0) + BOX_HEIGHT
-    return {"spots": placed, "width": round(right - left), "height": height}
+def middled(rows):
+    """Rows without an order of their own, each in the middle of the widest."""
+    widest = max((right for _, right in rows), default=0)
+    return [({name: [x + (widest - right) / 2, y, width] for name, (x, y, width) in spots.items()}, right) for spots, right in rows]
 
 
 def layout(networks):
-    """The places of all nodes of networks, in rows that make the picture's form best: a switch stands in each where it stands in the
+    """The places of all nodes of networks, in rows that make letters largest in the frame: a switch stands in each where it stands in the
     others. The first one says which switches stand above."""
     whole = network_of_all(networks)
     near = neighbours_of(whole)
@@ -179,8 +223,9 @@ def layout(networks):
     if boxes:
         # Where they stand the page works out, by what is open.
         return boxes
-    tried = [laid_out(whole, near, rank, fold) for fold in FOLDS]
-    best = min(tried, key=lambda it: (abs(math.log(max(it["width"], 1) / it["height"] / FORM)), it["width"]))
+    picture = Picture(whole, near, rank)
+    tried = [picture.laid_out(fold) for fold in FOLDS]
+    best = min(tried, key=lambda it: round(max(it["width"] / FORM, it["height"]) / CLOSE))
     spots = {}
     for name, spot in best["spots"].items():
         spots.setdefault(" ".join(name.split(" ")[:2]), spot)
@@ -190,12 +235,12 @@ def layout(networks):
 def network_of_all(networks):
     """The switches and LANs of several networks as those of one: a LAN with other ports in another one is one more, named by its number
     behind a space, since no name has one."""
-    bridges, lans, forms = {}, {}, set()
+    bridges, lans, interfaces, forms = {}, {}, {}, set()
     for place, network in enumerate(networks):
-        bridges = {**network["bridges"], **bridges}
+        bridges, interfaces = {**network["bridges"], **bridges}, {**network["interfaces"], **interfaces}
         for lan, told in network["lans"].items():
             form = lan, tuple(sorted(told["ports"]))
             if form not in forms:
                 forms.add(form)
                 lans[f"{lan} {place}" if lan in lans else lan] = told
-    return {"bridges": bridges, "lans": lans, "summary": networks[0]["summary"]}
+    return {"bridges": bridges, "lans": lans, "interfaces": interfaces, "summary": networks[0]["summary"]}

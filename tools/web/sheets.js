@@ -16,12 +16,14 @@ class Sheets {
   }
 
   failures(shown) {
-    const cutting = [...this.network.failures.values()].sort((a, b) => Boolean(b.cut) - Boolean(a.cut));
+    const { network } = this, isBridge = it => Number(it.what === "bridge");
+    const cutting = [...network.failures.values()].sort((a, b) =>
+      Boolean(b.cut) - Boolean(a.cut) || isBridge(a) - isBridge(b) || byNumbers(a.name, b.name));
     const rows = cutting.map(failure => ({ data: { fail: failure.key }, isSelected: shown.failure === failure, cells: [
       markup`${failure.what === "lan" ? "LAN" : "switch"} <b>${failure.name}</b>`,
       failure.cut ? markup`<span class="warning">${listed(failure.cut)}</span>` : markup`<span class="fine">none</span>`,
       failure.parts.map(([cut, parts]) => line([failure.parts.length > 1 ? [listed(cut), ": "] : "", partsTold(parts)])),
-      failure.roots.map(([tree, before, after]) => line(`${treeName(tree)}: ${before} → ${after}`)),
+      newRoots(network, failure).map(it => line([`${treeName(it.tree)}: ${it.before} → ${it.root}`, minor(` for ${it.whose}`)])),
       failure.changed,
     ] }));
     return { heads: ["What fails", "VLANs cut", "Parts", "New roots", "#Roles changed"], rows };
@@ -66,48 +68,51 @@ class Sheets {
     return { before, heads: ["Switch", "MAC", "Region", "#Priority", `In ${treeName(tree)}`, "#Ports", "#Blocked"], rows };
   }
 
-  vlans() {
-    const rows = this.network.groups.map(group => {
-      const list = vids(group.vids), islands = this.network.inhabited(list.first, null);
+  vlans({ failure }) {
+    const rows = this.network.groupsAfter(failure).map(text => {
+      const list = vids(text), islands = this.network.inhabited(list.first, failure).map(island => [...island].sort(byNumbers));
       const apart = listed(islands.slice(0, MOST_ISLANDS).map(island => some(island, MOST_NAMES).flat().join("")).join(" | "));
       const told = islands.length < 2 ? markup`<span class="fine">whole</span>`
         : markup`<span class="warning">${islands.length} islands</span>: ${apart}${islands.length > MOST_ISLANDS ? " | …" : ""}`;
       const { size } = this.network.having(list.first);
-      return { data: { vlan: list.first }, cells: [markup`<b>${listed(group.vids)}</b>`, list.count, size, told] };
+      return { data: { vlan: list.first }, cells: [markup`<b>${listed(text)}</b>`, list.count, size, told] };
     });
-    return { heads: ["VLANs", "#Number", "#Switches with a port in it", "Of these"], rows };
+    return { before: this.after(failure), heads: ["VLANs", "#Number", "#Switches with a port in it", "Of these"], rows };
   }
 
-  links() {
-    const links = [...this.network.lans].map(([lan, told]) => ({ lan, ...told, carried: this.network.carried(lan) }));
-    links.sort((a, b) => b.carried.count - a.carried.count || byOrder(a.lan, b.lan));
+  links({ failure }) {
+    const links = [...this.network.lans].map(([lan, told]) => ({ lan, ...told, carried: this.network.carried(lan, failure) }));
+    links.sort((a, b) => b.carried.count - a.carried.count || byNumbers(a.lan, b.lan));
     const rows = links.map(({ lan, ports, speed, carried }) => ({ data: { lan }, cells: [
-      markup`<b>${lan}</b>`, ports.join(` ${DASH} `), speedText(speed), carried.count,
+      markup`<b>${lan}</b>`, ports.map(portName).join(` ${DASH} `), speedText(speed), carried.count,
       carried.count === LAST_VID ? "all" : carried.count ? listed(carried.text)
-        : minor(this.network.isBetween(lan) ? "spare: carries nothing while all is well" : "one switch alone"),
+        : minor(this.network.isBetween(lan) ? `spare: carries nothing ${failure ? "now" : "while all is well"}` : "one switch alone"),
     ] }));
-    return { heads: ["LAN", "Ends", "Speed", "#VLANs carried", ""], rows };
+    return { before: this.after(failure), heads: ["LAN", "Ends", "Speed", "#VLANs carried", ""], rows };
   }
 
-  blocked() {
+  blocked({ failure }) {
     const { network } = this;
-    const rows = network.treeNumbers.flatMap(tree => [...network.trees.get(tree).ports]
-      .filter(([, { role }]) => BLOCKING.has(role)).map(([port, { lan, role }]) => ({ data: { port, tree }, cells: [
-        markup`<b>${port}</b>`, lan, treeName(tree), roleTag(role), joined(this.telling.why(port, tree), " "),
-      ] })));
-    return { heads: ["Port", "LAN", "Tree", "Role", "Why"], rows };
+    const rows = network.treeNumbers.flatMap(tree => network.blockedIn(tree, failure).map(port => ({ data: { port, tree }, cells: [
+      markup`<b>${portName(port)}</b>`, network.lanOf(port), treeName(tree), roleTag(network.role(tree, port, failure)),
+      failure ? "" : joined(this.telling.why(port, tree), " "),
+    ] })));
+    return { before: this.after(failure), heads: ["Port", "LAN", "Tree", "Role", failure ? "" : "Why"], rows };
   }
+
+  /** Of which network a sheet tells, where a failure is shown. */
+  after(failure) { return failure ? line(markup`<b>After ${entityName(failure)} has failed</b>`) : ""; }
 
   // ---- above the picture
 
-  /** What is told above the picture, and whether it is in red: of a failure, of the VLAN that is shown, or of both. */
+  /** What is told above the picture, and in which colour: of a failure, of the VLAN that is shown, or of both. */
   banner({ vid, failure }) {
     if (!failure) return vid === null ? null : this.bannerOfVlan(vid);
-    const roots = failure.roots.map(([tree, , root]) => `; new root ${root} of ${treeName(tree)}`);
+    const roots = newRoots(this.network, failure).map(it => markup`; new root of ${treeName(it.tree)} for ${it.whose}: <b>${it.root}</b>, before ${it.before}`);
     const islands = vid === null ? 0 : this.network.inhabited(vid, failure).length;
     const isCut = vid === null ? Boolean(failure.cut) : failure.partsOf(vid).length > 0;
     const told = vid === null ? this.cutTold(failure.cut, isCut) : this.cutOfVlan(vid, failure, isCut, islands);
-    return [isCut || islands > 1, markup`<button data-clear="failure">Back to the whole network</button>
+    return [isCut || islands > 1 ? "warned" : "", markup`<button data-clear="failure">Back to the whole network</button>
       <b>After ${entityName(failure)} has failed</b>${told}${roots};
       ${counted(failure.changed, "role")} of ports in use ${failure.changed === 1 ? "changes" : "change"}.
       ${minor("Dashed rings: another role than before.")}`];
@@ -131,7 +136,7 @@ class Sheets {
     const whole = without ? "reaches every switch that is on and has a port in it" : "reaches every switch that is on";
     const told = islands > 1 ? `is in ${islands} islands; switches in red aren't in the largest` : whole;
     const pale = without ? `; ${counted(without, "pale switch has", "pale switches have")} none` : "";
-    return [islands > 1, markup`<button data-clear="vlan">Back to trees</button><b>VLAN ${vid}</b> ${told}${pale}.
+    return [islands > 1 ? "warned" : "well", markup`<button data-clear="vlan">Back to trees</button><b>VLAN ${vid}</b> ${told}${pale}.
       ${minor("Each switch is drawn with its own tree of this VLAN.")}`];
   }
 }

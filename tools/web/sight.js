@@ -22,10 +22,11 @@ class Sight {
     });
   }
 
-  /** The picture has another size. Where all of it was seen, all is seen again. */
+  /** The picture has another size, which the frame takes the form of. Where all of it was seen, all is seen again. */
   resize({ width, height }) {
     const wasWhole = !this.whole || textOf(this.whole) === textOf(this.frame);
-    this.whole = { x: -MARGIN, y: -MARGIN - 14, width: Math.max(width, 120) + 2 * MARGIN, height: height + 2 * MARGIN - 8 };
+    this.whole = { x: -MARGIN, y: -MARGIN - 14, width: Math.max(width, 120) + 2 * MARGIN, height: height + 2 * MARGIN - 26 };
+    this.svg.style.aspectRatio = `${this.whole.width} / ${this.whole.height}`;
     if (wasWhole) this.see(this.whole);
   }
 

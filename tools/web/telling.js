@@ -17,13 +17,16 @@ class Telling {
 
   // ---- the panel
 
-  panel(shown) {
+  panel(shown) { return this.selected(shown) ?? this.overview.told(shown); }
+
+  /** What is told of what is selected, where it is there. */
+  selected(shown) {
     const [what, ...rest] = (shown.selected ?? "").split(" "), name = rest.join(" ");
     if (what === "port" && this.network.ports.has(name)) return this.port(name, shown);
     if (what === "lan" && this.network.lans.has(name)) return this.lan(name, shown);
     if (what === "bridge" && this.network.bridges.has(name)) return this.bridge(name, shown);
     if (what === "links" && this.picture.cables.some(it => it.key === shown.selected)) return this.links(shown);
-    return this.overview.told();
+    return null;
   }
 
   /** What was looked for, to be gone to. */
@@ -60,7 +63,9 @@ class Telling {
     const { network } = this, lan = network.lanOf(port), { speed, ports } = network.lans.get(lan), set = network.ports.get(port);
     const others = ports.filter(it => it !== port).map(portJump);
     const trees = network.treeNumbers.filter(tree => network.role(tree, port, null) !== null);
-    return markup`<h2>Port ${port}</h2>
+    const name = interfaces.get(port);
+    return markup`<h2>Port ${portName(port)}</h2>
+      ${name ? line(minor(`${port} in the script: ${name.join(", of ")}`)) : ""}
       <div class="minor">on ${lanJump(lan)}, ${speedText(speed)}; to ${others.length ? joined(others, ", ") : "no other port"}</div>
       <div class="minor">VLANs ${set.vlans || "none"}${set.restricted ? "; role restricted" : ""}</div>
       ${trees.map(tree => this.portInTree(port, tree, shown))}
@@ -71,9 +76,10 @@ class Telling {
     const { network } = this, before = network.role(tree, port, null), after = network.role(tree, port, shown.failure);
     const { port_id: id, ext, int } = network.trees.get(tree).ports.get(port);
     const isShown = tree === (shown.vid === null ? shown.tree : network.treeOf(bridgeOf(port), shown.vid));
-    return markup`<h3>${treeName(tree)}${isShown ? " · shown" : ""}</h3>${roleTag(before)}
-      ${before !== after ? markup` → ${roleTag(after)} after this failure` : ""}
+    return markup`<h3>${treeName(tree)}${isShown ? " · shown" : ""}</h3>${roleTag(after)}
+      ${shown.failure ? [" after this failure", before === after ? ", as before it" : [", before it ", roleTag(before)]] : ""}
       ${minor(id ? `${id}${ext === undefined ? "" : ` ext ${ext}`} int ${int}` : "")}
+      ${shown.failure ? line(minor("Why it was so before the failure:")) : ""}
       <div class="why">${this.why(port, tree).map(line)}${this.printedWhy(port, tree)}</div>`;
   }
 
@@ -125,12 +131,12 @@ class Telling {
   }
 
   lan(lan, shown) {
-    const { network } = this, { members, speed, ports } = network.lans.get(lan), carried = network.carried(lan);
+    const { network } = this, { members, speed, ports } = network.lans.get(lan), carried = network.carried(lan, shown.failure);
     const trees = network.treeNumbers;
     return markup`<h2>LAN ${lan}</h2>
       <div class="minor">${speedText(speed)}${members.length > 1 ? `; counts as one link: ${members.join(", ")}` : ""}
-        ${network.isDown(lan, null) ? "; down" : ""}</div>
-      <h3>Carries VLANs${shown.failure ? " while all is well" : ""}</h3>
+        ${network.isDown(lan, shown.failure) ? "; down" : ""}</div>
+      <h3>Carries VLANs${shown.failure ? " after this failure" : ""}</h3>
       <div>${listed(carried.text || "none")} ${minor(`(${carried.count})`)}</div>
       <h3>Roles at its ends${shown.failure ? " after this failure" : ""}</h3>
       ${table(["Port", ...trees.map(treeName)], ports.map(port =>
@@ -139,27 +145,28 @@ class Telling {
   }
 
   bridge(bridge, shown) {
-    const { network } = this, { mac, kind, on, vids: mapped } = network.bridges.get(bridge), region = network.regionAt.get(bridge);
+    const { network } = this, { mac, kind, vids: mapped } = network.bridges.get(bridge), region = network.regionAt.get(bridge);
     const maps = kind === "rstp" ? [] : Object.entries(mapped).map(([tree, list]) => `${list} in MST ${tree}`);
     const trees = network.treeNumbers, short = role => roleTag(role, role === "Disabled" ? "×" : role?.[0]);
     const ports = network.portsOf(bridge).map(port =>
       [portJump(port), lanJump(network.lanOf(port)), ...trees.map(tree => short(network.role(tree, port, shown.failure)))]);
     return markup`<h2>Switch ${bridge}</h2>
-      <div class="minor">${mac}; ${kind === "rstp" ? "RSTP" : `MSTP, region ${region?.name}`}${on ? "" : "; off"}</div>
-      <h3>Trees${shown.failure ? " while all is well" : ""}</h3>
-      ${table(["Tree", "Priority", "Root", "Root port", "#Cost"], this.treeRows(bridge))}
+      <button class="action" data-from="${bridge}">Path from here</button><button class="action" data-to="${bridge}">Path to here</button>
+      <div class="minor">${mac}; ${kind === "rstp" ? "RSTP" : `MSTP, region ${region?.name}`}${network.isOn(bridge, shown.failure) ? "" : "; off"}</div>
+      <h3>Trees${shown.failure ? " after this failure" : ""}</h3>
+      ${network.isOn(bridge, shown.failure) ? table(["Tree", "Priority", "Root", "Root port", "#Cost"], this.treeRows(bridge, shown.failure)) : "It is off."}
       ${maps.length ? minor(`VLANs ${maps.join("; ")}; all others in the CIST`) : ""}
       <h3>Ports${shown.failure ? " after this failure" : ""}</h3>${table(["Port", "LAN", ...trees.map(String)], ports)}
       ${this.failing(`bridge ${bridge}`, shown)}`;
   }
 
-  treeRows(bridge) {
+  treeRows(bridge, failure) {
     const { network } = this, ports = network.portsOf(bridge);
-    return network.treeNumbers.filter(tree => network.root(tree, bridge, null) !== null).map(tree => {
-      const { ext, int } = network.bridgeIn(tree, bridge);
-      const rootPort = ports.find(port => ["Root", "Master"].includes(network.role(tree, port, null)));
+    return network.treeNumbers.filter(tree => network.root(tree, bridge, failure) !== null).map(tree => {
+      const { ext, int } = network.cost(tree, bridge, failure);
+      const rootPort = ports.find(port => ["Root", "Master"].includes(network.role(tree, port, failure)));
       const cost = tree === CIST ? `${ext}+${int}` : int;
-      const root = this.bridgeJump(network.root(tree, bridge, null));
+      const root = this.bridgeJump(network.root(tree, bridge, failure));
       return [treeName(tree), network.priority(tree, bridge), root, rootPort ? portJump(rootPort) : DASH, cost];
     });
   }
@@ -170,8 +177,8 @@ class Telling {
     if (!failure) return "";
     const cuts = failure.parts.map(([cut, parts]) => markup`<div class="warning">VLANs ${listed(cut)} come apart:</div>
       <div>${partsTold(parts)}</div>`);
-    const roots = failure.roots.map(([tree, before, after]) =>
-      markup`<div>Root of ${treeName(tree)}: ${this.bridgeJump(before)} → ${this.bridgeJump(after)}</div>`);
+    const roots = newRoots(this.network, failure).map(it => markup`<div>Root of ${treeName(it.tree)} for ${it.whose}:
+      ${this.bridgeJump(it.before)} → ${this.bridgeJump(it.root)}</div>`);
     const does = shown.failure === failure ? "Back to the whole network" : "Show this failure";
     return markup`<h3>If ${entityName(failure)} fails</h3>
       ${cuts.length ? cuts : markup`<div class="fine">No VLAN is cut between the switches that stay.</div>`}${roots}

@@ -19,7 +19,7 @@ const FIELDS = {
   root: "root's identifier", ext: "external path cost", regional: "regional root", int: "internal path cost",
   bridge: "designated bridge", port: "designated port", receiver: "own port's identifier",
 };
-const MOST_NAMES = 12, MOST_PORTS = 8, MOST_ISLANDS = 6, MOST_FOUND = 40;
+const MOST_NAMES = 12, MOST_OF_ROOT = 4, MOST_PORTS = 8, MOST_ISLANDS = 6, MOST_FOUND = 40;
 const DASH = "–";
 
 const speedText = speed => {
@@ -31,7 +31,12 @@ const treeName = tree => (tree === CIST ? "CIST (0)" : `MST ${tree}`);
 const entityName = ({ what, name }) => `${what === "lan" ? "LAN" : "switch"} ${name}`;
 /** A link that the keyboard reaches, to what data-NAME says. */
 const jump = (name, value, text = value) => markup`<a class="jump" role="link" tabindex="0" data-${name}="${value}">${text}</a>`;
-const portJump = port => jump("port", port);
+/** The interface that a port of the shown network is, where the script says it: its own name, and that of the bundle that it is of. */
+let interfaces = new Map();
+/** What stands in a port's sign, and how it is named in a sentence. */
+const signText = port => interfaces.get(port)?.at(-1) ?? numberOf(port);
+const portName = port => (interfaces.has(port) ? `${bridgeOf(port)} ${signText(port)}` : port);
+const portJump = port => jump("port", port, portName(port));
 const lanJump = lan => jump("lan", lan);
 const roleTag = (role, text = role) => (role ? markup`<span class="role ${role}">${text}</span>` : DASH);
 const minor = text => markup`<span class="minor">${text}</span>`;
@@ -43,7 +48,7 @@ const shortened = (text, most) => (text.length > most ? `${text.slice(0, most - 
 
 /** Parts of switches that came apart, each but the largest with its names; the largest one by its number where it has many. */
 function partsTold(parts) {
-  const lists = parts.map(part => part.split(",")), largest = Math.max(...lists.map(list => list.length));
+  const lists = parts.map(part => part.split(",").sort(byNumbers)), largest = Math.max(...lists.map(list => list.length));
   const isShort = list => list.length <= MOST_NAMES;
   const told = list => (isShort(list) ? list.join(", ") : list.length === largest ? `${list.length} others` : some(list, MOST_NAMES).flat().join(""));
   return joined(lists.map(told), markup` <b class="warning">|</b> `);
@@ -62,6 +67,15 @@ function table(heads, rows) {
 function rowOf({ data, isSelected }, cells) {
   const told = Object.entries(data).map(([key, value]) => markup` data-${key}="${value}"`);
   return markup`<tr class="row${isSelected ? " selected" : ""}" tabindex="0" aria-selected="${Boolean(isSelected)}"${told}>${cells}</tr>`;
+}
+
+/** The new roots that a failure makes: in which tree, of which switches, and which one was their root before. */
+function newRoots(network, failure) {
+  return failure.roots.map(([tree, before, root, names]) => {
+    const bridges = names.split(",").sort(byNumbers), all = network.rootsIn(tree, failure).reduce((sum, it) => sum + it.bridges.length, 0);
+    const whose = bridges.length === all && all > 1 ? `all ${all} switches` : some(bridges, MOST_OF_ROOT).flat().join("");
+    return { tree, before, root, whose };
+  });
 }
 
 /** Some of a list, and how many more there are. */
