@@ -316,7 +316,7 @@ def add_editors(root):
 def add_texts(root, version, epoch):
     """Texts and examples, in the folders that the texts name; who may do what with them; and what has changed."""
     doc = os.path.join("share", "doc", "mstplan")
-    paths = [os.path.join(TOP, "README.md"), os.path.join(TOP, "CHANGELOG.md"), *glob.glob(os.path.join(TOP, "docs", "*")), *glob.glob(os.path.join(TOP, "examples", "**"), recursive=True)]
+    paths = [os.path.join(TOP, "README.md"), os.path.join(TOP, "CHANGELOG.md"), *(it for folder in ("docs", "examples") for it in glob.glob(os.path.join(TOP, folder, "**"), recursive=True))]
     for path in sorted(it for it in paths if os.path.isfile(it) and not it.endswith(".py")):
         write(root, os.path.join(doc, os.path.relpath(path, TOP)), read(path))
     write(root, os.path.join(doc, "copyright"), COPYRIGHT.format(year=time.gmtime(epoch).tm_year, maintainer=MAINTAINER))
