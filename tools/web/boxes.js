@@ -2,13 +2,17 @@
 "use strict";
 
 const SWITCH_HEIGHT = 46, LAN_HEIGHT = 26;
-// The room inside of an open box, that of its title above it, and that between its rows and in them: of the picture, a part, a fold.
+// The room inside of an open box, that of its title above it, and that between its rows and in them: of the picture, its roots, a part, a fold.
 const INSIDE = 16, TITLE_HEIGHT = 38;
-const GAPS = { "": [46, 70], part: [30, 66], fold: [18, 36] }, BELOW_ROOTS = 110;
+const GAPS = { "": [46, 70], top: [46, 70], part: [30, 66], fold: [18, 36] }, BELOW_ROOTS = 110;
 // How broad a node is: that of a name's letters, and what each end of a cable needs of many.
 const LETTER = 9.2, LAN_LETTER = 6.2, BESIDE_NAME = 18, LEAST_WIDTH = 116, END_WIDTH = 19, BESIDE_ENDS = 24;
 // Of more than so many ends on a side the signs stand in two rows, with less room.
 const MANY_ENDS = 24, CLOSE_ENDS = 11.5;
+
+// So wide a box may be for signs that stand beside each other.
+const MOST_FOR_SIGNS = 260;
+const besideEachOther = signs => (signs.some(it => it > SIGN_HEIGHT) ? signs.reduce((sum, it) => sum + it + SIGN_SPACE, 24) : 0);
 
 /** The boxes of a large network, and which of them are open: all that are so at first, but for those that were changed over. */
 class Boxes {
@@ -69,9 +73,14 @@ class Boxes {
 
 /** The spots of all that is seen, and the frames of open boxes. */
 class Layout {
-  /** `stands` is whether a switch or a LAN is in the network that is shown, and `ends` how many lines end at what is seen. */
+  /** `stands` is whether a switch or a LAN is in the network that is shown, and `ends` has of each that is seen how wide the signs of its ends are. */
   constructor(boxes, stands, ends) {
     Object.assign(this, { boxes, stands, ends });
+    // What signs that stand upright take of the room between two rows: those that are long, and too many to be beside each other.
+    const upright = [...ends.values()].filter(signs => besideEachOther(signs) > MOST_FOR_SIGNS).flat();
+    this.more = Math.max(0, ...upright.map(it => it - SIGN_HEIGHT));
+    // And what long signs take of that between two roots, one at each.
+    this.wider = 2 * Math.max(0, ...[...ends.values()].flat().map(it => it - SIGN_HEIGHT));
     this.spots = new Map();
     this.frames = new Map();
     if (boxes.rows) this.layRows();
@@ -91,13 +100,13 @@ class Layout {
   /** The roots stand above, and all below them in columns. */
   layRows() {
     this.sizes = new Map();
-    const [tops, ...rows] = this.boxes.rows.map(row => this.standing(row)), [beside, below] = GAPS[""];
+    const [tops, ...rows] = this.boxes.rows.map(row => this.standing(row)), [beside, below] = this.gapsOf("");
     const columns = [];
     for (const row of rows) row.forEach((name, i) => { columns[i] = Math.max(columns[i] ?? 0, this.sizeOf(name).width); });
-    const head = this.sizeOfRows([tops], ""), room = columns.reduce((sum, it) => sum + it + beside, -beside);
+    const head = this.sizeOfRows([tops], "top"), room = columns.reduce((sum, it) => sum + it + beside, -beside);
     this.width = Math.max(head.width, room, 0);
-    this.putRows([tops], "", 0, 0, this.width);
-    let top = head.height + BELOW_ROOTS;
+    this.putRows([tops], "top", 0, 0, this.width);
+    let top = head.height + BELOW_ROOTS + this.more;
     for (const row of rows.filter(it => it.length)) {
       let left = (this.width - room) / 2;
       row.forEach((name, i) => {
@@ -105,7 +114,7 @@ class Layout {
         this.put(name, left + (columns[i] - size.width) / 2, top, size);
         left += columns[i] + beside;
       });
-      top += this.sizeOfRow(row, GAPS[""]).height + below;
+      top += this.sizeOfRow(row, this.gapsOf("")).height + below;
     }
     this.height = top - below;
   }
@@ -124,10 +133,16 @@ class Layout {
     });
   }
 
+  /** The room from one node to the next one, beside and below. */
+  gapsOf(kind) {
+    const [beside, below] = GAPS[kind];
+    return [beside + (kind === "top" ? this.wider : 0), below + this.more];
+  }
+
   widthOf(name, letter) {
-    const ends = this.ends.get(name) ?? 0, room = ends > MANY_ENDS ? CLOSE_ENDS : END_WIDTH;
+    const signs = this.ends.get(name) ?? [], ends = signs.length, beside = besideEachOther(signs), room = ends > MANY_ENDS ? CLOSE_ENDS : END_WIDTH;
     const broad = ends > 5 ? room * ends + BESIDE_ENDS : 0;
-    return Math.max(LEAST_WIDTH, name.length * letter + BESIDE_NAME, broad);
+    return Math.max(LEAST_WIDTH, name.length * letter + BESIDE_NAME, broad, beside <= MOST_FOR_SIGNS ? beside : 0);
   }
 
   sizeOfRow(names, [beside]) {
@@ -136,15 +151,15 @@ class Layout {
   }
 
   sizeOfRows(rows, kind) {
-    const sizes = rows.map(row => this.standing(row)).filter(row => row.length).map(row => this.sizeOfRow(row, GAPS[kind]));
-    const below = GAPS[kind][1];
+    const sizes = rows.map(row => this.standing(row)).filter(row => row.length).map(row => this.sizeOfRow(row, this.gapsOf(kind)));
+    const below = this.gapsOf(kind)[1];
     return { width: Math.max(0, ...sizes.map(it => it.width)), height: sizes.reduce((sum, it) => sum + it.height + below, sizes.length ? -below : 0) };
   }
 
   putRows(rows, kind, left, top, room) {
-    const [beside, below] = GAPS[kind];
+    const [beside, below] = this.gapsOf(kind);
     for (const row of rows.map(it => this.standing(it)).filter(it => it.length)) {
-      const { width, height } = this.sizeOfRow(row, GAPS[kind]);
+      const { width, height } = this.sizeOfRow(row, this.gapsOf(kind));
       let at = left + (room - width) / 2;
       for (const name of row) {
         const size = this.sizeOf(name);

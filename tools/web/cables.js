@@ -3,9 +3,9 @@
 
 const SVG = "http://www.w3.org/2000/svg";
 const LEVEL = 4;
-// Of a port's sign: how high it is, how wide one letter of a long text makes it and what is beside them, how far it is from its switch, and what
-// of the cable is straight behind it. Two letters are as in a disc.
-const SIGN_HEIGHT = 17, SIGN_LETTER = 6.2, BESIDE_LETTERS = 9, SIGN_GAP = 6, STRAIGHT = 4;
+// Of a port's sign: how high it is, how wide one letter of a long text makes it and what is beside them, how far it is from its switch and from the
+// next one, and what of the cable is straight behind it. Two letters are as in a disc.
+const SIGN_HEIGHT = 17, SIGN_LETTER = 6.2, BESIDE_LETTERS = 9, SIGN_GAP = 6, SIGN_SPACE = 9, STRAIGHT = 4;
 const OUTWARD = { bottom: [0, 1], top: [0, -1], left: [-1, 0], right: [1, 0] };
 
 function element(name, attributes, parent, text) {
@@ -16,6 +16,8 @@ function element(name, attributes, parent, text) {
   return made;
 }
 
+/** What stands in the sign at an end of a line: nothing where no port is there. */
+const signTextOf = ([{ ports }], end) => (ports[end] ? signText(ports[end]) : "");
 /** How wide the sign with a text is. */
 const signWidth = text => (text.length > 2 ? SIGN_LETTER * text.length + BESIDE_LETTERS : SIGN_HEIGHT);
 
@@ -93,7 +95,7 @@ class Cable {
     this.ends.forEach((end, i) => {
       end.side = sides[i];
       end.toward = this.ends[1 - i].spot;
-      end.text = end.ports.length > 1 || isBundle ? "" : end.ports.map(signText).join("");
+      end.text = isBundle ? "" : signTextOf(links, nodes.indexOf(end.node));
     });
   }
 

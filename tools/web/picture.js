@@ -68,9 +68,12 @@ class Picture {
     return [...lines, ...bundles.values()];
   }
 
+  /** How wide the signs are of the lines that end at each node. */
   endsOf(lines) {
     const ends = new Map();
-    for (const node of lines.flatMap(it => it.nodes)) ends.set(node, (ends.get(node) ?? 0) + 1);
+    for (const { nodes, links, isBundle } of lines) {
+      nodes.forEach((node, i) => kept(ends, node, () => []).push(signWidth(isBundle ? "" : signTextOf(links, i))));
+    }
     return ends;
   }
 
@@ -87,9 +90,9 @@ class Picture {
 
   /** Ends above or below a box. Long texts that don't fit beside each other stand upright; signs that are too many stand in two rows. */
   spreadAcross(ends) {
-    const { spot, side } = ends[0], widths = ends.map(end => signWidth(end.text)), sum = widths.reduce((all, it) => all + it + 9, 0);
+    const { spot, side } = ends[0], widths = ends.map(end => signWidth(end.text)), sum = widths.reduce((all, it) => all + it + SIGN_SPACE, 0);
     const isUpright = sum > spot.width - 16 && widths.some(it => it > SIGN_HEIGHT), rows = ends.length > MANY_ENDS && !isUpright ? 2 : 1;
-    const taken = isUpright ? ends.map(() => SIGN_HEIGHT + 9) : widths.map(it => it + 9), all = taken.reduce((total, it) => total + it, 0);
+    const taken = isUpright ? ends.map(() => SIGN_HEIGHT + SIGN_SPACE) : widths.map(it => it + SIGN_SPACE), all = taken.reduce((total, it) => total + it, 0);
     const room = Math.min(spot.width - 16, Math.max(all, 64));
     let before = 0;
     ends.forEach((end, i) => {

@@ -85,17 +85,34 @@ def blocks_of(near, rank, fold):
     return blocks
 
 
-def widths_of(network, near, signs):
-    """The width of each node: a switch with many links is broader, so that their ends stay apart, and so is one on which few long signs fit
-    beside each other. Others stand upright."""
+def ends_of(network, near, signs):
+    """How wide the signs are of the links that end at each node."""
     ends = {name: [] for name in near}
     for told in network["lans"].values():
         for port in told["ports"] if len(told["ports"]) > 1 else []:
             ends[port.split(":")[0]].append(signs[port])
+    return ends
+
+
+def beside_each_other(signs):
+    """The width of a box on which these signs stand beside each other, where one of them is long."""
+    return math.ceil(sum(signs) + BESIDE_SIGN * len(signs)) + 24 if max(signs, default=0) > LEAST_SIGN else 0
+
+
+def widths_of(network, near, signs):
+    """The width of each node: a switch with many links is broader, so that their ends stay apart, and so is one on which few long signs fit
+    beside each other. Others stand upright."""
+    ends = ends_of(network, near, signs)
     broad = {name: END_WIDTH * math.ceil(len(its) * 2 / 3) + 16 if len(its) > 6 else 0 for name, its in ends.items()}
-    beside = {name: math.ceil(sum(its) + BESIDE_SIGN * len(its)) + 24 for name, its in ends.items()}
+    beside = {name: beside_each_other(its) for name, its in ends.items()}
     return {name: max(LAN_WIDTH if name.startswith("lan ") else BOX_WIDTH, broad[name], room_for(name), beside[name] if beside[name] <= MOST_FOR_SIGNS else 0)
             for name in near}
+
+
+def upright_in(network, near, signs):
+    """How long the longest of the signs is that stand upright; as one of two letters where none does."""
+    upright = [its for its in ends_of(network, near, signs).values() if beside_each_other(its) > MOST_FOR_SIGNS]
+    return max((it for its in upright for it in its), default=LEAST_SIGN)
 
 
 def signs_of(network):
@@ -163,14 +180,16 @@ class Picture:
         self.near, self.rank = near, rank
         signs = signs_of(network)
         self.widths = widths_of(network, near, signs)
-        # What upright signs take of the room between two rows, at one side.
-        self.more = max(signs.values(), default=LEAST_SIGN) - LEAST_SIGN
+        # How long the longest sign is, of which two stand in the gap between two nodes.
+        self.longest = max(signs.values(), default=LEAST_SIGN)
+        # What signs that stand upright take of the room between two rows, at one side.
+        self.more = upright_in(network, near, signs) - LEAST_SIGN
 
     def laid_out(self, fold):
         """The picture with alike switches in rows of at most `fold`: the spots of all nodes, and its size."""
         members = blocks_of(self.near, self.rank, fold)
         blocks = {first: Block(names, self.widths, fold, BELOW + self.more) for first, names in members.items()}
-        gap = BROAD if len(self.near) <= FEW else NARROW
+        gap = max(BROAD if len(self.near) <= FEW else NARROW, 2 * self.longest + BESIDE)
         centres = self.by_names(blocks, centres_of(graph_of(blocks, self.near, self.rank, gap)))
         rows, top = [], 0
         for depth in sorted(set(self.rank.values())):
