@@ -57,6 +57,16 @@ for (const [port, sign] of picture.signs) {
   if (text > shape) found.push(`${port} is cut`);
 }
 return found;"""
+# Two fingers go apart, and whether the picture is larger then; and what a finger moves.
+PINCH = """
+const svg = document.getElementById("network"), { left, top } = svg.getBoundingClientRect(), before = sight.frame.width;
+const send = (type, pointerId, x) => svg.dispatchEvent(new PointerEvent(type, { pointerId, clientX: left + x, clientY: top + 100, bubbles: true }));
+send("pointerdown", 1, 100);
+send("pointerdown", 2, 140);
+send("pointermove", 2, 220);
+send("pointerup", 1, 100);
+send("pointerup", 2, 220);
+return [sight.frame.width < before * 0.6, svg.style.touchAction];"""
 SIGNS = 'return [...document.querySelectorAll("#network .port")].map(it => [it.dataset.port, it.dataset.role]);'
 IN_SIGHT = """
 const node = document.querySelector(`#network [data-bridge="${arguments[0]}"]`).getBoundingClientRect();
@@ -327,6 +337,7 @@ def check_phone(browser, path, expect):
     expect.equal("phone: a switch", (browser.run(detail), browser.run(HEADING)), ([False, "Switch dist1"], "Overview"))
     browser.click("#detail [data-close]")
     expect.equal("phone: closed", browser.run(detail), [True, None])
+    expect.equal("phone: two fingers make it larger", browser.run(PINCH), [True, "none"])
     expect.equal("phone: as broad as the screen", browser.run("return document.documentElement.scrollWidth;"), 390)
     browser.driver.execute_cdp_cmd("Emulation.clearDeviceMetricsOverride", {})
 

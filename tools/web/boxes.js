@@ -89,11 +89,12 @@ class Layout {
 
   heightOf(name) { return name.startsWith("lan ") ? LAN_HEIGHT : SWITCH_HEIGHT; }
 
-  /** Of the places of the page's maker those of this network. */
-  take({ spots, width, height }) {
-    Object.assign(this, { width, height });
+  /** Of the places of the page's maker those of this network. Its first row is at 0, in the middle of the boxes. */
+  take({ spots, width }) {
+    const down = SWITCH_HEIGHT / 2, lowest = Object.values(spots).reduce((low, [, y]) => Math.max(low, y), 0);
+    Object.assign(this, { width, height: lowest + SWITCH_HEIGHT });
     for (const [name, [x, y, wide]] of Object.entries(spots)) {
-      if (this.stands(name)) this.spots.set(name, { x, y, width: wide, height: this.heightOf(name) });
+      if (this.stands(name)) this.spots.set(name, { x, y: y + down, width: wide, height: this.heightOf(name) });
     }
   }
 

@@ -42,6 +42,7 @@ class Picture {
     }
     this.spreadEnds();
     ways.find(this.cables);
+    this.layout.above = this.cables.reduce((high, it) => Math.max(high, -(it.high ?? 0)), 0);
     this.drawAll();
   }
 

@@ -8,6 +8,8 @@ class Sight {
   constructor(svg) {
     this.svg = svg;
     this.hasMoved = false;
+    // Where fingers are, or the mouse's button is held: one moves the picture, two make it larger and smaller.
+    this.fingers = new Map();
     svg.addEventListener("wheel", event => {
       event.preventDefault();
       const point = new DOMPoint(event.clientX, event.clientY);
@@ -15,17 +17,14 @@ class Sight {
     }, { passive: false });
     svg.addEventListener("pointerdown", event => this.grip(event));
     addEventListener("pointermove", event => this.drag(event));
-    // A click comes after this, and is to know whether the picture was dragged.
-    addEventListener("pointerup", () => {
-      this.held = null;
-      setTimeout(() => { this.hasMoved = false; }, 0);
-    });
+    for (const end of ["pointerup", "pointercancel"]) addEventListener(end, event => this.loosen(event));
   }
 
   /** The picture has another size, which the frame takes the form of. Where all of it was seen, all is seen again. */
-  resize({ width, height }) {
+  resize({ width, height, above }) {
     const wasWhole = !this.whole || textOf(this.whole) === textOf(this.frame);
-    this.whole = { x: -MARGIN, y: -MARGIN - 14, width: Math.max(width, 120) + 2 * MARGIN, height: height + 2 * MARGIN - 26 };
+    const over = Math.max(MARGIN, above + MARGIN / 2);
+    this.whole = { x: -MARGIN, y: -over, width: Math.max(width, 120) + 2 * MARGIN, height: height + over + MARGIN - 6 };
     this.svg.style.aspectRatio = `${this.whole.width} / ${this.whole.height}`;
     if (wasWhole) this.see(this.whole);
   }
@@ -33,6 +32,8 @@ class Sight {
   see(frame) {
     this.frame = { ...frame };
     this.svg.setAttribute("viewBox", textOf(frame));
+    // While all of it is seen a finger moves the page past it.
+    this.svg.style.touchAction = frame.width < this.whole.width * 0.98 ? "none" : "";
   }
 
   scale(factor, point = { x: this.frame.x + this.frame.width / 2, y: this.frame.y + this.frame.height / 2 }) {
@@ -55,11 +56,36 @@ class Sight {
   }
 
   grip(event) {
+    this.fingers.set(event.pointerId, new DOMPoint(event.clientX, event.clientY));
     this.held = { x: event.clientX, y: event.clientY, frame: this.frame, scale: this.svg.getScreenCTM().a };
     this.hasMoved = false;
   }
 
+  /** A click comes after this, and is to know whether the picture was dragged. */
+  loosen(event) {
+    this.fingers.delete(event.pointerId);
+    this.held = null;
+    setTimeout(() => { this.hasMoved = false; }, 0);
+  }
+
+  /** Two fingers went from one distance to another. */
+  pinch(event) {
+    const distance = () => {
+      const [one, other] = this.fingers.values();
+      return Math.max(Math.hypot(one.x - other.x, one.y - other.y), 1);
+    };
+    const before = distance();
+    this.fingers.set(event.pointerId, new DOMPoint(event.clientX, event.clientY));
+    const [one, other] = this.fingers.values(), middle = new DOMPoint((one.x + other.x) / 2, (one.y + other.y) / 2);
+    this.hasMoved = true;
+    this.scale(before / distance(), middle.matrixTransform(this.svg.getScreenCTM().inverse()));
+  }
+
   drag(event) {
+    if (this.fingers.size === 2 && this.fingers.has(event.pointerId)) {
+      this.pinch(event);
+      return;
+    }
     if (!this.held) return;
     const { x, y, frame, scale } = this.held, right = event.clientX - x, down = event.clientY - y;
     this.hasMoved ||= Math.hypot(right, down) > 4;

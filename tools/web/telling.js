@@ -151,8 +151,8 @@ class Telling {
     const ports = network.portsOf(bridge).map(port =>
       [portJump(port), lanJump(network.lanOf(port)), ...trees.map(tree => short(network.role(tree, port, shown.failure)))]);
     return markup`<h2>Switch ${bridge}</h2>
-      <button class="action" data-from="${bridge}">Path from here</button><button class="action" data-to="${bridge}">Path to here</button>
       <div class="minor">${mac}; ${kind === "rstp" ? "RSTP" : `MSTP, region ${region?.name}`}${network.isOn(bridge, shown.failure) ? "" : "; off"}</div>
+      <button class="action" data-from="${bridge}">Path from here</button><button class="action" data-to="${bridge}">Path to here</button>
       <h3>Trees${shown.failure ? " after this failure" : ""}</h3>
       ${network.isOn(bridge, shown.failure) ? table(["Tree", "Priority", "Root", "Root port", "#Cost"], this.treeRows(bridge, shown.failure)) : "It is off."}
       ${maps.length ? minor(`VLANs ${maps.join("; ")}; all others in the CIST`) : ""}
