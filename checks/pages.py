@@ -32,7 +32,7 @@ TOP = os.path.join(os.path.dirname(os.path.abspath(__file__)), os.pardir)
 SAMPLES = os.path.join(TOP, "examples")
 SYSTEM_PYTHON = "/usr/bin/python3"
 # It takes three minutes.
-SECONDS, SECONDS_OF_A_STEP, SECONDS_TO_END = 420, 60, 20
+SECONDS, SECONDS_OF_A_STEP, SECONDS_TO_END = 540, 60, 20
 MOST_PORTS, MOST_FAILURES, MOST_VLANS, MOST_PATHS = 16, 16, 6, 24
 CAMPUS = ["4", "10"]
 # Of the drawn networks of sketch.py some, with shared LANs, links of a class, RSTP bridges and restricted roles.
