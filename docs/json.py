@@ -247,8 +247,8 @@ def by_word(sort, key, its):
     for word, name in its:
         named[word].append(ref(name))
     for word, kinds in named.items():
-        told = {"title": f"{key} {word}", "type": "object", "properties": {key: {"const": word}}, "required": [key]}
-        made[f"{sort}Of{word[0].upper()}{word[1:]}"] = {**told, **any_of(*kinds)}
+        told = {"type": "object", "properties": {key: {"const": word}}, "required": [key], **any_of(*kinds)}
+        made[f"{sort}Of{word[0].upper()}{word[1:]}"] = {"title": f"{key} {word}", **(told if kinds[1:] else kinds[0])}
     return {**made, sort: {"type": "object", "required": [key], "oneOf": [ref(it) for it in made]}}
 
 
