@@ -309,6 +309,25 @@ def check_pairs(browser, program, folder, expect, made):
         expect.equal(f"{name}: the picture fills the frame", max(frame) / min(frame) < 1.6, True)
 
 
+def check_names(browser, program, folder, expect, made):
+    """A port is called as the script of the network that is shown calls it, or else the other script or the change; a name is text."""
+    lines = pair_script(1, 0, False)
+    old = written(folder, "called.script", [*lines, "# port core1 1 is Te1/0/1", "# port core1 2 is <i>ge 2"])
+    new = written(folder, "called-anew.script", [*lines, "# port core1 1 is Te1/0/7 of Po1"])
+    change = written(folder, "called.change", ["# port core2 1 is xe-0", "settreeprio core2 0 3"])
+    names = """return ["core1:1", "core1:2", "core2:1"].map(it => document.querySelector(`#network [data-port="${it}"] text`).textContent);"""
+    browser.open(made(program, folder, "called-anew", expect, [new, "--old", old]))
+    expect.equal("names: after", browser.run(names), ["Po1", "<i>ge 2", "1"])
+    browser.click("#network [data-port='core1:2']")
+    expect.equal("names: a port", browser.run(HEADING), "Port core1 <i>ge 2")
+    browser.click("#times [data-net='before']")
+    expect.equal("names: before", browser.run(names), ["Te1/0/1", "<i>ge 2", "1"])
+    steps = made(program, folder, "called", expect, [old, "--change", change])
+    for address in ("", "step=1"):
+        browser.open(steps, address)
+        expect.equal(f"names of a change: {address}", browser.run(names), ["Te1/0/1", "<i>ge 2", "xe-0"])
+
+
 def check_path(browser, path, expect):
     """A path that is typed is drawn, by its address as well, and after a failure the new one."""
     browser.open(path)
@@ -358,6 +377,7 @@ def check_views(browser, program, folder, expect, made):
     check_path(browser, campus_page, expect)
     check_phone(browser, campus_page, expect)
     check_pairs(browser, program, folder, expect, made)
+    check_names(browser, program, folder, expect, made)
     names = made(program, folder, "names", expect, [written(folder, "names.script", names_script())])
     check_words(browser, names, made(program, folder, "cut", expect, [new, "--old", old, "--policy", policy]), expect)
-    return 8
+    return 10
