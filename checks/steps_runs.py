@@ -29,6 +29,7 @@ POLICY = [
     "together 1-4094 A,B,C", "always together 3,7 *", "finally region A,Z", "always finally fits",
 ]
 UNREAD = {6: "E01 no such expectation", 12: "E01 no such expectation"}
+OF_THE_END = {number for number, line in enumerate(POLICY, 1) if line.startswith("finally ")}
 
 
 # ---- what a step does, by the texts of the networks before and after it
@@ -148,10 +149,12 @@ def unkept(program, script, text, first, is_last):
         if missing:
             told[number] = [f"policy {number} {missing}"]
             continue
-        told[number] = [f"fails {number} now {it}" for it in verify_runs.reasons(verify_runs.Judged(text, text, None, first), line)]
+        here = list(verify_runs.reasons(verify_runs.Judged(text, text, None, first), line))
         if is_always:
             failures = failures if failures is not None else list(verify_runs.everywhere(program, script, text))
-            told[number] += [f"fails {number} {place} {it}" for place, judged in failures for it in verify_runs.reasons(judged, line)]
+        later = [(place, list(verify_runs.reasons(judged, line))) for place, judged in failures] if is_always else []
+        # as `verify` tells it, but not after how many failures something is left out
+        told[number] = [it for it in verify_runs.once(number, here, later, True) if not it.startswith("same ")]
     return told
 
 
@@ -160,7 +163,8 @@ def news(then, now):
     fresh = [it for number in now for it in now[number] if it not in then[number]]
     refused = [it for it in fresh if it.startswith("policy ")]
     mends = [f"mends {number}" for number in now if then[number] and not now[number]]
-    return [*refused, *(it for it in fresh if it not in refused), *mends], any(now[it] and not then[it] for it in now)
+    # a promise of the end alone breaks no step
+    return [*refused, *(it for it in fresh if it not in refused), *mends], any(now[it] and not then[it] for it in now if it not in OF_THE_END)
 
 
 def start_told(start):

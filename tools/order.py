@@ -2,7 +2,7 @@
 """Finds the least order of a change's steps in which every step is accepted and none breaks a policy.
 
 A step breaks it where a line isn't kept behind it that was kept before, as `mstplan steps` counts it. What FILE's network doesn't keep
-already, and what stays so, breaks nothing; a line with `finally` is looked at in the end alone.
+already, and what stays so, breaks nothing; nor does a line with `finally`, which is looked at in the end alone.
 
 PROGRAM judges: a step's lines are made and taken back in one `mstplan ask`, each network that comes about is looked at by `mstplan
 verify` (by `mstplan steps`, where a line of the policy looks back at FILE's network: `together`), and the order that is found by `mstplan
@@ -12,7 +12,7 @@ the network that the given order ends in, where no line of that is refused.
 
 It prints the change in its new order; or, with status 1, `none` and why: the end where that breaks the policy, the steps that stand
 nowhere, and the longest front that there is, with what is wrong behind it. With --fewest, where each order breaks the policy, it prints the
-least of those with the fewest steps that do, with status 1. The status is 1 also where the end doesn't keep what FILE's network doesn't.
+least of those with the fewest steps that do, with status 1. The status is 1 also where the end doesn't keep a line that no step breaks.
 
 Where a person reads of a port that lines of FILE (or of CHANGE, or NEW) call by a name, it has that in brackets behind it; and in front of the
 steps stand the lines of those that the change sets (`# port acc1 2 is Te1/0/2`).
@@ -189,17 +189,17 @@ class Search:
         self.dead[tuple(numbers_of(rest)), digest_of(network)] = spare
         return None
 
-    def breaks(self, front, step, before, after, is_last):
-        """Why a step breaks the policy: the lines that aren't kept behind it and were before it."""
+    def breaks(self, front, step, before, after):
+        """Why a step breaks the policy: the lines that aren't kept behind it and were before it. None of the end alone is among them."""
         then = self.judge.unkept(before, edits_of(front), False)
-        now = self.judge.unkept(after, edits_of([*front, step]), is_last)
+        now = self.judge.unkept(after, edits_of([*front, step]), False)
         return reason_of({line: why for line, why in now.items() if line not in then})
 
     def broken_end(self):
         """Why each order breaks the policy: what the end doesn't keep, and the network before the change does."""
         if not self.wanted:
             return None
-        then, now = self.judge.unkept(self.judge.network, [], not self.steps), self.unkept_end()
+        then, now = self.judge.unkept(self.judge.network, [], False), self.judge.unkept(self.wanted.network, self.wanted.edits, False)
         return reason_of({line: why for line, why in now.items() if line not in then})
 
     def unkept_end(self):
@@ -212,7 +212,7 @@ class Search:
             step.note(front, why)
         else:
             after = self.standing.saved()
-            fails = self.breaks(front, step, network, after, not others)
+            fails = self.breaks(front, step, network, after)
             if fails:
                 step.note(front, fails)
             step.was_allowed |= not fails
@@ -311,7 +311,7 @@ def judged(program, script, change, policy, failing, search):
     if last["cutting_count"]:
         tell(TOOL, f"{last['cutting_count']} steps cut some VLAN, which the policy doesn't forbid: `mstplan steps` tells")
     if unkept and not failing:
-        tell(TOOL, f"lines of the policy that aren't kept in the end, nor before the change: {unkept}; `mstplan steps` tells")
+        tell(TOOL, f"lines of the policy that aren't kept in the end: {unkept}; `mstplan steps` tells")
     return unkept
 
 

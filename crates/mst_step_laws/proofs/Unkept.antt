@@ -17,7 +17,7 @@ use Rattle.mst_rows.specs.Rows.{Row}
 use Rattle.mst_verdict.specs.telling.Steps.{Change, changes, is_broken, mends, unkept_count}
 use Rattle.mst_verdict.specs.telling.Rows.{mends_row}
 use Rattle.mst_verdict.specs.telling.Texts.{is_told, news, same_text}
-use Rattle.mst_verdict.specs.telling.Told.{IsToldThere}
+use Rattle.mst_verdict.specs.telling.Lines.{IsToldThere}
 use Rattle.mst_verdict.specs.reasons.Named.{Prior}
 use Rattle.mst_verdict.specs.Verifying.{IsPriorNetwork, Judges}
 use Rattle.mst_verdict.specs.Setting.{after_lines, after_steps}

@@ -21,10 +21,12 @@ use Rattle.mst_reasons.specs.Placed.{AreReasonsAt}
 use Rattle.mst_reasons.specs.declared.missing.Missing.{Missing}
 use Rattle.mst_reasons.specs.declared.reason.Reason.{Reason}
 use Rattle.mst_telling.specs.Judged.{AreLinesJudged, IsKeptOf, NoneIsKeptOf, StandsAt, change_at, count_by_read, each_from, line_found, line_lacks, line_rows, network_counts, refused_at, refused_by, told_in, verdicts_by}
+use Rattle.mst_telling.specs.Lines.{AreLinesTold, IsLineTold, IsToldThere, unkept_by}
 use Rattle.mst_telling.specs.Steps.{Change, changes}
-use Rattle.mst_telling.specs.Told.{AreFoundIn, AreLineReasons, AreLinesTold, Found, IsFoundAt, IsLineTold, IsToldThere, expected_at, found_rows, has_reason, is_due, is_judged_at, judged, judged_of, lacked, looks_at, missing_rows, unread_by, where_whole}
+use Rattle.mst_telling.specs.Told.{AreFoundIn, AreLineReasons, Found, IsFoundAt, expected_at, has_reason, is_due, is_judged_at, judged, judged_of, lacked, looks_at, missing_rows, unread_by, where_whole}
 use Rattle.mst_telling.specs.Verified.{IsVerdict, joined, network_count, promise_of, promises_of, refused_rows, rows_of_read}
 use Rattle.mst_telling.proofs.GoesOn.{one_if}
+use Rattle.mst_telling.proofs.Only.{nothing_unkept}
 use Rattle.mst_graph.specs.Lists.{has_any}
 use Rattle.mst_telling.specs.declared.judgement.Judgement.{Judgement}
 
@@ -100,35 +102,35 @@ unread_one n (Ok promise) = refl
 
 -- ---- behind steps
 module _ (net : Net) (o : Outcome) (prior : Prior) (is_last : Bool) (judgement : Judgement) where
-  line_told : (n : ℕ) (line : PolicyLine) (due : Bool) → MatchBool due (IsKeptOf false net o prior n line judgement) (NoneIsKeptOf n judgement) → MatchBool due (IsLineTold net o prior line (line_rows n line judgement)) (line_rows n line judgement ≡ [])
+  line_told : (n : ℕ) (line : PolicyLine) (due : Bool) → MatchBool due (IsKeptOf net o prior n line judgement) (NoneIsKeptOf n judgement) → MatchBool due (IsLineTold net o prior line (line_rows n line judgement)) (line_rows n line judgement ≡ [])
   line_told n line true k = record {
     found = line_found n judgement.found.items;
     are_found = k.found;
-    are = ap (λ what. missing_rows line.number what ++ found_rows line.number (line_found n judgement.found.items)) k.lacks;
+    are = ap (λ what. missing_rows line.number what ++ unkept_by line.number line.read (line_found n judgement.found.items)) k.lacks;
   }
-  line_told n line false k = λ i. missing_rows line.number (k.lacks i) ++ found_rows line.number (k.found i)
+  line_told n line false k = (λ i. missing_rows line.number (k.lacks i) ++ unkept_by line.number line.read (k.found i)) ∙ nothing_unkept line.number line.read
 
-  pub told_there : (lines : List PolicyLine) → AreLinesJudged false net o prior is_last lines judgement → AreLinesTold net o prior is_last lines (told_in lines judgement)
+  pub told_there : (lines : List PolicyLine) → AreLinesJudged net o prior is_last lines judgement → AreLinesTold net o prior is_last lines (told_in lines judgement)
   told_there lines are = zip_each (IsToldThere is_last net o prior) (λ n line. line_rows n line judgement) lines (λ n line below is. line_told n line (is_judged_at is_last line) (are n line (record { below = below; is = is })))
 
 -- ---- in a network
-module _ (once : Bool) (net : Net) (o : Outcome) (prior : Prior) (line : PolicyLine) where
+module _ (net : Net) (o : Outcome) (prior : Prior) (line : PolicyLine) where
   abbrev nothing : List Reason
   nothing = []
 
   abbrev no_found : List Found
   no_found = []
 
-  no_reasons : judged net line ≡ None → (place : Option Failure) → AreLineReasons once net o prior line place nothing
+  no_reasons : judged net line ≡ None → (place : Option Failure) → AreLineReasons net o prior line place nothing
   no_reasons e place =
-      let none : expected_at once net (is_some prior) line place ≡ None = ap (option_and_then (λ promise. cond (looks_at once (is_some prior) promise place) (Some promise.expectation) None)) e in
+      let none : expected_at net (is_some prior) line place ≡ None = ap (option_and_then (λ promise. cond (looks_at (is_some prior) promise place) (Some promise.expectation) None)) e in
       let same : nothing ≡ nothing = refl in
       subst (λ (expected : Option Expectation). MatchOption expected (nothing ≡ nothing) (λ expectation. AreReasonsAt net o prior place expectation nothing)) (sym none) same
 
   abbrev silent : List (Option Failure) → List Found
   silent some = map (λ place. record { place = place; reasons = nothing }) some
 
-  each_silent : judged net line ≡ None → (some : List (Option Failure)) → AllZip (IsFoundAt once net o prior line) some (silent some)
+  each_silent : judged net line ≡ None → (some : List (Option Failure)) → AllZip (IsFoundAt net o prior line) some (silent some)
   each_silent e [] = tt
   each_silent e (place ∷ some) = (record { at = refl; are = no_reasons e place }, each_silent e some)
 
@@ -137,22 +139,22 @@ module _ (once : Bool) (net : Net) (o : Outcome) (prior : Prior) (line : PolicyL
   none_silent (place ∷ some) = none_silent some
 
   -- a line that isn't judged has nothing that is found
-  pub unjudged : judged net line ≡ None → (some : List (Option Failure)) → AreFoundIn once net o prior line some no_found
+  pub unjudged : judged net line ≡ None → (some : List (Option Failure)) → AreFoundIn net o prior line some no_found
   unjudged e some = record { all = silent some; each = each_silent e some; are = none_silent some }
 
 module _ (net : Net) (o : Outcome) (judgement : Judgement) where
   abbrev IsThere : ℕ → PolicyLine → Result Promise Fault → Type 0
-  IsThere n line read = MatchBool (is_due true read) (IsKeptOf true net o None n line judgement) (NoneIsKeptOf n judgement)
+  IsThere n line read = MatchBool (is_due true read) (IsKeptOf net o None n line judgement) (NoneIsKeptOf n judgement)
 
   line_verdict : (n : ℕ) (line : PolicyLine) (read : Result Promise Fault) → line.read ≡ read → IsThere n line read → IsVerdict net o line (rows_of_read line.number line.read (line_found n judgement.found.items))
   line_verdict n line (Ok promise) e k = record { found = line_found n judgement.found.items; are_found = k.found; are = refl }
   line_verdict n line (Err fault) e k = record {
     found = [];
-    are_found = unjudged true net o None line (ap (judged_of net) e) (places net);
+    are_found = unjudged net o None line (ap (judged_of net) e) (places net);
     are = ap (λ read. rows_of_read line.number read (line_found n judgement.found.items)) e ∙ ap (λ read. rows_of_read line.number read []) (sym e);
   }
 
-  pub verdicts_there : (lines : List PolicyLine) → AreLinesJudged true net o None true lines judgement → AllZip (IsVerdict net o) lines (verdicts_by lines judgement)
+  pub verdicts_there : (lines : List PolicyLine) → AreLinesJudged net o None true lines judgement → AllZip (IsVerdict net o) lines (verdicts_by lines judgement)
   verdicts_there lines are =
       zip_each (IsVerdict net o) (λ n line. rows_of_read line.number line.read (line_found n judgement.found.items)) lines (λ n line below is. line_verdict n line line.read refl (are n line (record { below = below; is = is })))
 
@@ -165,7 +167,7 @@ module _ (net : Net) (o : Outcome) (judgement : Judgement) where
   line_refused n (Err fault) what e = refl
   line_refused n (Ok promise) what e = ap (missing_rows n) e
 
-  pub refused_there : (lines : List PolicyLine) → AreLinesJudged true net o None true lines judgement → refused_by lines judgement ≡ flat_map (refused_rows net) lines
+  pub refused_there : (lines : List PolicyLine) → AreLinesJudged net o None true lines judgement → refused_by lines judgement ≡ flat_map (refused_rows net) lines
   refused_there lines are =
       ap joined (each_same (λ n line. refused_at line.number line.read (line_lacks n judgement)) (refused_rows net) lines
       (λ n line below is. line_refused line.number line.read (line_lacks n judgement) (line_lacked n line line.read refl (are n line (record { below = below; is = is }))))) ∙ joined_mapped (refused_rows net) lines
@@ -180,7 +182,7 @@ module _ (net : Net) (o : Outcome) (judgement : Judgement) where
       go None = refl
       go (Some w) = refl
 
-  pub counts_there : (lines : List PolicyLine) (all : List Failure) → all ≡ failures net → AreLinesJudged true net o None true lines judgement → network_counts lines all judgement ≡ map (network_count net) lines
+  pub counts_there : (lines : List PolicyLine) (all : List Failure) → all ≡ failures net → AreLinesJudged net o None true lines judgement → network_counts lines all judgement ≡ map (network_count net) lines
   counts_there lines all e are =
       ap (λ all. network_counts lines all judgement) e
       ∙ each_same (λ n line. count_by_read line.read (is_none (line_lacks n judgement)) (failures net)) (network_count net) lines

@@ -1,24 +1,30 @@
 -- Places where a line has no reason tell nothing of it, and when something is told of a line.
-use Rattle.std.proofs.Common.{◌≡◌, ◌∙◌, ℕ, suc, ◌+◌, ◌&&◌, ◌||◌, Bool, true, false, true≢false, cond, not, List, [], ◌∷◌, ◌++◌, length, map, Option, Some, None, refl, sym, ap, subst, arith}
+use Rattle.std.proofs.Common.{◌≡◌, ◌∙◌, ℕ, suc, ◌+◌, ◌&&◌, ◌||◌, Bool, true, false, true≢false, cond, not, List, [], ◌∷◌, ◌++◌, length, map, Option, Some, None, Result, Ok, Err, refl, sym, ap, subst, append_assoc, arith}
 use Rattle.std.specs.Prelude.{◌==◌}
 use Rattle.std.specs.List.{count_by, filter, flat_map, list_any}
+use Rattle.std.proofs.lemmas.List.{map-append}
 use Rattle.std.proofs.lemmas.List.Elements.{filter-append}
+use Rattle.std.proofs.lemmas.List.Folds.{list_any-append}
 use Rattle.std.proofs.lemmas.List.Sums.{sum_by-cons}
+use Rattle.mst_lang.specs.declared.line.Fault.{Fault}
 use Rattle.mst_policy.specs.declared.expectation.Promise.{Promise}
 use Rattle.mst_policy.specs.declared.expectation.Scope.{Scope}
+use Rattle.mst_rows.specs.Lines.{row_line}
 use Rattle.mst_rows.specs.Rows.{Row}
 use Rattle.mst_graph.specs.Lists.{has_any}
 use Rattle.mst_reasons.specs.sweep.declared.failure.Failure.{Failure}
 use Rattle.mst_reasons.specs.Judged.{has_now}
 use Rattle.mst_reasons.specs.declared.reason.Reason.{Reason}
 use Rattle.mst_telling.specs.Judged.{found_at}
-use Rattle.mst_telling.specs.Once.{is_left_out, left_out, once_rows, others, rows_now, same_rows, told_now}
+use Rattle.mst_telling.specs.Once.{folded_rows, is_left_out, left_out, names_it, once_rows, others, rows_now, same_rows, told_now}
 use Rattle.mst_telling.specs.Rows.{reason_row, row_at, same_row}
-use Rattle.mst_telling.specs.Texts.{is_told}
+use Rattle.mst_telling.specs.Texts.{is_told, news, same_text}
 use Rattle.mst_telling.specs.Told.{Found, found_rows, has_reason, is_now, reason_rows, tells_once}
 use Rattle.mst_telling.specs.Verified.{is_broken_by, verdict_rows}
 use Rattle.mst_telling.specs.declared.judgement.Finding.{Finding}
-use Rattle.mst_telling.proofs.GoesOn.{GoesOn, one_if, positive}
+use Rattle.mst_telling.specs.Lines.{unkept_by, unkept_rows}
+use Rattle.mst_telling.proofs.GoesOn.{GoesOn, one_if, positive, then_filtered, then_mapped}
+use Rattle.mst_telling.proofs.TextLines.{lines_symm}
 
 -- ---- lists
 pub no_more : {B : Type 0} (ys : List B) → has_any ys ≡ false → ys ≡ []
@@ -271,6 +277,110 @@ verdict_some n promise fs = go (tells_once promise.scope)
     go true = once_some n promise.scope fs (has_now promise.scope)
     go false = plain_some n fs
 
+-- ---- without the row that counts
+some_kept : {X : Type 0} (test : X → Bool) (xs : List X) → has_any (filter test xs) ≡ true → has_any xs ≡ true
+some_kept test [] e = e
+some_kept test (x ∷ xs) e = refl
+
+-- a row that has its text in some rows, and whose text each row with it is told by others: one of these rows is told by them
+found_among : (left rows : List Row) (l : Row) → ((row : Row) → same_text l row ≡ true → is_told left row ≡ true) → is_told rows l ≡ true → has_any (filter (is_told left) rows) ≡ true
+found_among left [] l hit e = absurd (true≢false (sym e))
+found_among left (row ∷ rows) l hit e = go (found_among left rows l hit) (same_text l row) refl e
+  where
+    either : has_any (filter (is_told left) rows) ≡ true → (b : Bool) → has_any (cond b (row ∷ (filter (is_told left) rows)) (filter (is_told left) rows)) ≡ true
+    either h true = refl
+    either h false = h
+
+    go : (is_told rows l ≡ true → has_any (filter (is_told left) rows) ≡ true) → (b : Bool) → same_text l row ≡ b → (b || is_told rows l) ≡ true → has_any (cond (is_told left row) (row ∷ (filter (is_told left) rows)) (filter (is_told left) rows)) ≡ true
+    go rest true k e = ap (λ b. has_any (cond b (row ∷ (filter (is_told left) rows)) (filter (is_told left) rows))) (hit row k)
+    go rest false k e = either (rest e) (is_told left row)
+
+first_told : (b c : Bool) → (not b || c) ≡ false → b ≡ true
+first_told true c e = refl
+first_told false c e = absurd (true≢false e)
+
+module _ (n : ℕ) (scope : Scope) (nows : List Row) where
+  abbrev is_untold : Row → Bool
+  is_untold row = not (is_told nows row)
+
+  -- what is left out is told of the network itself
+  place_told : (place : Option Failure) (reasons : List Reason) → list_any is_untold (reason_rows n None (filter (is_left_out n scope nows place) reasons)) ≡ false
+  place_told place [] = refl
+  place_told None (reason ∷ reasons) = place_told None reasons
+  place_told (Some failure) (reason ∷ reasons) = go (place_told (Some failure) reasons) (names_it scope failure) (is_told nows (reason_row n None reason)) refl
+    where
+      go : list_any is_untold (reason_rows n None (filter (is_left_out n scope nows (Some failure)) reasons)) ≡ false → (named told : Bool) → is_told nows (reason_row n None reason) ≡ told
+          → list_any is_untold (reason_rows n None (cond (not named && told) (reason ∷ (filter (is_left_out n scope nows (Some failure)) reasons)) (filter (is_left_out n scope nows (Some failure)) reasons))) ≡ false
+      go rest true told e = rest
+      go rest false true e = ap (λ b. not b || list_any is_untold (reason_rows n None (filter (is_left_out n scope nows (Some failure)) reasons))) e ∙ rest
+      go rest false false e = rest
+
+  left_told : (fs : List Found) → list_any is_untold (flat_map (left_out n scope nows) fs) ≡ false
+  left_told [] = refl
+  left_told (f ∷ fs) = list_any-append is_untold (left_out n scope nows f) (flat_map (left_out n scope nows) fs) ∙ (λ i. place_told f.place f.reasons i || left_told fs i)
+
+  -- so where something is left out, something is told of the network itself
+  left_now : (left : List Row) → list_any is_untold left ≡ false → has_any left ≡ true → has_any (filter (is_told left) nows) ≡ true
+  left_now [] e h = absurd (true≢false (sym h))
+  left_now (l ∷ left) e h = found_among (l ∷ left) nows l (λ row k. ap (λ b. b || is_told left row) (lines_symm (row_line row) (row_line l) ∙ k)) (first_told (is_told nows l) (list_any is_untold left) e)
+
+absorbed : (a b : Bool) → (b ≡ true → a ≡ true) → (a || b) ≡ a
+absorbed true b h = refl
+absorbed false true h = sym (h refl)
+absorbed false false h = refl
+
+module _ (n : ℕ) (scope : Scope) (fs : List Found) where
+  abbrev those_now : List Row
+  those_now = rows_now n fs
+
+  abbrev all_left : List Row
+  all_left = flat_map (left_out n scope those_now) fs
+
+  abbrev now_told : Bool → List Row
+  now_told now = cond now those_now (filter (is_told all_left) those_now)
+
+  some_now : (now : Bool) → some_left n scope those_now fs ≡ true → has_any (now_told now) ≡ true
+  some_now now e = go now (left_now n scope those_now all_left (left_told n scope those_now fs) (any_flat (left_out n scope those_now) fs ∙ e))
+    where
+      go : (now : Bool) → has_any (filter (is_told all_left) those_now) ≡ true → has_any (now_told now) ≡ true
+      go true h = some_kept (is_told all_left) those_now h
+      go false h = h
+
+  folded_some : (now : Bool) → has_any (now_told now ++ flat_map (others n scope those_now) fs) ≡ list_any (λ f. has_reason f && ((false || now) || not (is_now f.place))) fs
+  folded_some now =
+      any_joined (now_told now) (flat_map (others n scope those_now) fs)
+      ∙ (λ i. sym (absorbed (has_any (now_told now)) (some_left n scope those_now fs) (some_now now)) i || any_flat (others n scope those_now) fs i)
+      ∙ sym (parts n scope fs now) ∙ once_some n scope fs now
+
+pub unkept_some : (n : ℕ) (promise : Promise) (fs : List Found) → has_any (unkept_rows n promise fs) ≡ list_any (is_broken_by promise.scope) fs
+unkept_some n promise fs = go (tells_once promise.scope)
+  where
+    go : (once : Bool) → has_any (cond once (folded_rows n promise.scope (rows_now n fs) fs) (found_rows n fs)) ≡ list_any (λ f. has_reason f && ((not once || has_now promise.scope) || not (is_now f.place))) fs
+    go true = folded_some n promise.scope fs (has_now promise.scope)
+    go false = plain_some n fs
+
+folded_only : (n : ℕ) (scope : Scope) (fs : List Found) → folded_rows n scope (rows_now n (filter has_reason fs)) (filter has_reason fs) ≡ folded_rows n scope (rows_now n fs) fs
+folded_only n scope fs =
+    ap (λ nows. folded_rows n scope nows (filter has_reason fs)) (now_only n fs)
+    ∙ (λ i. told_now scope (rows_now n fs) (only (left_out n scope (rows_now n fs)) (none_left n scope (rows_now n fs)) fs i)
+    ++ only (others n scope (rows_now n fs)) (none_others n scope (rows_now n fs)) fs i)
+
+pub unkept_only : (n : ℕ) (promise : Promise) (fs : List Found) → unkept_rows n promise (filter has_reason fs) ≡ unkept_rows n promise fs
+unkept_only n promise fs = λ i. cond (tells_once promise.scope) (folded_only n promise.scope fs i) (found_only n fs i)
+
+abbrev no_row : List Row
+no_row = []
+
+-- of nothing that was found there are no rows
+pub nothing_unkept : (n : ℕ) (read : Result Promise Fault) → unkept_by n read [] ≡ []
+nothing_unkept n (Err fault) = refl
+nothing_unkept n (Ok promise) = go (tells_once promise.scope) (has_now promise.scope)
+  where
+    go : (once now : Bool) → cond once (cond now no_row no_row ++ no_row) no_row ≡ no_row
+    go true true = refl
+    go true false = refl
+    go false now = refl
+
 -- ---- what the network itself gives, place by place
 pub then_told : {X : Type 0} {F : List X → List Row} {G : ℕ → X → List Row} (scope : Scope) (those : List Row) → GoesOn F G → GoesOn (λ xs. told_now scope (F xs) those) (λ n x. told_now scope (G n x) those)
 then_told {X} {F} {G} scope those h = record { on = λ xs x. ap (λ rows. told_now scope rows those) (h.on xs x) ∙ go (F xs) (G (length xs) x) (has_now scope) }
@@ -278,3 +388,21 @@ then_told {X} {F} {G} scope those h = record { on = λ xs x. ap (λ rows. told_n
     go : (rows more : List Row) (b : Bool) → cond b (rows ++ more) (filter (is_told those) (rows ++ more)) ≡ cond b rows (filter (is_told those) rows) ++ cond b more (filter (is_told those) more)
     go rows more true = refl
     go rows more false = filter-append (is_told those) rows more
+
+-- and those of it that are new, behind a step
+pub then_new_told : {X : Type 0} {F : List X → List Row} {G : ℕ → X → List Row} (step : Option ℕ) (before : List Row) (scope : Scope) (those : List Row) → GoesOn F G
+    → GoesOn (λ xs. map (row_at step) (news before (told_now scope (F xs) those))) (λ n x. map (row_at step) (news before (told_now scope (G n x) those)))
+then_new_told step before scope those h = then_mapped (row_at step) (then_filtered (λ row. not (is_told before row)) (then_told scope those h))
+
+new_parts : (step : Option ℕ) (before xs ys : List Row) → map (row_at step) (news before xs) ++ map (row_at step) (news before ys) ≡ map (row_at step) (news before (xs ++ ys))
+new_parts step before xs ys = sym (ap (map (row_at step)) (filter-append (λ row. not (is_told before row)) xs ys) ∙ map-append (row_at step) (news before xs) (news before ys))
+
+-- what is new of two lists that were put one after another
+pub put_new : (grown : List Row → Type 0) (step : Option ℕ) (before rows xs ys : List Row) → grown ((rows ++ map (row_at step) (news before xs)) ++ map (row_at step) (news before ys)) → grown (rows ++ map (row_at step) (news before (xs ++ ys)))
+put_new grown step before rows xs ys h =
+    subst grown (append_assoc rows (map (row_at step) (news before xs)) (map (row_at step) (news before ys)) ∙ ap (λ (l : List Row). rows ++ l) (new_parts step before xs ys)) h
+
+-- where nothing was told all rows are new
+pub all_new : (rows : List Row) → map (row_at None) (news [] rows) ≡ rows
+all_new [] = refl
+all_new (row ∷ rows) = ap (λ (l : List Row). row ∷ l) (all_new rows)

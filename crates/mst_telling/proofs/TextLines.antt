@@ -1,12 +1,15 @@
 -- Lines of text that are found by hash.
-use Rattle.std.proofs.Common.{Vec, Global, ◌≡◌, ◌∙◌, ℕ, ◌||◌, Bool, true, false, List, [], ◌∷◌, ◌++◌, refl, sym, ap}
+use Rattle.std.proofs.Common.{Vec, Global, ◌≡◌, ◌∙◌, ℕ, ◌||◌, Bool, true, false, List, [], ◌∷◌, ◌++◌, Result, Ok, Err, refl, sym, ap, subst, append-nil}
 use Rattle.std.specs.Prelude.{if◌then◌else◌}
 use Rattle.std.specs.Cmp.Lexicographic.{bytes_decides, nat_list_eq_equiv}
 use Rattle.std.specs.List.{list_any}
+use Rattle.std.specs.Result.{OnOk}
 use Rattle.std.proofs.lemmas.List.Folds.{list_any-append}
 use Rattle.mst_rows.specs.Lines.{row_line}
 use Rattle.mst_rows.specs.Rows.{Row}
+use Rattle.mst_telling.specs.Judged.{AreTexts}
 use Rattle.mst_telling.specs.Texts.{same_line}
+use Rattle.mst_telling.specs.declared.texts.Texts.{Texts}
 
 or_nothing : (b : Bool) → (b || false) ≡ b
 or_nothing true = refl
@@ -42,3 +45,13 @@ module _ (rows : List Row) (keys : List (Vec ℕ Global)) (are : (text : List �
       go false e =
           list_any-append (λ (key : Vec ℕ Global). same_line text key.items) keys (key ∷ []) ∙ ap (λ b. found text keys || b) (or_nothing (same_line text key.items))
           ∙ sym (among text)
+
+-- ---- lines of text that rows are put into
+-- of no rows none is added
+pub begun : (texts : Texts) (before : List Row) → AreTexts before texts → AreTexts (before ++ []) texts
+begun texts before are = subst (λ (rows : List Row). AreTexts rows texts) (sym (append-nil before)) are
+
+-- what is so of all rows before where there is a value
+pub for_all : {T E : Type 0} (r : Result T E) (Old New : List Row → Type 0) → ((before : List Row) → Old before → OnOk r (New before)) → OnOk r ((before : List Row) → Old before → New before)
+for_all (Ok value) Old New each = each
+for_all (Err fault) Old New each = tt

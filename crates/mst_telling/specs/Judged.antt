@@ -6,6 +6,7 @@ use Rattle.mst_rows.specs.Lines.{row_line}
 use Rattle.mst_rows.specs.Rows.{Row}
 use Rattle.mst_lang.specs.declared.line.Fault.{Fault}
 use Rattle.mst_policy.specs.declared.expectation.Promise.{Promise}
+use Rattle.mst_policy.specs.declared.expectation.Scope.{Scope}
 use Rattle.mst_reasons.specs.sweep.declared.failure.Failure.{Failure}
 use Rattle.mst_reasons.specs.Judged.{asks_at}
 use Rattle.mst_tables.specs.Tables.{Net}
@@ -14,13 +15,16 @@ use Rattle.mst_policy.specs.declared.policy.PolicyLine.{PolicyLine}
 use Rattle.mst_reasons.specs.Named.{Prior}
 use Rattle.mst_reasons.specs.declared.missing.Missing.{Missing}
 use Rattle.mst_reasons.specs.declared.reason.Reason.{Reason}
-use Rattle.mst_telling.specs.Told.{AreFound, Found, found_rows, has_reason, is_judged_at, lacked, missing_rows, unread_by}
+use Rattle.mst_telling.specs.Lines.{unkept_by}
+use Rattle.mst_telling.specs.Once.{rows_now}
+use Rattle.mst_telling.specs.Told.{AreFound, Found, has_reason, is_judged_at, lacked, missing_rows, unread_by}
 use Rattle.mst_telling.specs.Steps.{Change}
 use Rattle.mst_telling.specs.Texts.{same_line}
 use Rattle.mst_telling.specs.Verified.{Counts, joined, rows_of_read}
 use Rattle.mst_telling.specs.declared.judgement.Finding.{Finding}
 use Rattle.mst_telling.specs.declared.judgement.Judgement.{Judgement}
 use Rattle.mst_telling.specs.declared.once.Folding.{Folding}
+use Rattle.mst_telling.specs.declared.reason.At.{At}
 use Rattle.mst_telling.specs.declared.texts.Texts.{Texts}
 use Rattle.mst_telling.specs.declared.verified.Verdict.{Verdict}
 
@@ -47,7 +51,7 @@ line_lacks n judgement = slice_index_or judgement.missing.items n None
 
 -- its rows
 abbrev pub line_rows : ℕ → PolicyLine → Judgement → List Row
-line_rows n line judgement = missing_rows line.number (line_lacks n judgement) ++ found_rows line.number (line_found n judgement.found.items)
+line_rows n line judgement = missing_rows line.number (line_lacks n judgement) ++ unkept_by line.number line.read (line_found n judgement.found.items)
 
 -- those of each line
 abbrev pub told_in : List PolicyLine → Judgement → List (List Row)
@@ -86,6 +90,14 @@ AreTexts rows texts = (text : List ℕ) → list_any (λ key. same_line text key
 abbrev pub FoldsBy : List Row → Folding → Type 0
 FoldsBy nows folding = AreTexts nows folding.nows
 
+-- so of a line with this scope of which this was found. Its rows stand there, and those of these texts aren't put again
+pub record IsFoldingOf (at : At) (scope : Scope) (found : List Found) (told : Texts) (folding : Folding) : Type 0 where
+  pub step : folding.step ≡ at.step
+  pub number : folding.number ≡ at.number
+  pub scope_is : folding.scope.now ≡ scope
+  pub told_is : folding.told.now ≡ told
+  pub folds : FoldsBy (rows_now at.number found) folding
+
 -- ---- what was judged
 -- this line stands at this place
 pub record StandsAt (lines : List PolicyLine) (n : ℕ) (line : PolicyLine) : Type 0 where
@@ -93,9 +105,9 @@ pub record StandsAt (lines : List PolicyLine) (n : ℕ) (line : PolicyLine) : Ty
   pub is : get_or lines n line ≡ line
 
 -- what is kept of a line is what the network tells of it
-pub record IsKeptOf (once : Bool) (net : Net) (o : Outcome) (prior : Prior) (n : ℕ) (line : PolicyLine) (judgement : Judgement) : Type 0 where
+pub record IsKeptOf (net : Net) (o : Outcome) (prior : Prior) (n : ℕ) (line : PolicyLine) (judgement : Judgement) : Type 0 where
   pub lacks : line_lacks n judgement ≡ lacked net line.read
-  pub found : AreFound once net o prior line (line_found n judgement.found.items)
+  pub found : AreFound net o prior line (line_found n judgement.found.items)
 
 -- nothing is kept of one
 pub record NoneIsKeptOf (n : ℕ) (judgement : Judgement) : Type 0 where
@@ -103,9 +115,9 @@ pub record NoneIsKeptOf (n : ℕ) (judgement : Judgement) : Type 0 where
   pub found : line_found n judgement.found.items ≡ []
 
 -- all of the lines were judged in a network, each that is judged there
-abbrev pub AreLinesJudged : Bool → Net → Outcome → Prior → Bool → List PolicyLine → Judgement → Type 0
-AreLinesJudged once net o prior is_last lines judgement =
-    (n : ℕ) (line : PolicyLine) → StandsAt lines n line → MatchBool (is_judged_at is_last line) (IsKeptOf once net o prior n line judgement) (NoneIsKeptOf n judgement)
+abbrev pub AreLinesJudged : Net → Outcome → Prior → Bool → List PolicyLine → Judgement → Type 0
+AreLinesJudged net o prior is_last lines judgement =
+    (n : ℕ) (line : PolicyLine) → StandsAt lines n line → MatchBool (is_judged_at is_last line) (IsKeptOf net o prior n line judgement) (NoneIsKeptOf n judgement)
 
 -- ---- rows that were put
 -- a printer grew by these rows

@@ -1,6 +1,7 @@
 pub mod Judged
 pub mod NoneLost
 pub mod Once
+pub mod Lines
 pub mod Rows
 pub mod Steps
 pub mod Texts

@@ -35,9 +35,12 @@ is_left_out n scope nows (Some failure) reason = not (names_it scope failure) &&
 abbrev pub left_out : ℕ → Scope → List Row → Found → List Row
 left_out n scope nows f = reason_rows n None (filter (is_left_out n scope nows f.place) f.reasons)
 
--- the rows of the others after a failure
+-- the rows of the others in a place, and of a failure
+abbrev pub kept_rows : ℕ → Scope → List Row → Option Failure → List Reason → List Row
+kept_rows n scope nows place reasons = reason_rows n place (filter (λ reason. not (is_left_out n scope nows place reason)) reasons)
+
 abbrev pub others : ℕ → Scope → List Row → Found → List Row
-others n scope nows f = if is_now f.place then [] else reason_rows n f.place (filter (λ reason. not (is_left_out n scope nows f.place reason)) f.reasons)
+others n scope nows f = if is_now f.place then [] else kept_rows n scope nows f.place f.reasons
 
 -- what the network itself gives is told where its scope has that, and else where a failure has left it out
 abbrev pub told_now : Scope → List Row → List Row → List Row
@@ -52,3 +55,7 @@ abbrev pub once_rows : ℕ → Scope → List Row → List Found → List Row
 once_rows n scope nows found =
     told_now scope nows (flat_map (left_out n scope nows) found) ++ same_rows n (count_by (λ f. has_any (left_out n scope nows f)) found)
     ++ flat_map (others n scope nows) found
+
+-- what the network itself gives, and what else failures give
+abbrev pub folded_rows : ℕ → Scope → List Row → List Found → List Row
+folded_rows n scope nows found = told_now scope nows (flat_map (left_out n scope nows) found) ++ flat_map (others n scope nows) found

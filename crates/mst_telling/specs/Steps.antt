@@ -1,8 +1,10 @@
 -- The rows of a policy in front of the steps of a change and behind each.
-use Rattle.std.specs.Prelude.{◌&&◌, ◌==◌, not, Bool, true, ℕ, List, [], ◌∷◌, ◌++◌, count_by, filter, map, nat_lt, if◌then◌else◌}
+use Rattle.std.specs.Prelude.{◌&&◌, ◌==◌, not, Bool, true, false, ℕ, List, [], ◌∷◌, ◌++◌, Result, Ok, Err, count_by, filter, map, nat_lt, if◌then◌else◌}
 use Rattle.std.specs.List.{flat_map, list_any}
 use Rattle.mst_rows.specs.Rows.{Row}
 use Rattle.mst_graph.specs.Lists.{has_any}
+use Rattle.mst_lang.specs.declared.line.Fault.{Fault}
+use Rattle.mst_policy.specs.declared.expectation.Promise.{Promise}
 use Rattle.mst_policy.specs.declared.policy.PolicyLine.{PolicyLine}
 use Rattle.mst_telling.specs.Rows.{behind, is_refusal, mends_row, nothing_row, start_row}
 use Rattle.mst_telling.specs.Texts.{news}
@@ -51,9 +53,17 @@ is_broken c = not (has_any c.before) && has_any c.now
 abbrev pub judged_rows : ℕ → List Change → List Row
 judged_rows step all = map (behind step) (flat_map new_refused all ++ flat_map new_fails all) ++ flat_map (mends step) all
 
--- a step breaks a promise: some line is unkept that wasn't so before
+-- a line with `finally` is a promise of the end alone
+abbrev pub is_final : Result Promise Fault → Bool
+is_final (Err fault) = false
+is_final (Ok promise) = promise.is_final
+
+-- a step breaks a promise: some line is unkept that wasn't so before, and it isn't one of the end alone, of which nobody knows the step that broke it
+abbrev pub is_broken_by_step : Change → Bool
+is_broken_by_step c = not (is_final c.line.read) && is_broken c
+
 abbrev pub breaks : List Change → Bool
-breaks all = list_any is_broken all
+breaks all = list_any is_broken_by_step all
 
 -- how many lines are unkept in a network
 abbrev pub unkept_count : List (List Row) → ℕ

@@ -1,5 +1,5 @@
 -- The rows of a line of a policy in a network.
-use Rattle.std.specs.Prelude.{◌≡◌, ◌↔◌, ◌&&◌, ◌||◌, not, is_some, Bool, true, false, ℕ, List, [], ◌∷◌, ◌++◌, Option, None, Some, Result, Ok, Err, MatchBool, MatchOption, filter, map, if◌then◌else◌}
+use Rattle.std.specs.Prelude.{◌≡◌, ◌&&◌, ◌||◌, not, is_some, Bool, true, false, ℕ, List, [], ◌∷◌, ◌++◌, Option, None, Some, Result, Ok, Err, MatchOption, filter, map, if◌then◌else◌}
 use Rattle.std.specs.List.{AllZip, flat_map, list_any}
 use Rattle.std.specs.Option.{option_and_then}
 use Rattle.mst_lang.specs.Faults as scripts
@@ -17,7 +17,7 @@ use Rattle.mst_policy.specs.declared.expectation.Scope.TheVariants as scope
 use Rattle.mst_policy.specs.declared.item.NameItem.{NameItem}
 use Rattle.mst_policy.specs.declared.item.NameItem.TheVariants.{Is, Begins, Any}
 use Rattle.mst_policy.specs.declared.policy.PolicyLine.{PolicyLine}
-use Rattle.mst_reasons.specs.Judged.{IsKept, asks_at, places}
+use Rattle.mst_reasons.specs.Judged.{asks_at, places}
 use Rattle.mst_reasons.specs.Missing.{missing}
 use Rattle.mst_reasons.specs.Named.{Prior}
 use Rattle.mst_reasons.specs.Placed.{AreReasonsAt}
@@ -81,18 +81,18 @@ is_now None = true
 is_now (Some failure) = false
 
 -- ---- where a line isn't kept
--- a place is looked at for a line: the line is judged there, or what the network itself tells of it is wanted, and that is the place
-abbrev pub looks_at : Bool → Bool → Promise → Option Failure → Bool
-looks_at once has_prior promise place = once && (tells_once promise.scope && is_now place) || asks_at has_prior promise place
+-- a place is looked at for a line: the line is judged there, or what the network itself gives isn't told again of failures, and that is the place
+abbrev pub looks_at : Bool → Promise → Option Failure → Bool
+looks_at has_prior promise place = tells_once promise.scope && is_now place || asks_at has_prior promise place
 
 -- what a line expects there, if it is looked at
-abbrev pub expected_at : Bool → Net → Bool → PolicyLine → Option Failure → Option Expectation
-expected_at once net has_prior line place = option_and_then (λ promise. if looks_at once has_prior promise place then Some promise.expectation else None) (judged net line)
+abbrev pub expected_at : Net → Bool → PolicyLine → Option Failure → Option Expectation
+expected_at net has_prior line place = option_and_then (λ promise. if looks_at has_prior promise place then Some promise.expectation else None) (judged net line)
 
 -- why it doesn't hold there: for no reason, where the place isn't looked at
-abbrev pub AreLineReasons : Bool → Net → Outcome → Prior → PolicyLine → Option Failure → List Reason → Type 0
-AreLineReasons once net o prior line place reasons =
-    MatchOption (expected_at once net (is_some prior) line place) (reasons ≡ []) (λ expectation. AreReasonsAt net o prior place expectation reasons)
+abbrev pub AreLineReasons : Net → Outcome → Prior → PolicyLine → Option Failure → List Reason → Type 0
+AreLineReasons net o prior line place reasons =
+    MatchOption (expected_at net (is_some prior) line place) (reasons ≡ []) (λ expectation. AreReasonsAt net o prior place expectation reasons)
 
 -- a place, and why a line isn't kept there
 pub record Found : Type 0 where
@@ -102,19 +102,19 @@ pub record Found : Type 0 where
 abbrev pub has_reason : Found → Bool
 has_reason f = has_any f.reasons
 
-pub record IsFoundAt (once : Bool) (net : Net) (o : Outcome) (prior : Prior) (line : PolicyLine) (place : Option Failure) (f : Found) : Type 0 where
+pub record IsFoundAt (net : Net) (o : Outcome) (prior : Prior) (line : PolicyLine) (place : Option Failure) (f : Found) : Type 0 where
   pub at : f.place ≡ place
-  pub are : AreLineReasons once net o prior line place f.reasons
+  pub are : AreLineReasons net o prior line place f.reasons
 
 -- of some places those at which a line isn't kept, in their order, and why
-pub record AreFoundIn (once : Bool) (net : Net) (o : Outcome) (prior : Prior) (line : PolicyLine) (some : List (Option Failure)) (found : List Found) : Type 0 where
+pub record AreFoundIn (net : Net) (o : Outcome) (prior : Prior) (line : PolicyLine) (some : List (Option Failure)) (found : List Found) : Type 0 where
   pub all : List Found
-  pub each : AllZip (IsFoundAt once net o prior line) some all
+  pub each : AllZip (IsFoundAt net o prior line) some all
   pub are : found ≡ filter has_reason all
 
 -- and of all places: the network itself, and then that of each failure
-abbrev pub AreFound : Bool → Net → Outcome → Prior → PolicyLine → List Found → Type 0
-AreFound once net o prior line found = AreFoundIn once net o prior line (places net) found
+abbrev pub AreFound : Net → Outcome → Prior → PolicyLine → List Found → Type 0
+AreFound net o prior line found = AreFoundIn net o prior line (places net) found
 
 -- the rows of reasons in a place, and of all that was found
 abbrev pub reason_rows : ℕ → Option Failure → List Reason → List Row
@@ -123,17 +123,7 @@ reason_rows n place reasons = map (reason_row n place) reasons
 abbrev pub found_rows : ℕ → List Found → List Row
 found_rows n found = flat_map (λ f. reason_rows n f.place f.reasons) found
 
--- ---- a line
--- these rows tell that a line is refused, or why it isn't kept
-pub record IsLineTold (net : Net) (o : Outcome) (prior : Prior) (line : PolicyLine) (rows : List Row) : Type 0 where
-  pub found : List Found
-  pub are_found : AreFound false net o prior line found
-  pub are : rows ≡ lacking_rows net line ++ found_rows line.number found
-
--- a line that is judged has no rows just where its promise is kept. One that isn't has no more than the row that refuses it
-abbrev pub IsToldWhereUnkept : Net → Outcome → Prior → PolicyLine → List Row → Type 0
-IsToldWhereUnkept net o prior line rows = MatchOption (judged net line) (rows ≡ lacking_rows net line) (λ promise. (rows ≡ []) ↔ IsKept net o prior promise)
-
+-- ---- several networks
 -- a line is judged in one of several networks: it can be read, and is no promise of the last of them alone, unless this is the last
 abbrev pub is_due : Bool → Result Promise Fault → Bool
 is_due is_last (Err fault) = false
@@ -141,11 +131,3 @@ is_due is_last (Ok promise) = is_last || not promise.is_final
 
 abbrev pub is_judged_at : Bool → PolicyLine → Bool
 is_judged_at is_last line = is_due is_last line.read
-
--- these rows are told of a line there
-abbrev pub IsToldThere : Bool → Net → Outcome → Prior → PolicyLine → List Row → Type 0
-IsToldThere is_last net o prior line rows = MatchBool (is_judged_at is_last line) (IsLineTold net o prior line rows) (rows ≡ [])
-
--- and these of each line
-abbrev pub AreLinesTold : Net → Outcome → Prior → Bool → List PolicyLine → List (List Row) → Type 0
-AreLinesTold net o prior is_last lines told = AllZip (IsToldThere is_last net o prior) lines told

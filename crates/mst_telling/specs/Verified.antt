@@ -35,7 +35,7 @@ rows_of_read n (Ok promise) found = verdict_rows n promise found
 -- these rows tell why a line isn't kept
 pub record IsVerdict (net : Net) (o : Outcome) (line : PolicyLine) (rows : List Row) : Type 0 where
   pub found : List Found
-  pub are_found : AreFound true net o None line found
+  pub are_found : AreFound net o None line found
   pub are : rows ≡ rows_of_read line.number line.read found
 
 -- a line that is judged has no rows just where its promise is kept. One that isn't has none

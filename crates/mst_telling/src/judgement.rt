@@ -1,10 +1,8 @@
-ghost use Rattle.std.specs.Prelude.{◌≡◌, ◌∷◌, ◌++◌, [], List, ℕ, OnOk, if◌then◌else◌, map};
-ghost use Rattle.std.specs.List.{list_any};
+ghost use Rattle.std.specs.Prelude.{◌≡◌, ◌++◌, List, OnOk, if◌then◌else◌, map};
 ghost use Rattle.mst_policy.specs.declared.policy.PolicyLine.{PolicyLine as LineOf};
 ghost use Rattle.mst_rows.specs.Rows.{Row};
-ghost use Rattle.mst_graph.specs.Lists.{has_any};
-ghost use Rattle.mst_telling.specs.Judged.{found_at, line_lacks, line_rows, told_in};
-ghost use Rattle.mst_telling.specs.Rows.{reason_row, row_at};
+ghost use Rattle.mst_telling.specs.Judged.{found_at, line_lacks, told_in};
+ghost use Rattle.mst_telling.specs.Rows.{row_at};
 ghost use Rattle.mst_telling.specs.Steps.{no_rows};
 ghost use Rattle.mst_telling.specs.Told.{found_rows, reason_rows};
 
@@ -61,13 +59,6 @@ impl Judgement {
             None => None,
         }
     }
-
-    /// Whether the line at a place of the list is unkept: it is refused, or has a reason.
-    pub(crate) fn is_unkept(&self, n: usize) -> bool
-        ensures { (line : LineOf) → result ≡ has_any (line_rows n line self.now) }
-    {
-        self.lacks(n).is_some() | has_reasons(n, self.found.as_slice())
-    }
 }
 
 /// One, where it is so.
@@ -75,33 +66,6 @@ pub(crate) fn one_if(is_so: bool) -> u64
     ensures { result ≡ (if is_so then 1 else 0) }
 {
     if is_so { 1 } else { 0 }
-}
-
-/// Whether the line at a place of the list has a reason.
-pub(crate) fn has_reasons(n: usize, found: &[Finding]) -> bool
-    ensures { result ≡ list_any (λ f. has_any (found_at n f).reasons) found.now }
-{
-    found
-        .iter()
-        .any(|finding| !finding.reasons_of(n).is_empty())
-}
-
-/// Puts a reason in a place, if that is wanted.
-pub(crate) fn put_if<R: Rows>(
-    alloc: Global,
-    is_wanted: bool,
-    at: At,
-    place: &Option<Failure>,
-    reason: &Reason,
-    out: &mut R,
-) -> Result<(), AllocError>
-    ensures { (first : R) (rows : List Row) → R.grew first out.old rows
-        → OnOk result (R.grew first out.new (rows ++ (if is_wanted then row_at at.step (reason_row at.number place.now reason.now) ∷ [] else []))) }
-{
-    if !is_wanted {
-        return Ok(());
-    }
-    put_reason(alloc, at, place, reason, out)
 }
 
 /// Puts why a line isn't kept in one place.

@@ -3,15 +3,18 @@
 //! Rows are told of reasons, whoever found them: nothing is judged here.
 #![tactic(auto)]
 
+mod broken;
 mod judgement;
 mod lacking;
 pub mod laws;
+mod news;
 mod once;
 mod promises;
 mod reason;
 mod refused;
 mod steps;
 mod texts;
+mod unkept;
 mod verified;
 
 pub use judgement::{Finding, Judgement};

@@ -3,13 +3,14 @@ ghost use Rattle.std.specs.List.{flat_map, list_any};
 ghost use Rattle.mst_rows.specs.Rows.{Row};
 ghost use Rattle.mst_graph.specs.Lists.{has_any};
 ghost use Rattle.mst_reasons.specs.Judged.{asks_at};
-ghost use Rattle.mst_telling.specs.Judged.{AreTexts, FoldsBy, found_at};
-ghost use Rattle.mst_telling.specs.Once.{is_left_out as is_left, left_out, names_it as scope_names, now_at, once_rows, others, rows_now, same_rows, told_now};
+ghost use Rattle.mst_telling.specs.Judged.{AreTexts, FoldsBy, IsFoldingOf, found_at};
+ghost use Rattle.mst_telling.specs.Once.{folded_rows, is_left_out as is_left, kept_rows, left_out, names_it as scope_names, now_at, once_rows, others, rows_now, same_rows, told_now};
 ghost use Rattle.mst_telling.specs.Rows.{reason_row, row_at};
-ghost use Rattle.mst_telling.specs.Texts.{is_told};
+ghost use Rattle.mst_telling.specs.Texts.{is_told, news};
 ghost use Rattle.mst_telling.specs.Told.{is_open as item_is_open, looks_at, reason_rows, tells_once as scope_tells_once};
 
-use crate::judgement::{Finding, one_if, put_if, put_reasons};
+use crate::judgement::{Finding, one_if};
+use crate::news::{put_if_new, put_unless};
 use crate::reason::{At, reason_text};
 use crate::texts::Texts;
 use mst_kinds::{Kind, VerifyLine};
@@ -18,12 +19,15 @@ use mst_reasons::{Failure, Reason, asks, asks_now, has_now};
 use mst_rows::{Rows, Value, put};
 use std::alloc::{AllocError, Global};
 
-/// What a line is told once by: its number, its scope, and the lines of text of what the network itself gives.
+/// What a line is told once by: where its rows stand, its scope, the lines of text of what the network itself gives, and those that aren't
+/// put again.
 #[derive(Drop)]
 pub(crate) struct Folding<'a> {
+    step: Option<u64>,
     number: u64,
     scope: &'a Scope,
     nows: Texts,
+    told: &'a Texts,
 }
 
 /// Whether an item has a `*`.
@@ -56,12 +60,11 @@ pub(crate) fn tells_once(scope: &Scope) -> bool
     }
 }
 
-/// Whether a place is looked at for a promise: it is judged there, or what the network itself gives is told once, if that is asked for,
-/// and that is the place.
-pub fn is_looked_at(once: bool, has_prior: bool, promise: &Promise, place: &Option<Failure>) -> bool
-    ensures { result ≡ looks_at once has_prior promise.now place.now }
+/// Whether a place is looked at for a promise: it is judged there, or what the network itself gives is told once, and that is the place.
+pub fn is_looked_at(has_prior: bool, promise: &Promise, place: &Option<Failure>) -> bool
+    ensures { result ≡ looks_at has_prior promise.now place.now }
 {
-    (once && tells_once(&promise.scope) && place.is_none()) || is_asked(has_prior, promise, place)
+    (tells_once(&promise.scope) && place.is_none()) || is_asked(has_prior, promise, place)
 }
 
 /// Whether a promise is judged in a place.
@@ -91,7 +94,7 @@ fn names_it(scope: &Scope, failure: &Failure) -> bool
 }
 
 /// Adds the lines of text of reasons in a place to these.
-pub(crate) fn add_reasons(
+fn add_reasons(
     alloc: Global,
     number: u64,
     place: &Option<Failure>,
@@ -131,6 +134,38 @@ fn texts_now(alloc: Global, number: u64, n: usize, found: &[Finding]) -> Result<
         add_now(alloc, number, n, finding, &mut texts)?;
     }
     Ok(texts)
+}
+
+impl<'a> Folding<'a> {
+    /// Of the line at a place of the list, by what was found.
+    fn new(
+        alloc: Global,
+        at: At,
+        scope: &'a Scope,
+        n: usize,
+        found: &[Finding],
+        told: &'a Texts,
+    ) -> Result<Folding<'a>, AllocError>
+        ensures { IfOk result (λ folding. IsFoldingOf at scope.now (map (found_at n) found.now) told.now folding) }
+    {
+        Ok(Folding {
+            step: at.step,
+            number: at.number,
+            scope,
+            nows: texts_now(alloc, at.number, n, found)?,
+            told,
+        })
+    }
+
+    /// Where its rows stand.
+    fn at(&self) -> At
+        ensures { result ≡ record { step = self.now.step; number = self.now.number } }
+    {
+        At {
+            step: self.step,
+            number: self.number,
+        }
+    }
 }
 
 /// Whether a reason in a place is left out.
@@ -215,20 +250,22 @@ fn add_all_left(
     Ok(count)
 }
 
-/// Puts those of these reasons in the network itself whose line of text is among these.
+/// Puts those of these reasons in the network itself whose line of text is among the one, and isn't among the others.
 fn put_told<R: Rows>(
     alloc: Global,
     at: At,
     reasons: &[Reason],
     left: &Texts,
+    told: &Texts,
     out: &mut R,
 ) -> Result<(), AllocError>
-    ensures { (those : List Row) → AreTexts those left.now → (first : R) (rows : List Row) → R.grew first out.old rows
-        → OnOk result (R.grew first out.new (rows ++ map (row_at at.step) (filter (is_told those) (reason_rows at.number None reasons.now)))) }
+    ensures { (those before : List Row) → AreTexts those left.now → AreTexts before told.now → (first : R) (rows : List Row) → R.grew first out.old rows
+        → OnOk result (R.grew first out.new (rows ++ map (row_at at.step) (news before (filter (is_told those) (reason_rows at.number None reasons.now))))) }
 {
     for reason in reasons {
         let text = reason_text(alloc, at.number, &None, reason)?;
-        put_if(alloc, left.has(text.as_slice()), at, &None, reason, out)?;
+        let is_left = left.has(text.as_slice());
+        put_if_new(alloc, is_left, at, &None, reason, told, out)?;
     }
     Ok(())
 }
@@ -241,16 +278,13 @@ fn put_told_now<R: Rows>(
     left: &Texts,
     out: &mut R,
 ) -> Result<(), AllocError>
-    ensures { (those : List Row) → AreTexts those left.now → (first : R) (rows : List Row) → R.grew first out.old rows
-        → OnOk result (R.grew first out.new (rows ++ told_now folding.now.scope.now (reason_rows folding.now.number None reasons.now) those)) }
+    ensures { (those before : List Row) → AreTexts those left.now → AreTexts before folding.now.told.now → (first : R) (rows : List Row) → R.grew first out.old rows
+        → OnOk result (R.grew first out.new (rows ++ map (row_at folding.now.step) (news before (told_now folding.now.scope.now (reason_rows folding.now.number None reasons.now) those)))) }
 {
-    let at = At {
-        step: None,
-        number: folding.number,
-    };
+    let at = folding.at();
     match has_now(folding.scope) {
-        true => put_reasons(alloc, at, &None, reasons, out),
-        false => put_told(alloc, at, reasons, left, out),
+        true => put_unless(alloc, at, &None, reasons, folding.told, out),
+        false => put_told(alloc, at, reasons, left, folding.told, out),
     }
 }
 
@@ -263,8 +297,8 @@ fn put_now_at<R: Rows>(
     left: &Texts,
     out: &mut R,
 ) -> Result<(), AllocError>
-    ensures { (those : List Row) → AreTexts those left.now → (first : R) (rows : List Row) → R.grew first out.old rows
-        → OnOk result (R.grew first out.new (rows ++ told_now folding.now.scope.now (now_at folding.now.number (found_at n finding.now)) those)) }
+    ensures { (those before : List Row) → AreTexts those left.now → AreTexts before folding.now.told.now → (first : R) (rows : List Row) → R.grew first out.old rows
+        → OnOk result (R.grew first out.new (rows ++ map (row_at folding.now.step) (news before (told_now folding.now.scope.now (now_at folding.now.number (found_at n finding.now)) those)))) }
 {
     match &finding.place {
         Some(_) => Ok(()),
@@ -281,8 +315,8 @@ fn put_now<R: Rows>(
     left: &Texts,
     out: &mut R,
 ) -> Result<(), AllocError>
-    ensures { (those : List Row) → AreTexts those left.now → (first : R) (rows : List Row) → R.grew first out.old rows
-        → OnOk result (R.grew first out.new (rows ++ told_now folding.now.scope.now (rows_now folding.now.number (map (found_at n) found.now)) those)) }
+    ensures { (those before : List Row) → AreTexts those left.now → AreTexts before folding.now.told.now → (first : R) (rows : List Row) → R.grew first out.old rows
+        → OnOk result (R.grew first out.new (rows ++ map (row_at folding.now.step) (news before (told_now folding.now.scope.now (rows_now folding.now.number (map (found_at n) found.now)) those)))) }
 {
     for finding in found {
         put_now_at(alloc, folding, n, finding, left, out)?;
@@ -309,16 +343,13 @@ fn put_kept<R: Rows>(
     reasons: &[Reason],
     out: &mut R,
 ) -> Result<(), AllocError>
-    ensures { (nows : List Row) → FoldsBy nows folding.now → (first : R) (rows : List Row) → R.grew first out.old rows
-        → OnOk result (R.grew first out.new (rows ++ reason_rows folding.now.number place.now (filter (λ reason. not (is_left folding.now.number folding.now.scope.now nows place.now reason)) reasons.now))) }
+    ensures { (nows before : List Row) → FoldsBy nows folding.now → AreTexts before folding.now.told.now → (first : R) (rows : List Row) → R.grew first out.old rows
+        → OnOk result (R.grew first out.new (rows ++ map (row_at folding.now.step) (news before (kept_rows folding.now.number folding.now.scope.now nows place.now reasons.now)))) }
 {
-    let at = At {
-        step: None,
-        number: folding.number,
-    };
+    let at = folding.at();
     for reason in reasons {
         let is_left = is_left_out(alloc, folding, place, reason)?;
-        put_if(alloc, !is_left, at, place, reason, out)?;
+        put_if_new(alloc, !is_left, at, place, reason, folding.told, out)?;
     }
     Ok(())
 }
@@ -331,8 +362,8 @@ fn put_others<R: Rows>(
     finding: &Finding,
     out: &mut R,
 ) -> Result<(), AllocError>
-    ensures { (nows : List Row) → FoldsBy nows folding.now → (first : R) (rows : List Row) → R.grew first out.old rows
-        → OnOk result (R.grew first out.new (rows ++ others folding.now.number folding.now.scope.now nows (found_at n finding.now))) }
+    ensures { (nows before : List Row) → FoldsBy nows folding.now → AreTexts before folding.now.told.now → (first : R) (rows : List Row) → R.grew first out.old rows
+        → OnOk result (R.grew first out.new (rows ++ map (row_at folding.now.step) (news before (others folding.now.number folding.now.scope.now nows (found_at n finding.now))))) }
 {
     match &finding.place {
         None => Ok(()),
@@ -348,8 +379,8 @@ fn put_all_others<R: Rows>(
     found: &[Finding],
     out: &mut R,
 ) -> Result<(), AllocError>
-    ensures { (nows : List Row) → FoldsBy nows folding.now → (first : R) (rows : List Row) → R.grew first out.old rows
-        → OnOk result (R.grew first out.new (rows ++ flat_map (others folding.now.number folding.now.scope.now nows) (map (found_at n) found.now))) }
+    ensures { (nows before : List Row) → FoldsBy nows folding.now → AreTexts before folding.now.told.now → (first : R) (rows : List Row) → R.grew first out.old rows
+        → OnOk result (R.grew first out.new (rows ++ map (row_at folding.now.step) (news before (flat_map (others folding.now.number folding.now.scope.now nows) (map (found_at n) found.now))))) }
 {
     for finding in found {
         put_others(alloc, folding, n, finding, out)?;
@@ -357,7 +388,7 @@ fn put_all_others<R: Rows>(
     Ok(())
 }
 
-/// Puts why the line at a place of the list isn't kept, what is told once in front.
+/// Puts why the line at a place of the list isn't kept, what is told once in front, and after how many failures something was left out.
 pub(crate) fn put_once<R: Rows>(
     alloc: Global,
     number: u64,
@@ -369,15 +400,33 @@ pub(crate) fn put_once<R: Rows>(
     ensures { (first : R) (rows : List Row) → R.grew first out.old rows
         → OnOk result (R.grew first out.new (rows ++ once_rows number scope.now (rows_now number (map (found_at n) found.now)) (map (found_at n) found.now))) }
 {
-    let nows = texts_now(alloc, number, n, found)?;
-    let folding = Folding {
-        number,
-        scope,
-        nows,
-    };
+    let told = Texts::new(alloc);
+    let at = At { step: None, number };
+    let folding = Folding::new(alloc, at, scope, n, found, &told)?;
     let mut left = Texts::new(alloc);
     let count = add_all_left(alloc, &folding, n, found, &mut left)?;
     put_now(alloc, &folding, n, found, &left, out)?;
     put_same(number, count, out)?;
+    put_all_others(alloc, &folding, n, found, out)
+}
+
+/// Puts the same in one of several networks, but not after how many failures something was left out, and nothing whose line of text is among
+/// these.
+pub(crate) fn put_folded<R: Rows>(
+    alloc: Global,
+    at: At,
+    scope: &Scope,
+    n: usize,
+    found: &[Finding],
+    told: &Texts,
+    out: &mut R,
+) -> Result<(), AllocError>
+    ensures { (before : List Row) → AreTexts before told.now → (first : R) (rows : List Row) → R.grew first out.old rows
+        → OnOk result (R.grew first out.new (rows ++ map (row_at at.step) (news before (folded_rows at.number scope.now (rows_now at.number (map (found_at n) found.now)) (map (found_at n) found.now))))) }
+{
+    let folding = Folding::new(alloc, at, scope, n, found, told)?;
+    let mut left = Texts::new(alloc);
+    add_all_left(alloc, &folding, n, found, &mut left)?;
+    put_now(alloc, &folding, n, found, &left, out)?;
     put_all_others(alloc, &folding, n, found, out)
 }

@@ -1,21 +1,20 @@
 ghost use Rattle.std.specs.Prelude.{◌≡◌, ◌++◌, ◌∷◌, [], List, IfOk, OnOk, length, map};
 ghost use Rattle.std.specs.List.{flat_map};
-ghost use Rattle.mst_policy.specs.declared.policy.PolicyLine.{PolicyLine as LineOf};
 ghost use Rattle.mst_rows.specs.Rows.{Row};
-ghost use Rattle.mst_telling.specs.Judged.{AreTexts, change_at, each_from, found_at, line_rows, told_in};
-ghost use Rattle.mst_telling.specs.Rows.{behind, missing_row, row_at, start_row};
-ghost use Rattle.mst_telling.specs.Steps.{breaks as breaks_of, changes, front_rows, is_broken as is_broken_in, judged_rows, mends, new_fails, new_refused, nothing_rows, start_rows, unkept_count as unkept_in};
-ghost use Rattle.mst_telling.specs.Texts.{news};
-ghost use Rattle.mst_telling.specs.Told.{found_rows, missing_rows, reason_rows, unread_rows};
+ghost use Rattle.mst_telling.specs.Judged.{change_at, each_from, told_in};
+ghost use Rattle.mst_telling.specs.Rows.{behind, start_row};
+ghost use Rattle.mst_telling.specs.Steps.{breaks as breaks_of, changes, front_rows, is_broken_by_step, is_final as is_final_by, judged_rows, mends, new_fails, new_refused, nothing_rows, start_rows, unkept_count as unkept_in};
+ghost use Rattle.mst_telling.specs.Told.{unread_rows};
 
-use crate::judgement::{Finding, Judgement, one_if, put_if};
-use crate::once::add_reasons;
-use crate::reason::{At, reason_text};
-use crate::refused::{missing_text, put_missing, put_unread};
-use crate::texts::Texts;
+use crate::broken::is_unkept;
+use crate::judgement::{Judgement, one_if};
+use crate::news::put_missing_unless;
+use crate::reason::At;
+use crate::refused::{put_missing, put_unread};
+use crate::unkept::{put_unkept, texts_of};
 use mst_kinds::{Kind, StepLine};
 use mst_policy::PolicyLine;
-use mst_reasons::{Failure, Missing, Reason};
+use mst_reasons::Missing;
 use mst_rows::{Rows, Value, put};
 use std::alloc::{AllocError, Global};
 
@@ -64,72 +63,6 @@ pub fn put_front<R: Rows>(lines: &[PolicyLine], out: &mut R) -> Result<u64, Allo
     Ok(nothing + unread)
 }
 
-/// Adds the line of text of what a line lacks to these, if it lacks something.
-fn add_missing(
-    alloc: Global,
-    number: u64,
-    missing: Option<Missing>,
-    texts: &mut Texts,
-) -> Result<(), AllocError>
-    ensures { (rows : List Row) → AreTexts rows texts.old → OnOk result (AreTexts (rows ++ missing_rows number missing) texts.new) }
-{
-    match missing {
-        None => Ok(()),
-        Some(missing) => texts.add(missing_text(alloc, number, missing)?),
-    }
-}
-
-/// The lines of text of the line at a place of the list.
-fn texts_of(
-    alloc: Global,
-    line: &PolicyLine,
-    n: usize,
-    judgement: &Judgement,
-) -> Result<Texts, AllocError>
-    ensures { IfOk result (AreTexts (line_rows n line.now judgement.now)) }
-{
-    let mut texts = Texts::new(alloc);
-    let missing = judgement.lacks(n);
-    let found = judgement.found.as_slice();
-    add_missing(alloc, line.number, missing, &mut texts)?;
-    add_found(alloc, line.number, n, found, &mut texts)?;
-    Ok(texts)
-}
-
-/// Adds the lines of text of all reasons of the line at a place of the list to these.
-fn add_found(
-    alloc: Global,
-    number: u64,
-    n: usize,
-    found: &[Finding],
-    texts: &mut Texts,
-) -> Result<(), AllocError>
-    ensures { (rows : List Row) → AreTexts rows texts.old → OnOk result (AreTexts (rows ++ found_rows number (map (found_at n) found.now)) texts.new) }
-{
-    for finding in found {
-        add_reasons(alloc, number, &finding.place, finding.reasons_of(n), texts)?;
-    }
-    Ok(())
-}
-
-/// Puts what a line lacks, unless its line of text is among these.
-fn put_missing_unless<R: Rows>(
-    alloc: Global,
-    at: At,
-    missing: Missing,
-    texts: &Texts,
-    out: &mut R,
-) -> Result<(), AllocError>
-    ensures { (those : List Row) → AreTexts those texts.now → (first : R) (rows : List Row) → R.grew first out.old rows
-        → OnOk result (R.grew first out.new (rows ++ map (row_at at.step) (news those (missing_row at.number missing ∷ [])))) }
-{
-    let text = missing_text(alloc, at.number, missing)?;
-    if texts.has(text.as_slice()) {
-        return Ok(());
-    }
-    put_missing(at, missing, out)
-}
-
 /// Puts that a line is refused behind a step, if it is, and the network before doesn't tell so.
 fn put_new_refused<R: Rows>(
     alloc: Global,
@@ -156,43 +89,6 @@ fn put_new_refused<R: Rows>(
     }
 }
 
-/// Puts those reasons in a place whose line of text isn't among these.
-fn put_unless<R: Rows>(
-    alloc: Global,
-    at: At,
-    place: &Option<Failure>,
-    reasons: &[Reason],
-    texts: &Texts,
-    out: &mut R,
-) -> Result<(), AllocError>
-    ensures { (those : List Row) → AreTexts those texts.now → (first : R) (rows : List Row) → R.grew first out.old rows
-        → OnOk result (R.grew first out.new (rows ++ map (row_at at.step) (news those (reason_rows at.number place.now reasons.now)))) }
-{
-    for reason in reasons {
-        let text = reason_text(alloc, at.number, place, reason)?;
-        put_if(alloc, !texts.has(text.as_slice()), at, place, reason, out)?;
-    }
-    Ok(())
-}
-
-/// Puts those of all places.
-fn put_all_unless<R: Rows>(
-    alloc: Global,
-    at: At,
-    found: &[Finding],
-    n: usize,
-    texts: &Texts,
-    out: &mut R,
-) -> Result<(), AllocError>
-    ensures { (those : List Row) → AreTexts those texts.now → (first : R) (rows : List Row) → R.grew first out.old rows
-        → OnOk result (R.grew first out.new (rows ++ map (row_at at.step) (news those (found_rows at.number (map (found_at n) found.now))))) }
-{
-    for finding in found {
-        put_unless(alloc, at, &finding.place, finding.reasons_of(n), texts, out)?;
-    }
-    Ok(())
-}
-
 /// Puts why a line isn't kept behind a step, what the network before doesn't tell.
 fn put_new_fails<R: Rows>(
     alloc: Global,
@@ -208,11 +104,7 @@ fn put_new_fails<R: Rows>(
 {
     let found = now.found.as_slice();
     let texts = texts_of(alloc, line, n, before)?;
-    let at = At {
-        step: Some(step),
-        number: line.number,
-    };
-    put_all_unless(alloc, at, found, n, &texts, out)
+    put_unkept(alloc, Some(step), line, n, found, &texts, out)
 }
 
 /// Puts that a line is kept again behind a step, if it is.
@@ -226,7 +118,7 @@ fn put_mends<R: Rows>(
 ) -> Result<(), AllocError>
     ensures { (first : R) (rows : List Row) → R.grew first out.old rows → OnOk result (R.grew first out.new (rows ++ mends step (change_at n line.now before.now now.now))) }
 {
-    if !before.is_unkept(n) || now.is_unkept(n) {
+    if !is_unkept(line, n, before) || is_unkept(line, n, now) {
         return Ok(());
     }
     let values = [Value::Number(step), Value::Number(line.number)];
@@ -305,20 +197,31 @@ pub fn put_judged<R: Rows>(
     put_all_mends(step, lines, before, now, out)
 }
 
-/// Whether the line at a place of the list is unkept now, and wasn't so before.
-fn is_broken(n: usize, before: &Judgement, now: &Judgement) -> bool
-    ensures { (line : LineOf) → result ≡ is_broken_in (change_at n line before.now now.now) }
+/// Whether a line is a promise of the end alone.
+fn is_final(line: &PolicyLine) -> bool
+    ensures { result ≡ is_final_by line.now.read }
 {
-    !before.is_unkept(n) & now.is_unkept(n)
+    match &line.read {
+        Err(_) => false,
+        Ok(promise) => promise.is_final,
+    }
 }
 
-/// Whether some line of a policy is unkept now that wasn't so before.
+/// Whether a step breaks the line at a place of the list: it is unkept now, wasn't so before, and is no promise of the end alone.
+fn is_newly_broken(line: &PolicyLine, n: usize, before: &Judgement, now: &Judgement) -> bool
+    ensures { result ≡ is_broken_by_step (change_at n line.now before.now now.now) }
+{
+    !is_final(line) & (!is_unkept(line, n, before) & is_unkept(line, n, now))
+}
+
+/// Whether some line of a policy is unkept now that wasn't so before. Promises of the end alone aren't counted: of them nobody knows which
+/// step broke them.
 pub fn breaks(lines: &[PolicyLine], before: &Judgement, now: &Judgement) -> bool
     ensures { result ≡ breaks_of (changes lines.now (told_in lines.now before.now) (told_in lines.now now.now)) }
 {
     let mut is_any = false;
     for n in 0..lines.len() {
-        is_any |= is_broken(n, before, now);
+        is_any |= is_newly_broken(&lines[n], n, before, now);
     }
     is_any
 }
@@ -329,8 +232,8 @@ pub fn unkept_count(lines: &[PolicyLine], judgement: &Judgement) -> u64
 {
     let mut count = 0;
     for n in 0..lines.len() {
-        let is_unkept = judgement.is_unkept(n);
-        count += one_if(is_unkept);
+        let is_any = is_unkept(&lines[n], n, judgement);
+        count += one_if(is_any);
     }
     count
 }

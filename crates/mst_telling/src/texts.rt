@@ -6,12 +6,29 @@ ghost use Rattle.mst_telling.specs.Judged.{AreTexts};
 ghost use Rattle.mst_telling.specs.Texts.{is_told, same_line};
 
 use indexmap::IndexSet;
+use mst_kinds::Kind;
+use mst_rows::{Rows, Value};
 use std::alloc::{AllocError, Global};
 
-/// Lines of text, to be found by hash.
+/// Lines of text, to be found by hash: of the rows that are put into it.
 #[derive(Drop)]
 pub struct Texts {
+    alloc: Global,
     lines: IndexSet<Vec<u8>>,
+}
+
+impl Rows for Texts {
+    ghost use Rattle.std.specs.Prelude.{◌++◌, List};
+    ghost use Rattle.mst_rows.specs.Rows.{Row};
+    ghost use Rattle.mst_telling.specs.Judged.{AreTexts};
+
+    ghost grew = { λ first now rows. (before : List Row) → AreTexts before first → AreTexts (before ++ rows) now };
+
+    fn row(&mut self, kind: Kind, values: &[Value<'_>]) -> Result<(), AllocError> {
+        let mut text = Vec::new(self.alloc);
+        text.row(kind, values)?;
+        self.add(text)
+    }
 }
 
 impl Texts {
@@ -20,6 +37,7 @@ impl Texts {
         ensures { AreTexts [] result }
     {
         Texts {
+            alloc,
             lines: IndexSet::new(alloc),
         }
     }

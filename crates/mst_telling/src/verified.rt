@@ -1,21 +1,20 @@
-ghost use Rattle.std.specs.Prelude.{◌≡◌, ◌&&◌, ◌||◌, ◌+◌, ◌≤◌, ◌++◌, List, None, true, IfOk, OnOk, count_by, length, map, not};
-ghost use Rattle.std.specs.List.{list_any};
+ghost use Rattle.std.specs.Prelude.{◌≡◌, ◌+◌, ◌≤◌, ◌++◌, List, None, true, IfOk, OnOk, count_by, length, map};
 ghost use Rattle.mst_rows.specs.Rows.{Row, said};
 ghost use Rattle.mst_graph.specs.Lists.{has_any};
 ghost use Rattle.mst_tables.specs.Tables.{Net};
 ghost use Rattle.mst_roles.specs.forest.Outcome.{Outcome};
 ghost use Rattle.mst_reasons.specs.sweep.Failures.{failures as failures_of};
-ghost use Rattle.mst_telling.specs.Judged.{AreLinesJudged, Puts, counts_of, found_at, line_found, refused_at, refused_by, verdicts_by, tells_some};
-ghost use Rattle.mst_telling.specs.Told.{is_now};
-ghost use Rattle.mst_telling.specs.Verified.{IsVerified, is_broken_by, joined, rows_of_read, verdict_rows, whole_rows};
+ghost use Rattle.mst_telling.specs.Judged.{AreLinesJudged, Puts, counts_of, line_found, refused_at, refused_by, verdicts_by, tells_some};
+ghost use Rattle.mst_telling.specs.Verified.{IsVerified, joined, rows_of_read, verdict_rows, whole_rows};
 
+use crate::broken::is_broken;
 use crate::judgement::{Finding, Judgement, one_if, put_found};
 use crate::once::{put_once, tells_once};
 use crate::promises::{count_judged, networks, promises, put_last};
 use crate::reason::At;
 use crate::refused::{put_lacking, put_missing, put_unread};
-use mst_policy::{PolicyLine, Promise, Scope};
-use mst_reasons::{Failure, Missing, has_now};
+use mst_policy::{PolicyLine, Promise};
+use mst_reasons::{Failure, Missing};
 use mst_rows::Rows;
 use std::alloc::{AllocError, Global};
 
@@ -116,23 +115,6 @@ fn put_verdict_of<R: Rows>(
     }
 }
 
-/// Whether the line at a place of the list isn't kept in a place that counts: in that of a failure, or in the network itself, if this does.
-fn is_broken_at(n: usize, finding: &Finding, counts_now: bool) -> bool
-    ensures { result ≡ (has_any (found_at n finding.now).reasons && (counts_now || not (is_now finding.now.place))) }
-{
-    !finding.reasons_of(n).is_empty() && (counts_now || finding.place.is_some())
-}
-
-/// Whether a promise isn't kept: it has a reason in some place, and not in the network itself alone, where that is only looked at.
-fn is_broken(scope: &Scope, n: usize, found: &[Finding]) -> bool
-    ensures { result ≡ list_any (λ f. is_broken_by scope.now (found_at n f)) found.now }
-{
-    let counts_now = !tells_once(scope) | has_now(scope);
-    found
-        .iter()
-        .any(|finding| is_broken_at(n, finding, counts_now))
-}
-
 /// Puts why a line isn't kept, if it can be read, and answers whether it isn't.
 fn put_line<R: Rows>(
     alloc: Global,
@@ -187,7 +169,7 @@ pub fn put_verdict<R: Rows>(
     judgement: &Judgement,
     out: &mut R,
 ) -> Result<Verdict, AllocError>
-    ensures told { IfOk result (λ verdict. (net : Net) (o : Outcome) → failures.now ≡ failures_of net → AreLinesJudged true net o None true lines.now judgement.now
+    ensures told { IfOk result (λ verdict. (net : Net) (o : Outcome) → failures.now ≡ failures_of net → AreLinesJudged net o None true lines.now judgement.now
         → (rows : List Row) × IsVerified net o lines.now (counts_of verdict) rows × Puts R.grew out.old out.new rows) }
     ensures few { IfOk result (λ verdict. verdict.refused ≤ length lines.now + 1) }
 {

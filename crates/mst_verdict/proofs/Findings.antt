@@ -106,18 +106,18 @@ module _ (s : Sitting) where
 
   -- ---- in all places
   -- what is found of a line that is judged is what is kept of it
-  judged_there : (line : PolicyLine) → is_judged_at s.is_last line ≡ true → (place : Option Failure) (f : Found) → IsFoundOf s line place f → IsFoundAt s.once s.net s.outcome s.prior line place f
+  judged_there : (line : PolicyLine) → is_judged_at s.is_last line ≡ true → (place : Option Failure) (f : Found) → IsFoundOf s line place f → IsFoundAt s.net s.outcome s.prior line place f
   judged_there line e place f x = record {
     at = x.at;
     are = subst
-        (λ b. MatchOption (cond b (expected_at s.once s.net (is_some s.prior) line place) None) (f.reasons ≡ []) (λ expectation. AreReasonsAt s.net s.outcome s.prior place expectation f.reasons)) e
+        (λ b. MatchOption (cond b (expected_at s.net (is_some s.prior) line place) None) (f.reasons ≡ []) (λ expectation. AreReasonsAt s.net s.outcome s.prior place expectation f.reasons)) e
         x.are;
   }
 
   -- and nothing of one that isn't
   not_there : (line : PolicyLine) → is_judged_at s.is_last line ≡ false → (place : Option Failure) (f : Found) → IsFoundOf s line place f → f.reasons ≡ []
   not_there line e place f x =
-      subst (λ b. MatchOption (cond b (expected_at s.once s.net (is_some s.prior) line place) None) (f.reasons ≡ []) (λ expectation. AreReasonsAt s.net s.outcome s.prior place expectation f.reasons)) e
+      subst (λ b. MatchOption (cond b (expected_at s.net (is_some s.prior) line place) None) (f.reasons ≡ []) (λ expectation. AreReasonsAt s.net s.outcome s.prior place expectation f.reasons)) e
       x.are
 
   none_found : (line : PolicyLine) → is_judged_at s.is_last line ≡ false → (some : List (Option Failure)) (all : List Found) → AllZip (IsFoundOf s line) some all → filter has_reason all ≡ []
@@ -128,17 +128,17 @@ module _ (s : Sitting) where
       ap (λ (those : List Reason). cond (has_any those) (f ∷ filter has_reason all) (filter has_reason all)) (not_there line e place f h.0) ∙ none_found line e some all h.1
 
   pub lines_judged : (lines : List PolicyLine) (judgement : Judgement) → AreLacking s.net s.is_last lines judgement.missing.items → FoundIn s lines (places s.net) judgement.found.items
-      → AreLinesJudged s.once s.net s.outcome s.prior s.is_last lines judgement
+      → AreLinesJudged s.net s.outcome s.prior s.is_last lines judgement
   lines_judged lines judgement lacking found n line at = by (found n line at) (is_judged_at s.is_last line) refl
     where
       lacks : line_lacks n judgement ≡ lacks_in s.net s.is_last line
       lacks = ap (λ (l : List (Option Missing)). slice_index_or l n None) lacking ∙ mapped_at (lacks_in s.net s.is_last) lines n line None at.below at.is
 
       by : AreFoundOf s line (places s.net) (line_found n judgement.found.items) → (b : Bool) → is_judged_at s.is_last line ≡ b
-          → MatchBool b (IsKeptOf s.once s.net s.outcome s.prior n line judgement) (NoneIsKeptOf n judgement)
+          → MatchBool b (IsKeptOf s.net s.outcome s.prior n line judgement) (NoneIsKeptOf n judgement)
       by x true e = record {
         lacks = lacks ∙ ap (λ b. cond b (lacked s.net line.read) None) e;
-        found = record { all = x.all; each = zip_weaker (IsFoundOf s line) (IsFoundAt s.once s.net s.outcome s.prior line) (judged_there line e) (places s.net) x.all x.each; are = x.are };
+        found = record { all = x.all; each = zip_weaker (IsFoundOf s line) (IsFoundAt s.net s.outcome s.prior line) (judged_there line e) (places s.net) x.all x.each; are = x.are };
       }
       by x false e = record {
         lacks = lacks ∙ ap (λ b. cond b (lacked s.net line.read) None) e;

@@ -83,12 +83,12 @@ lacks_at net is_last lines missing are n line d below line_is =
     ap (λ l. get_or l n d) are ∙ get_or-map (lacks_in net is_last) lines n line d below ∙ ap (lacks_in net is_last) (sym line_is)
 
 expected_read : (j : Judging) (net : Net) (read : Result Promise Fault) (place : Option Failure) → asked_by j (cond (is_due j.is_last read) (lacked net read) None) read place
-    ≡ cond (is_due j.is_last read) (option_and_then (λ promise. cond (looks_at j.once (is_some j.prior) promise place) (Some promise.expectation) None) (judged_of net read)) None
+    ≡ cond (is_due j.is_last read) (option_and_then (λ promise. cond (looks_at (is_some j.prior) promise place) (Some promise.expectation) None) (judged_of net read)) None
 expected_read j net (Err fault) place = refl
 expected_read j net (Ok promise) place = by (is_due j.is_last (Ok promise)) (missing net promise)
   where
-    by : (due : Bool) (what : Option Missing) → cond (due && (not (is_some (cond due what None)) && looks_at j.once (is_some j.prior) promise place)) (Some promise.expectation) None
-        ≡ cond due (option_and_then (λ (promise : Promise). cond (looks_at j.once (is_some j.prior) promise place) (Some promise.expectation) None) (where_whole promise what)) None
+    by : (due : Bool) (what : Option Missing) → cond (due && (not (is_some (cond due what None)) && looks_at (is_some j.prior) promise place)) (Some promise.expectation) None
+        ≡ cond due (option_and_then (λ (promise : Promise). cond (looks_at (is_some j.prior) promise place) (Some promise.expectation) None) (where_whole promise what)) None
     by false what = refl
     by true None = refl
     by true (Some what) = refl
@@ -152,12 +152,12 @@ have_lans j net place line e h = go (is_judged_at j.is_last line) line.read h
     asked promise has false k = absurd (none_some e k)
 
     by : (promise : Promise) (what : Option Missing) → missing net promise ≡ what
-        → option_and_then (λ (promise : Promise). cond (looks_at j.once (is_some j.prior) promise place) (Some promise.expectation) None) (where_whole promise what) ≡ Some e → HasItsLan net e
-    by promise None m k = asked promise (judged_lan net promise m) (looks_at j.once (is_some j.prior) promise place) k
+        → option_and_then (λ (promise : Promise). cond (looks_at (is_some j.prior) promise place) (Some promise.expectation) None) (where_whole promise what) ≡ Some e → HasItsLan net e
+    by promise None m k = asked promise (judged_lan net promise m) (looks_at (is_some j.prior) promise place) k
     by promise (Some what) m k = absurd (none_some e k)
 
     go : (due : Bool) (read : Result Promise Fault)
-        → cond due (option_and_then (λ (promise : Promise). cond (looks_at j.once (is_some j.prior) promise place) (Some promise.expectation) None) (judged_of net read)) None ≡ Some e → HasItsLan net e
+        → cond due (option_and_then (λ (promise : Promise). cond (looks_at (is_some j.prior) promise place) (Some promise.expectation) None) (judged_of net read)) None ≡ Some e → HasItsLan net e
     go false read k = absurd (none_some e k)
     go true (Err fault) k = absurd (none_some e k)
     go true (Ok promise) k = by promise (missing net promise) refl k
@@ -285,7 +285,7 @@ module _ (j : Judging) (net : Net) (numbers : Numbers) (prior : Prior) (is : IsP
   s = sitting_of net numbers j prior
 
   same_expected : (line : PolicyLine) (place : Option Failure) → expected_in j net line place ≡ expected_of s line place
-  same_expected line place = ap (λ b. cond (is_judged_at j.is_last line) (expected_at j.once net b line place) None) (prior_there j.prior prior is)
+  same_expected line place = ap (λ b. cond (is_judged_at j.is_last line) (expected_at net b line place) None) (prior_there j.prior prior is)
 
   pub none_of : (place : Option Failure) (lines : List PolicyLine) → AllByRecursion (λ line. expected_in j net line place ≡ None) lines → AllByRecursion (λ line. expected_of s line place ≡ None) lines
   none_of place [] h = tt

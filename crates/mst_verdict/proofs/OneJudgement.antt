@@ -7,7 +7,8 @@ use Rattle.mst_policy.specs.declared.policy.PolicyLine.{PolicyLine}
 use Rattle.mst_rows.specs.Rows.{Row}
 use Rattle.mst_forest.specs.Outcome.{Outcome, IsOutcome}
 use Rattle.mst_verify.specs.tree_judges.judged.reasons.Named.{OfNetwork, Prior}
-use Rattle.mst_telling.specs.Told.{AreLinesTold, IsLineTold, IsToldThere, IsToldWhereUnkept, is_judged_at}
+use Rattle.mst_telling.specs.Lines.{AreLinesTold, IsLineTold, IsToldThere, IsToldWhereUnkept}
+use Rattle.mst_telling.specs.Told.{is_judged_at}
 use Rattle.mst_verdict.proofs.OneTold.{zip_same, zip_some}
 use Rattle.mst_verdict.specs.Verifying.{IsPriorNetwork, IsToldWhereDue, Judges}
 use Rattle.mst_verdict.proofs.Judgements.{zip_weaker}

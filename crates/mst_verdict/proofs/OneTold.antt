@@ -1,5 +1,5 @@
 -- What is told of lines is settled by the network, what is before it, and the lines alone.
-use Rattle.std.proofs.Common.{◌≡◌, ◌∙◌, ◌++◌, ◌∷◌, [], List, map, is_some, Option, Some, None, Ok, Bool, true, false, refl, sym, ap, subst, inl, inr}
+use Rattle.std.proofs.Common.{◌≡◌, ◌∙◌, ◌++◌, ◌∷◌, [], List, map, is_some, Option, Some, None, Ok, refl, sym, ap, subst, inl, inr}
 use Rattle.std.specs.Prelude.{MatchOption}
 use Rattle.std.specs.List.{AllZip, Contains, filter}
 use Rattle.mst_graph.proofs.Members.{cases, from_map, here, there}
@@ -16,7 +16,8 @@ use Rattle.mst_verify.specs.tree_judges.judged.reasons.Named.{Gone, OfNetwork, P
 use Rattle.mst_verify.specs.tree_judges.judged.reasons.Placed.{AreReasonsAfter, AreReasonsAt}
 use Rattle.mst_verify.specs.tree_judges.judged.reasons.Reasons.{AreReasons, HasOneList}
 use Rattle.mst_verify.specs.tree_judges.judged.reasons.declared.reason.Reason.{Reason}
-use Rattle.mst_telling.specs.Told.{AreFound, AreLineReasons, Found, IsFoundAt, IsLineTold, expected_at, found_rows, has_reason, lacking_rows}
+use Rattle.mst_telling.specs.Lines.{IsLineTold, unkept_by}
+use Rattle.mst_telling.specs.Told.{AreFound, AreLineReasons, Found, IsFoundAt, expected_at, has_reason, lacking_rows}
 use Rattle.mst_telling.specs.Verified.{Counts, IsVerdict, IsVerified, all_refused, counts_in, joined, judged_in, last_row, promises_in, rows_of_read}
 
 -- ---- lists
@@ -80,24 +81,24 @@ module _ (net : Net) (o : Outcome) (is : IsNetwork net) (are : IsOutcome net o) 
     at_same None h e reasons others x y = one net o net None prior e is are reasons others x y
     at_same (Some failure) h e reasons others x y = after_same failure (of_place net failure h) e reasons others x y
 
-    module _ (once : Bool) (line : PolicyLine) where
-      reasons_same : (place : Option Failure) → Contains (places net) place → (reasons others : List Reason) → AreLineReasons once net o prior line place reasons → AreLineReasons once net o prior line place others → reasons ≡ others
-      reasons_same place h reasons others = go (expected_at once net (is_some prior) line place)
+    module _ (line : PolicyLine) where
+      reasons_same : (place : Option Failure) → Contains (places net) place → (reasons others : List Reason) → AreLineReasons net o prior line place reasons → AreLineReasons net o prior line place others → reasons ≡ others
+      reasons_same place h reasons others = go (expected_at net (is_some prior) line place)
         where
           go : (expected : Option Expectation) → MatchOption expected (reasons ≡ []) (λ e. AreReasonsAt net o prior place e reasons) → MatchOption expected (others ≡ []) (λ e. AreReasonsAt net o prior place e others) → reasons ≡ others
           go None x y = x ∙ sym y
           go (Some e) x y = at_same place h e reasons others x y
 
-      place_same : (place : Option Failure) → Contains (places net) place → (f g : Found) → IsFoundAt once net o prior line place f → IsFoundAt once net o prior line place g → f ≡ g
+      place_same : (place : Option Failure) → Contains (places net) place → (f g : Found) → IsFoundAt net o prior line place f → IsFoundAt net o prior line place g → f ≡ g
       place_same place h f g x y =
           let reasons = reasons_same place h f.reasons g.reasons x.are y.are in
           λ i. record { place = (x.at ∙ sym y.at) i; reasons = reasons i }
 
-      pub found_same : (found other : List Found) → AreFound once net o prior line found → AreFound once net o prior line other → found ≡ other
-      found_same found other x y = x.are ∙ ap (filter has_reason) (zip_same (IsFoundAt once net o prior line) (places net) x.all y.all place_same x.each y.each) ∙ sym y.are
+      pub found_same : (found other : List Found) → AreFound net o prior line found → AreFound net o prior line other → found ≡ other
+      found_same found other x y = x.are ∙ ap (filter has_reason) (zip_same (IsFoundAt net o prior line) (places net) x.all y.all place_same x.each y.each) ∙ sym y.are
 
     pub told_same : (line : PolicyLine) (rows other : List Row) → IsLineTold net o prior line rows → IsLineTold net o prior line other → rows ≡ other
-    told_same line rows other x y = x.are ∙ ap (λ found. lacking_rows net line ++ found_rows line.number found) (found_same false line x.found y.found x.are_found y.are_found) ∙ sym y.are
+    told_same line rows other x y = x.are ∙ ap (λ found. lacking_rows net line ++ unkept_by line.number line.read found) (found_same line x.found y.found x.are_found y.are_found) ∙ sym y.are
 
   -- ---- and one at least
   module _ (of : OfNetwork prior) (outcomes : (net : Net) → IsNetwork net → (o : Outcome) × IsOutcome net o)
@@ -113,26 +114,26 @@ module _ (net : Net) (o : Outcome) (is : IsNetwork net) (are : IsOutcome net o) 
     some_at None h e = some net o net None prior e is are of
     some_at (Some failure) h e = some_after failure (of_place net failure h) e
 
-    module _ (once : Bool) (line : PolicyLine) where
-      some_reasons : (place : Option Failure) → Contains (places net) place → (reasons : List Reason) × AreLineReasons once net o prior line place reasons
-      some_reasons place h = go (expected_at once net (is_some prior) line place)
+    module _ (line : PolicyLine) where
+      some_reasons : (place : Option Failure) → Contains (places net) place → (reasons : List Reason) × AreLineReasons net o prior line place reasons
+      some_reasons place h = go (expected_at net (is_some prior) line place)
         where
           go : (expected : Option Expectation) → (reasons : List Reason) × MatchOption expected (reasons ≡ []) (λ e. AreReasonsAt net o prior place e reasons)
           go None = ([], refl)
           go (Some e) = some_at place h e
 
-      some_place : (place : Option Failure) → Contains (places net) place → (f : Found) × IsFoundAt once net o prior line place f
+      some_place : (place : Option Failure) → Contains (places net) place → (f : Found) × IsFoundAt net o prior line place f
       some_place place h = let r = some_reasons place h in (record { place = place; reasons = r.0 }, record { at = refl; are = r.1 })
 
-      pub some_found : (found : List Found) × AreFound once net o prior line found
-      some_found = let z = zip_some (IsFoundAt once net o prior line) (places net) some_place in (filter has_reason z.0, record { all = z.0; each = z.1; are = refl })
+      pub some_found : (found : List Found) × AreFound net o prior line found
+      some_found = let z = zip_some (IsFoundAt net o prior line) (places net) some_place in (filter has_reason z.0, record { all = z.0; each = z.1; are = refl })
 
     pub some_told : (line : PolicyLine) → (rows : List Row) × IsLineTold net o prior line rows
-    some_told line = let f = some_found false line in (lacking_rows net line ++ found_rows line.number f.0, record { found = f.0; are_found = f.1; are = refl })
+    some_told line = let f = some_found line in (lacking_rows net line ++ unkept_by line.number line.read f.0, record { found = f.0; are_found = f.1; are = refl })
 
 -- ---- the whole of a network
 module _ (net : Net) (o : Outcome) (lines : List PolicyLine) where
-  pub verified_same : ((line : PolicyLine) (found other : List Found) → AreFound true net o None line found → AreFound true net o None line other → found ≡ other)
+  pub verified_same : ((line : PolicyLine) (found other : List Found) → AreFound net o None line found → AreFound net o None line other → found ≡ other)
       → (c d : Counts) (rows other : List Row) → IsVerified net o lines c rows → IsVerified net o lines d other → (c ≡ d) × (rows ≡ other)
   verified_same one c d rows other x y =
       let told : x.told ≡ y.told =
@@ -142,7 +143,7 @@ module _ (net : Net) (o : Outcome) (lines : List PolicyLine) where
         x.are ∙ (λ i. all_refused net lines ++ joined (told i) ++ last_row (judged_in net lines) (promises_in net lines (told i)) ∷ []) ∙ sym y.are,
       )
 
-  pub verified_some : ((line : PolicyLine) → (found : List Found) × AreFound true net o None line found) → (counts : Counts) × (rows : List Row) × IsVerified net o lines counts rows
+  pub verified_some : ((line : PolicyLine) → (found : List Found) × AreFound net o None line found) → (counts : Counts) × (rows : List Row) × IsVerified net o lines counts rows
   verified_some some =
       let z = zip_some (IsVerdict net o) lines (λ line _. let f = some line in (rows_of_read line.number line.read f.0, record { found = f.0; are_found = f.1; are = refl })) in (
         counts_in net lines z.0,

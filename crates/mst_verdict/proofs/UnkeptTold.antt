@@ -24,10 +24,11 @@ use Rattle.mst_verify.specs.tree_judges.judged.reasons.Placed.{AreReasonsAfter, 
 use Rattle.mst_verify.specs.tree_judges.judged.reasons.Reasons.{AreReasons}
 use Rattle.mst_verify.specs.tree_judges.judged.reasons.declared.missing.Missing.{Missing}
 use Rattle.mst_verify.specs.tree_judges.judged.reasons.declared.reason.Reason.{Reason}
-use Rattle.mst_telling.specs.Told.{AreFound, AreLineReasons, Found, IsFoundAt, IsLineTold, IsToldWhereUnkept, expected_at, found_rows, has_reason, is_now, judged, judged_of, lacked, lacking_rows, looks_at, missing_rows, tells_once, where_whole}
+use Rattle.mst_telling.specs.Lines.{IsLineTold, IsToldWhereUnkept, unkept_by}
+use Rattle.mst_telling.specs.Told.{AreFound, AreLineReasons, Found, IsFoundAt, expected_at, has_reason, is_now, judged, judged_of, lacked, lacking_rows, looks_at, missing_rows, tells_once, where_whole}
 use Rattle.mst_telling.specs.Verified.{IsToldWhereBroken, IsVerdict, is_broken_by, rows_of_read, verdict_rows}
 use Rattle.mst_verdict.proofs.OneTold.{MakesNet, of_place}
-use Rattle.mst_telling.proofs.Only.{found_any, no_more, verdict_some}
+use Rattle.mst_telling.proofs.Only.{no_more, nothing_unkept, unkept_some, verdict_some}
 
 -- ---- lists
 none_has : {X : Type 0} (test : X → Bool) (xs : List X) → list_any test xs ≡ false → (x : X) → Contains xs x → test x ≡ false
@@ -117,26 +118,26 @@ module _ (net : Net) (o : Outcome) (is : IsNetwork net) (are : IsOutcome net o) 
   told_at prior (Some failure) h e reasons r = (holds_after failure (of_place net failure h) e reasons r, after_told failure (of_place net failure h) e reasons r)
 
   -- ---- one line
-  module _ (line : PolicyLine) (promise : Promise) (its : judged net line ≡ Some promise) where
-    looked : (place : Option Failure) (b : Bool) → looks_at true false promise place ≡ b → expected_at true net false line place ≡ cond b (Some promise.expectation) None
-    looked place b e = ap (option_and_then (λ promise. cond (looks_at true false promise place) (Some promise.expectation) None)) its ∙ ap (λ b. cond b (Some promise.expectation) None) e
+  module _ (prior : Prior) (line : PolicyLine) (promise : Promise) (its : judged net line ≡ Some promise) where
+    looked : (place : Option Failure) (b : Bool) → looks_at (is_some prior) promise place ≡ b → expected_at net (is_some prior) line place ≡ cond b (Some promise.expectation) None
+    looked place b e = ap (option_and_then (λ promise. cond (looks_at (is_some prior) promise place) (Some promise.expectation) None)) its ∙ ap (λ b. cond b (Some promise.expectation) None) e
 
-    reasons_there : (place : Option Failure) (b : Bool) → looks_at true false promise place ≡ b → (reasons : List Reason) → AreLineReasons true net o None line place reasons
-        → MatchOption (cond b (Some promise.expectation) None) (reasons ≡ []) (λ e. AreReasonsAt net o None place e reasons)
-    reasons_there place b e reasons r = subst (λ expected. MatchOption expected (reasons ≡ []) (λ e. AreReasonsAt net o None place e reasons)) (looked place b e) r
+    reasons_there : (place : Option Failure) (b : Bool) → looks_at (is_some prior) promise place ≡ b → (reasons : List Reason) → AreLineReasons net o prior line place reasons
+        → MatchOption (cond b (Some promise.expectation) None) (reasons ≡ []) (λ e. AreReasonsAt net o prior place e reasons)
+    reasons_there place b e reasons r = subst (λ expected. MatchOption expected (reasons ≡ []) (λ e. AreReasonsAt net o prior place e reasons)) (looked place b e) r
 
     -- where it is judged, the place is looked at, and it is one that counts
-    asked_looked : (place : Option Failure) → asks_at false promise place ≡ true → looks_at true false promise place ≡ true
-    asked_looked place e = ap (λ b. (true && (tells_once promise.scope && is_now place)) || b) e ∙ or_true (tells_once promise.scope && is_now place)
+    asked_looked : (place : Option Failure) → asks_at (is_some prior) promise place ≡ true → looks_at (is_some prior) promise place ≡ true
+    asked_looked place e = ap (λ b. (tells_once promise.scope && is_now place) || b) e ∙ or_true (tells_once promise.scope && is_now place)
       where
         or_true : (b : Bool) → (b || true) ≡ true
         or_true true = refl
         or_true false = refl
 
-    asked_counts : (place : Option Failure) → asks_at false promise place ≡ true → ((not (tells_once promise.scope) || has_now promise.scope) || not (is_now place)) ≡ true
+    asked_counts : (place : Option Failure) → asks_at (is_some prior) promise place ≡ true → ((not (tells_once promise.scope) || has_now promise.scope) || not (is_now place)) ≡ true
     asked_counts None e = go (not (tells_once promise.scope)) (has_now promise.scope) e
       where
-        go : (a b : Bool) → (b && (false || not (looks_back promise.expectation))) ≡ true → ((a || b) || false) ≡ true
+        go : (a b : Bool) → (b && (is_some prior || not (looks_back promise.expectation))) ≡ true → ((a || b) || false) ≡ true
         go true b e = refl
         go false true e = refl
         go false false e = e
@@ -146,71 +147,78 @@ module _ (net : Net) (o : Outcome) (is : IsNetwork net) (are : IsOutcome net o) 
         go true = refl
         go false = refl
 
-    holds_where : (place : Option Failure) → Contains (places net) place → asks_at false promise place ≡ true → (f : Found) → IsFoundAt true net o None line place f → (f.reasons ≡ []) ↔ HoldsAt None place promise.expectation
-    holds_where place h asked f x = told_at None place h promise.expectation f.reasons (reasons_there place true (asked_looked place asked) f.reasons x.are)
+    holds_where : (place : Option Failure) → Contains (places net) place → asks_at (is_some prior) promise place ≡ true → (f : Found) → IsFoundAt net o prior line place f → (f.reasons ≡ []) ↔ HoldsAt prior place promise.expectation
+    holds_where place h asked f x = told_at prior place h promise.expectation f.reasons (reasons_there place true (asked_looked place asked) f.reasons x.are)
 
     -- a place where it isn't judged tells nothing that counts
     module _ (f : Found) where
-      unlooked : (place : Option Failure) → IsFoundAt true net o None line place f → looks_at true false promise place ≡ false → has_reason f ≡ false
+      unlooked : (place : Option Failure) → IsFoundAt net o prior line place f → looks_at (is_some prior) promise place ≡ false → has_reason f ≡ false
       unlooked place x e = none_there f.reasons (reasons_there place false e f.reasons x.are)
 
-      looked_now : IsFoundAt true net o None line None f → looks_at true false promise None ≡ true → asks_now false promise ≡ false → (has_reason f && ((not (tells_once promise.scope) || has_now promise.scope) || false)) ≡ false
-      looked_now x e unasked = go (tells_once promise.scope) (has_now promise.scope) (looks_back promise.expectation) refl refl refl
-        where
-          go : (t n b : Bool) → tells_once promise.scope ≡ t → has_now promise.scope ≡ n → looks_back promise.expectation ≡ b → (has_reason f && ((not t || n) || false)) ≡ false
-          go true false b p q r = and_false (has_reason f)
-          go true true true p q r = ap (λ b. b && true) (none_there f.reasons (nothing_back promise.expectation f.reasons r (reasons_there None true e f.reasons x.are)))
-          go true true false p q r = absurd (true≢false (sym (λ i. q i && (false || not (r i))) ∙ unasked))
-          go false n b p q r = absurd (true≢false (sym e ∙ (λ i. (true && (p i && true)) || unasked i)))
+      -- what looks back at no network has no reason
+      back : (p : Prior) → prior ≡ p → is_some p ≡ false → looks_back promise.expectation ≡ true → AreReasonsAt net o prior None promise.expectation f.reasons → f.reasons ≡ []
+      back None q n r are = nothing_back promise.expectation f.reasons r (subst (λ p. AreReasonsAt net o p None promise.expectation f.reasons) q are)
+      back (Some p) q n r are = absurd (true≢false n)
 
-      uncounted : (place : Option Failure) → IsFoundAt true net o None line place f → asks_at false promise place ≡ false → (has_reason f && ((not (tells_once promise.scope) || has_now promise.scope) || not (is_now place))) ≡ false
-      uncounted place x unasked = go (looks_at true false promise place) refl
+      looked_now : IsFoundAt net o prior line None f → looks_at (is_some prior) promise None ≡ true → asks_now (is_some prior) promise ≡ false
+          → (has_reason f && ((not (tells_once promise.scope) || has_now promise.scope) || false)) ≡ false
+      looked_now x e unasked = go (tells_once promise.scope) (has_now promise.scope) (is_some prior) (looks_back promise.expectation) refl refl refl refl
         where
-          at : (place : Option Failure) → IsFoundAt true net o None line place f → asks_at false promise place ≡ false → looks_at true false promise place ≡ true
+          go : (t n p b : Bool) → tells_once promise.scope ≡ t → has_now promise.scope ≡ n → is_some prior ≡ p → looks_back promise.expectation ≡ b → (has_reason f && ((not t || n) || false)) ≡ false
+          go true false p b u v w r = and_false (has_reason f)
+          go true true false true u v w r = ap (λ b. b && true) (none_there f.reasons (back prior refl w r (reasons_there None true e f.reasons x.are)))
+          go true true false false u v w r = absurd (true≢false (sym (λ i. v i && (w i || not (r i))) ∙ unasked))
+          go true true true b u v w r = absurd (true≢false (sym (λ i. v i && (w i || not (looks_back promise.expectation))) ∙ unasked))
+          go false n p b u v w r = absurd (true≢false (sym e ∙ (λ i. (u i && true) || unasked i)))
+
+      uncounted : (place : Option Failure) → IsFoundAt net o prior line place f → asks_at (is_some prior) promise place ≡ false → (has_reason f && ((not (tells_once promise.scope) || has_now promise.scope) || not (is_now place))) ≡ false
+      uncounted place x unasked = go (looks_at (is_some prior) promise place) refl
+        where
+          at : (place : Option Failure) → IsFoundAt net o prior line place f → asks_at (is_some prior) promise place ≡ false → looks_at (is_some prior) promise place ≡ true
               → (has_reason f && ((not (tells_once promise.scope) || has_now promise.scope) || not (is_now place))) ≡ false
           at None x unasked e = looked_now x e unasked
-          at (Some failure) x unasked e = absurd (true≢false (sym e ∙ (λ i. (true && and_false (tells_once promise.scope) i) || unasked i)))
+          at (Some failure) x unasked e = absurd (true≢false (sym e ∙ (λ i. and_false (tells_once promise.scope) i || unasked i)))
 
-          go : (b : Bool) → looks_at true false promise place ≡ b → (has_reason f && ((not (tells_once promise.scope) || has_now promise.scope) || not (is_now place))) ≡ false
+          go : (b : Bool) → looks_at (is_some prior) promise place ≡ b → (has_reason f && ((not (tells_once promise.scope) || has_now promise.scope) || not (is_now place))) ≡ false
           go true e = at place x unasked e
           go false e = first_false (has_reason f) ((not (tells_once promise.scope) || has_now promise.scope) || not (is_now place)) (unlooked place x e)
 
-    module _ (found : List Found) (x : AreFound true net o None line found) where
+    module _ (found : List Found) (x : AreFound net o prior line found) where
       any_is : list_any (is_broken_by promise.scope) found ≡ list_any (is_broken_by promise.scope) x.all
       any_is = ap (list_any (is_broken_by promise.scope)) x.are
           ∙ any_kept has_reason (is_broken_by promise.scope) (λ f e. first_false (has_reason f) ((not (tells_once promise.scope) || has_now promise.scope) || not (is_now f.place)) e) x.all
 
-      holds_at : list_any (is_broken_by promise.scope) found ≡ false → (place : Option Failure) → Contains (places net) place → asks_at false promise place ≡ true → HoldsAt None place promise.expectation
+      holds_at : list_any (is_broken_by promise.scope) found ≡ false → (place : Option Failure) → Contains (places net) place → asks_at (is_some prior) promise place ≡ true → HoldsAt prior place promise.expectation
       holds_at e place h asked =
-          let r = zip_at (IsFoundAt true net o None line) (places net) x.all x.each place h in
+          let r = zip_at (IsFoundAt net o prior line) (places net) x.all x.each place h in
           let f = r.0 in
           let unbroken : is_broken_by promise.scope f ≡ false = none_has (is_broken_by promise.scope) x.all (sym any_is ∙ e) f r.1 in
           let counts : ((not (tells_once promise.scope) || has_now promise.scope) || not (is_now f.place)) ≡ true = ap (λ p. (not (tells_once promise.scope) || has_now promise.scope) || not (is_now p)) r.2.at ∙ asked_counts place asked in
           let none : f.reasons ≡ [] = no_more f.reasons (first_not (has_reason f) ((not (tells_once promise.scope) || has_now promise.scope) || not (is_now f.place)) unbroken counts) in
           (holds_where place h asked f r.2).0 none
 
-      kept : list_any (is_broken_by promise.scope) found ≡ false → IsKept net o None promise
+      kept : list_any (is_broken_by promise.scope) found ≡ false → IsKept net o prior promise
       kept e = record {
         now = λ asked. holds_at e None (here None (map Some (failures net))) asked;
         failed = λ failure h asked. holds_at e (Some failure) (there None (Some failure) (map Some (failures net)) (in_map Some (failures net) failure h)) asked;
       }
 
-      asked_holds : IsKept net o None promise → (place : Option Failure) → Contains (places net) place → asks_at false promise place ≡ true → HoldsAt None place promise.expectation
+      asked_holds : IsKept net o prior promise → (place : Option Failure) → Contains (places net) place → asks_at (is_some prior) promise place ≡ true → HoldsAt prior place promise.expectation
       asked_holds keeps None h asked = keeps.now asked
       asked_holds keeps (Some failure) h asked = keeps.failed failure (of_place net failure h) asked
 
-      unbroken_at : IsKept net o None promise → (f : Found) → Contains x.all f → is_broken_by promise.scope f ≡ false
+      unbroken_at : IsKept net o prior promise → (f : Found) → Contains x.all f → is_broken_by promise.scope f ≡ false
       unbroken_at keeps f h =
-          let r = at_zip (IsFoundAt true net o None line) (places net) x.all x.each f h in
-          ap (λ p. has_reason f && ((not (tells_once promise.scope) || has_now promise.scope) || not (is_now p))) r.2.at ∙ go r.0 r.1 r.2 (asks_at false promise r.0) refl
+          let r = at_zip (IsFoundAt net o prior line) (places net) x.all x.each f h in
+          ap (λ p. has_reason f && ((not (tells_once promise.scope) || has_now promise.scope) || not (is_now p))) r.2.at ∙ go r.0 r.1 r.2 (asks_at (is_some prior) promise r.0) refl
         where
-          go : (place : Option Failure) → Contains (places net) place → IsFoundAt true net o None line place f → (b : Bool) → asks_at false promise place ≡ b
+          go : (place : Option Failure) → Contains (places net) place → IsFoundAt net o prior line place f → (b : Bool) → asks_at (is_some prior) promise place ≡ b
               → (has_reason f && ((not (tells_once promise.scope) || has_now promise.scope) || not (is_now place))) ≡ false
           go place there at true e =
               first_false (has_reason f) ((not (tells_once promise.scope) || has_now promise.scope) || not (is_now place)) (none_there f.reasons ((holds_where place there e f at).1 (asked_holds keeps place there e)))
           go place there at false e = uncounted f place at e
 
-      none_broken : IsKept net o None promise → list_any (is_broken_by promise.scope) found ≡ false
+      none_broken : IsKept net o prior promise → list_any (is_broken_by promise.scope) found ≡ false
       none_broken keeps = any_is ∙ has_none (is_broken_by promise.scope) x.all (unbroken_at keeps)
 
   -- the promise of a line that is judged is that which is read
@@ -234,8 +242,8 @@ module _ (net : Net) (o : Outcome) (is : IsNetwork net) (are : IsOutcome net o) 
       where
         silent : judged net line ≡ None → (f : Found) → Contains x.are_found.all f → has_reason f ≡ false
         silent e f h =
-            let r = at_zip (IsFoundAt true net o None line) (places net) x.are_found.all x.are_found.each f h in
-            let none : expected_at true net false line r.0 ≡ None = ap (option_and_then (λ promise. cond (looks_at true false promise r.0) (Some promise.expectation) None)) e in
+            let r = at_zip (IsFoundAt net o None line) (places net) x.are_found.all x.are_found.each f h in
+            let none : expected_at net false line r.0 ≡ None = ap (option_and_then (λ promise. cond (looks_at false promise r.0) (Some promise.expectation) None)) e in
             none_there f.reasons (subst (λ expected. MatchOption expected (f.reasons ≡ []) (λ e. AreReasonsAt net o None r.0 e f.reasons)) none r.2.are)
 
         nothing_read : (read : Result Promise Fault) → rows_of_read line.number read [] ≡ []
@@ -246,58 +254,13 @@ module _ (net : Net) (o : Outcome) (is : IsNetwork net) (are : IsOutcome net o) 
         go None e = x.are ∙ ap (rows_of_read line.number line.read) (x.are_found.are ∙ filter_none has_reason x.are_found.all (silent e)) ∙ nothing_read line.read
         go (Some promise) e =
             let read = read_judged line.read promise e in (
-              λ none. kept line promise e x.found x.are_found (sym (rows_any promise read) ∙ none_there rows none),
-              λ keeps. no_more rows (rows_any promise read ∙ none_broken line promise e x.found x.are_found keeps),
+              λ none. kept None line promise e x.found x.are_found (sym (rows_any promise read) ∙ none_there rows none),
+              λ keeps. no_more rows (rows_any promise read ∙ none_broken None line promise e x.found x.are_found keeps),
             )
 
   -- ---- a line in one of several networks
   module _ (prior : Prior) (line : PolicyLine) (rows : List Row) (x : IsLineTold net o prior line rows) where
-    -- it has a row of a reason just where some place has a reason
-    told_any : has_any (found_rows line.number x.found) ≡ list_any has_reason x.are_found.all
-    told_any = found_any line.number x.found ∙ ap (list_any has_reason) x.are_found.are ∙ any_kept has_reason has_reason (λ f e. e) x.are_found.all
-
-    module _ (promise : Promise) (its : judged net line ≡ Some promise) where
-      asked : (place : Option Failure) (b : Bool) → asks_at (is_some prior) promise place ≡ b → (reasons : List Reason) → AreLineReasons false net o prior line place reasons
-          → MatchOption (cond b (Some promise.expectation) None) (reasons ≡ []) (λ e. AreReasonsAt net o prior place e reasons)
-      asked place b e reasons r =
-          let expected : expected_at false net (is_some prior) line place ≡ cond b (Some promise.expectation) None =
-          ap (option_and_then (λ promise. cond (asks_at (is_some prior) promise place) (Some promise.expectation) None)) its ∙ ap (λ b. cond b (Some promise.expectation) None) e in
-          subst (λ expected. MatchOption expected (reasons ≡ []) (λ e. AreReasonsAt net o prior place e reasons)) expected r
-
-      at_place : list_any has_reason x.are_found.all ≡ false → (place : Option Failure) → Contains (places net) place → asks_at (is_some prior) promise place ≡ true → HoldsAt prior place promise.expectation
-      at_place e place h a =
-          let r = zip_at (IsFoundAt false net o prior line) (places net) x.are_found.all x.are_found.each place h in
-          let none : r.0.reasons ≡ [] = no_more r.0.reasons (none_has has_reason x.are_found.all e r.0 r.1) in
-          (told_at prior place h promise.expectation r.0.reasons (asked place true a r.0.reasons r.2.are)).0 none
-
-      all_kept : list_any has_reason x.are_found.all ≡ false → IsKept net o prior promise
-      all_kept e = record {
-        now = λ a. at_place e None (here None (map Some (failures net))) a;
-        failed = λ failure h a. at_place e (Some failure) (there None (Some failure) (map Some (failures net)) (in_map Some (failures net) failure h)) a;
-      }
-
-      its_holds : IsKept net o prior promise → (place : Option Failure) → Contains (places net) place → asks_at (is_some prior) promise place ≡ true → HoldsAt prior place promise.expectation
-      its_holds keeps None h a = keeps.now a
-      its_holds keeps (Some failure) h a = keeps.failed failure (of_place net failure h) a
-
-      no_reason : IsKept net o prior promise → (f : Found) → Contains x.are_found.all f → has_reason f ≡ false
-      no_reason keeps f h =
-          let r = at_zip (IsFoundAt false net o prior line) (places net) x.are_found.all x.are_found.each f h in go r.0 r.1 r.2 (asks_at (is_some prior) promise r.0) refl
-        where
-          go : (place : Option Failure) → Contains (places net) place → IsFoundAt false net o prior line place f → (b : Bool) → asks_at (is_some prior) promise place ≡ b → has_reason f ≡ false
-          go place there at true e = none_there f.reasons ((told_at prior place there promise.expectation f.reasons (asked place true e f.reasons at.are)).1 (its_holds keeps place there e))
-          go place there at false e = none_there f.reasons (asked place false e f.reasons at.are)
-
-    -- one that isn't judged has no reasons, and one that is lacks nothing
-    unread : judged net line ≡ None → found_rows line.number x.found ≡ []
-    unread e = no_more (found_rows line.number x.found) (told_any ∙ has_none has_reason x.are_found.all none)
-      where
-        none : (f : Found) → Contains x.are_found.all f → has_reason f ≡ false
-        none f h =
-            let r = at_zip (IsFoundAt false net o prior line) (places net) x.are_found.all x.are_found.each f h in
-            let expected : expected_at false net (is_some prior) line r.0 ≡ None = ap (option_and_then (λ promise. cond (asks_at (is_some prior) promise r.0) (Some promise.expectation) None)) e in
-            none_there f.reasons (subst (λ expected. MatchOption expected (f.reasons ≡ []) (λ e. AreReasonsAt net o prior r.0 e f.reasons)) expected r.2.are)
-
+    -- one that is judged lacks nothing, and its rows are those of its promise
     lacks_none : (n : ℕ) (read : Result Promise Fault) (promise : Promise) → judged_of net read ≡ Some promise → missing_rows n (lacked net read) ≡ []
     lacks_none n (Err fault) promise e = refl
     lacks_none n (Ok own) promise e = by (missing net own) e
@@ -306,13 +269,26 @@ module _ (net : Net) (o : Outcome) (is : IsNetwork net) (are : IsOutcome net o) 
         by None e = refl
         by (Some what) e = absurd (cc)
 
+    told_any : (promise : Promise) → judged net line ≡ Some promise → has_any rows ≡ list_any (is_broken_by promise.scope) x.found
+    told_any promise e =
+        ap has_any (x.are ∙ (λ i. lacks_none line.number line.read promise e i ++ unkept_by line.number (read_judged line.read promise e i) x.found)) ∙ unkept_some line.number promise x.found
+
+    -- one that isn't judged has no reasons
+    unjudged : judged net line ≡ None → x.found ≡ []
+    unjudged e = x.are_found.are ∙ filter_none has_reason x.are_found.all none
+      where
+        none : (f : Found) → Contains x.are_found.all f → has_reason f ≡ false
+        none f h =
+            let r = at_zip (IsFoundAt net o prior line) (places net) x.are_found.all x.are_found.each f h in
+            let expected : expected_at net (is_some prior) line r.0 ≡ None = ap (option_and_then (λ promise. cond (looks_at (is_some prior) promise r.0) (Some promise.expectation) None)) e in
+            none_there f.reasons (subst (λ expected. MatchOption expected (f.reasons ≡ []) (λ e. AreReasonsAt net o prior r.0 e f.reasons)) expected r.2.are)
+
     pub line_where_unkept : IsToldWhereUnkept net o prior line rows
     line_where_unkept = go (judged net line) refl
       where
         go : (promise : Option Promise) → judged net line ≡ promise → MatchOption promise (rows ≡ lacking_rows net line) (λ promise. (rows ≡ []) ↔ IsKept net o prior promise)
-        go None e = x.are ∙ ap (λ more. lacking_rows net line ++ more) (unread e) ∙ append-nil (lacking_rows net line)
-        go (Some promise) e =
-            let rows_are : rows ≡ found_rows line.number x.found = x.are ∙ ap (λ l. l ++ found_rows line.number x.found) (lacks_none line.number line.read promise e) in (
-              λ none. all_kept promise e (sym told_any ∙ ap has_any (sym rows_are) ∙ none_there rows none),
-              λ keeps. rows_are ∙ no_more (found_rows line.number x.found) (told_any ∙ has_none has_reason x.are_found.all (no_reason promise e keeps)),
-            )
+        go None e = x.are ∙ ap (λ found. lacking_rows net line ++ unkept_by line.number line.read found) (unjudged e) ∙ ap (λ more. lacking_rows net line ++ more) (nothing_unkept line.number line.read) ∙ append-nil (lacking_rows net line)
+        go (Some promise) e = (
+          λ none. kept prior line promise e x.found x.are_found (sym (told_any promise e) ∙ none_there rows none),
+          λ keeps. no_more rows (told_any promise e ∙ none_broken prior line promise e x.found x.are_found keeps),
+        )

@@ -23,7 +23,8 @@ use Rattle.mst_verify.specs.tree_judges.judged.Seen.{IsBefore}
 use Rattle.mst_verify.specs.tree_judges.judged.reasons.declared.missing.Missing.{Missing}
 use Rattle.mst_verify.specs.tree_judges.judged.reasons.declared.reason.Reason.{Reason}
 use Rattle.mst_telling.specs.Judged.{StandsAt, line_found}
-use Rattle.mst_telling.specs.Told.{AreLinesTold, Found, IsToldWhereUnkept, expected_at, has_reason, is_due, is_judged_at, lacked, looks_at}
+use Rattle.mst_telling.specs.Lines.{AreLinesTold, IsToldWhereUnkept}
+use Rattle.mst_telling.specs.Told.{Found, expected_at, has_reason, is_due, is_judged_at, lacked, looks_at}
 use Rattle.mst_telling.specs.Verified.{Counts, IsToldWhereBroken, IsVerified}
 use Rattle.mst_telling.specs.declared.judgement.Finding.{Finding}
 use Rattle.mst_verdict.specs.declared.judging.Judging.{Judging}
@@ -84,7 +85,7 @@ AreLacking net is_last lines missing = missing ≡ map (lacks_in net is_last) li
 
 -- a place is looked at for a promise, by what it lacks
 abbrev pub is_asked_by : Judging → Option Missing → Promise → Option Failure → Bool
-is_asked_by j lacks promise place = is_due j.is_last (Ok promise) && (not (is_some lacks) && looks_at j.once (is_some j.prior) promise place)
+is_asked_by j lacks promise place = is_due j.is_last (Ok promise) && (not (is_some lacks) && looks_at (is_some j.prior) promise place)
 
 -- what a line expects in a place, if that is looked at for it
 abbrev pub asked_by : Judging → Option Missing → Result Promise Fault → Option Failure → Option Expectation
@@ -96,7 +97,7 @@ expected_by j line lacks place = asked_by j lacks line.read place
 
 -- and by the network: nothing, where the line isn't judged in it
 abbrev pub expected_in : Judging → Net → PolicyLine → Option Failure → Option Expectation
-expected_in j net line place = if is_judged_at j.is_last line then expected_at j.once net (is_some j.prior) line place else None
+expected_in j net line place = if is_judged_at j.is_last line then expected_at net (is_some j.prior) line place else None
 
 -- whatever a line of a network expects in a place, its LAN is in the network there
 abbrev pub HaveLans : Judging → Net → Net → Option Failure → Type 0
@@ -121,9 +122,8 @@ abbrev pub AreReasonsThere : Judging → Net → SettledNet → Net → Gone →
 AreReasonsThere j net s before lost prior place reasons =
     AllZip (λ line those. AreReasonsIf s.net (outcome_of s) before lost prior (expected_in j net line place) those) j.lines.now reasons
 
--- a network that is judged: what is looked for in it, its outcome, what is before it, and whether it is the last of several
+-- a network that is judged: its outcome, what is before it, and whether it is the last of several
 pub record Sitting : Type 0 where
-  pub once : Bool
   pub net : Net
   pub outcome : Outcome
   pub prior : Prior
@@ -131,7 +131,7 @@ pub record Sitting : Type 0 where
 
 -- that of a plan
 abbrev pub sitting_of : Net → Numbers → Judging → Prior → Sitting
-sitting_of net numbers j prior = record { once = j.once; net = net; outcome = plan_outcome net numbers j.plan.now; prior = prior; is_last = j.is_last }
+sitting_of net numbers j prior = record { net = net; outcome = plan_outcome net numbers j.plan.now; prior = prior; is_last = j.is_last }
 
 -- so for whatever is before, of which that is known by which lines are judged
 abbrev pub OfSittings : Net → Numbers → Judging → (Sitting → Type 0) → Type 0
@@ -139,7 +139,7 @@ OfSittings net numbers j Says = (prior : Prior) → IsPrior (option_map (λ c. c
 
 -- what a line expects there in a place
 abbrev pub expected_of : Sitting → PolicyLine → Option Failure → Option Expectation
-expected_of s line place = if is_judged_at s.is_last line then expected_at s.once s.net (is_some s.prior) line place else None
+expected_of s line place = if is_judged_at s.is_last line then expected_at s.net (is_some s.prior) line place else None
 
 -- why it doesn't hold
 abbrev pub AreReasonsOf : Sitting → PolicyLine → Option Failure → List Reason → Type 0

@@ -44,8 +44,6 @@ pub(crate) struct Judging<'a> {
     pub(crate) missing: &'a [Option<Missing>],
     /// Promises of the last of several networks are judged.
     pub(crate) is_last: bool,
-    /// What the network itself gives is looked for, too, where it isn't told again of failures.
-    pub(crate) once: bool,
 }
 
 /// Whether a promise is judged: one of the last of several networks alone only in that.
@@ -106,7 +104,7 @@ fn is_asked(
 {
     let has_prior = judging.prior.is_some();
     is_due(promise, judging.is_last)
-        && (missing.is_none() && is_looked_at(judging.once, has_prior, promise, place))
+        && (missing.is_none() && is_looked_at(has_prior, promise, place))
 }
 
 /// Adds VIDs to a set.
@@ -449,8 +447,6 @@ pub(crate) struct Asking<'a> {
     pub(crate) prior: Option<&'a Carriage<'a>>,
     /// Promises of the last of several networks are judged.
     pub(crate) is_last: bool,
-    /// What the network itself gives is looked for, too, where it isn't told again of failures.
-    pub(crate) once: bool,
 }
 
 /// Why lines of a policy aren't kept in a network, by its plan and its failures.
@@ -465,7 +461,7 @@ pub(crate) fn judge_lines(
     requires of { IsPlan network.now.net network.now.numbers plan.now }
     requires failures { failures.now ≡ failures_of network.now.net }
     ensures { IfOk result (λ judgement. (prior : PriorOf) → IsPrior (option_map (λ c. c.now) asking.now.prior) prior
-        → AreLinesJudged asking.now.once network.now.net (plan_outcome network.now.net network.now.numbers plan.now) prior asking.now.is_last lines.now judgement) }
+        → AreLinesJudged network.now.net (plan_outcome network.now.net network.now.numbers plan.now) prior asking.now.is_last lines.now judgement) }
 {
     let carriage = Carriage::new(alloc, &plan.view, &plan.forest)?;
     let opened = opening(alloc, network, plan, &carriage, lines, asking.is_last)?;
@@ -477,7 +473,6 @@ pub(crate) fn judge_lines(
         lines,
         missing: opened.missing.as_slice(),
         is_last: asking.is_last,
-        once: asking.once,
     };
     let found = find_all(alloc, network, &judging, failures)?;
     Ok(Judgement {
@@ -505,10 +500,6 @@ pub fn judge(
         return Ok(Judgement::none(alloc));
     }
     let failures = failures(alloc, &plan.view)?;
-    let asking = Asking {
-        prior,
-        is_last,
-        once: false,
-    };
+    let asking = Asking { prior, is_last };
     judge_lines(alloc, network, plan, lines, failures.as_slice(), &asking)
 }

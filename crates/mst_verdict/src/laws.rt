@@ -5,7 +5,7 @@ ghost use Rattle.mst_rows.specs.Rows.{Row};
 ghost use Rattle.mst_net.specs.tables.Tables.{Net, IsNetwork};
 ghost use Rattle.mst_forest.specs.Outcome.{Outcome, IsOutcome};
 ghost use Rattle.mst_verify.specs.tree_judges.judged.reasons.Named.{OfNetwork, Prior, Prior as PriorOf};
-ghost use Rattle.mst_telling.specs.Told.{IsLineTold, IsToldWhereUnkept};
+ghost use Rattle.mst_telling.specs.Lines.{IsLineTold, IsToldWhereUnkept};
 ghost use Rattle.mst_telling.specs.Verified.{Counts as PolicyCounts, IsToldWhereBroken, IsVerdict, IsVerified};
 ghost use Rattle.mst_verdict.specs.Verifying.{IsPriorNetwork, Judges, Verifies};
 

@@ -31,7 +31,6 @@ pub fn verify_network<R: Rows>(
     let asking = Asking {
         prior: None,
         is_last: true,
-        once: true,
     };
     let judgement = judge_lines(alloc, network, plan, lines, failures.as_slice(), &asking)?;
     put_verdict(alloc, lines, failures.as_slice(), &judgement, out)

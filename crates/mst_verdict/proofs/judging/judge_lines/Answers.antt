@@ -22,5 +22,5 @@ pub returns : goal.returns
 returns c = λ prior is.
     let old = c.args.network.now in
     let asking = c.args.asking.now in
-    let s : Sitting = record { once = asking.once; net = old.net; outcome = plan_outcome old.net old.numbers c.args.plan.now; prior = prior; is_last = asking.is_last } in
+    let s : Sitting = record { net = old.net; outcome = plan_outcome old.net old.numbers c.args.plan.now; prior = prior; is_last = asking.is_last } in
     lines_judged s c.args.lines.now (record { missing = c.in_ok-opened.opened.missing; found = c.in_ok-found.found }) c.in_ok-opened.ensures.opened.lacking (c.in_ok-found.ensures prior is)

@@ -9,7 +9,7 @@ returns-clause-some c net o lines is are =
     verified_some net o lines
     (λ line. some_found net o is are
     (makes_net net is c.networks.ensures.after)
-    None tt c.has_outcome.ensures c.reason_lists.ensures.some true line)
+    None tt c.has_outcome.ensures c.reason_lists.ensures.some line)
 
 pub returns-clause-one : goal.returns-clause-one
 returns-clause-one c net o p lines n m rows other is are too x y =
@@ -17,4 +17,4 @@ returns-clause-one c net o p lines n m rows other is are too x y =
     verified_same net o lines
     (λ line. found_same net o is are
     (makes_net net is c.networks.ensures.after)
-    None c.one_outcome.ensures c.reason_lists.ensures.one true line) n m rows other x (subst (λ q. IsVerified net q lines m other) (sym same) y)
+    None c.one_outcome.ensures c.reason_lists.ensures.one line) n m rows other x (subst (λ q. IsVerified net q lines m other) (sym same) y)

@@ -1,6 +1,6 @@
 use Rattle.std.proofs.Common.{◌≡◌, subst, sym}
 use Rattle.mst_verdict.proofs.MadeNets.{makes_net}
-use Rattle.mst_telling.specs.Told.{IsLineTold}
+use Rattle.mst_telling.specs.Lines.{IsLineTold}
 use Rattle.mst_verdict.proofs.OneTold.{some_told, told_same}
 use Rattle.mst_verdict.proofs.laws.told_lines.Goals as goal
 

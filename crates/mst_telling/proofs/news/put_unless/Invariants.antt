@@ -4,8 +4,8 @@ use Rattle.mst_telling.specs.Judged.{AreTexts}
 use Rattle.mst_telling.specs.Rows.{row_at}
 use Rattle.mst_telling.specs.Texts.{news}
 use Rattle.mst_telling.specs.Told.{reason_rows}
-use Rattle.mst_telling.specs.contracts.steps.put_unless.{R-type}
-use Rattle.mst_telling.proofs.steps.put_unless.Given as goal
+use Rattle.mst_telling.specs.contracts.news.put_unless.{R-type}
+use Rattle.mst_telling.proofs.news.put_unless.Given as goal
 
 -- the rows of those of the reasons so far
 abbrev pub invariant-loop-reason : goal.invariant-loop-reason

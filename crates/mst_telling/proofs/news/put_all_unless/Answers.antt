@@ -5,7 +5,7 @@ use Rattle.mst_telling.specs.Rows.{row_at}
 use Rattle.mst_telling.specs.Texts.{is_told, news}
 use Rattle.mst_telling.specs.Told.{Found, found_rows, reason_rows}
 use Rattle.mst_telling.proofs.GoesOn.{flat_mapped, more, then_filtered, then_mapped, whole}
-use Rattle.mst_telling.proofs.steps.put_all_unless.Goals as goal
+use Rattle.mst_telling.proofs.news.put_all_unless.Goals as goal
 
 pub loop-finding-preserved : goal.loop-finding-preserved
 loop-finding-preserved g c those are first rows grew =

@@ -4,8 +4,8 @@ use Rattle.mst_telling.specs.Judged.{AreTexts, found_at}
 use Rattle.mst_telling.specs.Rows.{row_at}
 use Rattle.mst_telling.specs.Texts.{news}
 use Rattle.mst_telling.specs.Told.{found_rows}
-use Rattle.mst_telling.specs.contracts.steps.put_all_unless.{R-type}
-use Rattle.mst_telling.proofs.steps.put_all_unless.Given as goal
+use Rattle.mst_telling.specs.contracts.news.put_all_unless.{R-type}
+use Rattle.mst_telling.proofs.news.put_all_unless.Given as goal
 
 -- the rows of the places so far
 abbrev pub invariant-loop-finding : goal.invariant-loop-finding
