@@ -5,5 +5,6 @@ pub mod Split
 pub mod Told
 pub mod Pairing
 pub mod Firsts
+pub mod InSame
 mod VidLists
 pub mod VidPlaces

@@ -1,7 +1,8 @@
 -- Classes of VIDs that nothing in a network tells apart, or nothing in either of two.
-use Rattle.std.specs.Prelude.{ℕ, Bool, List, [], nat_eq}
+use Rattle.std.specs.Prelude.{◌≡◌, ℕ, ◌+◌, ◌<◌, Bool, List, [], nat_eq, slice_index}
 use Rattle.std.specs.List.{AllByRecursion, Contains}
 use Rattle.mst_graph.specs.Numbers.{AreNumbers}
+use Rattle.mst_ids.specs.Vids.{has}
 use Rattle.mst_graph.specs.declared.keys.Numbering.{Numbering}
 use Rattle.mst_tables.specs.ByTree.{table_in, vlans_in}
 use Rattle.mst_view.specs.Viewed.{Viewed}
@@ -39,3 +40,9 @@ pub record AreClassesOf (v w : Viewed) (classes : Numbering) : Type 0 where
   pub numbers : List ℕ
   pub tell : TellApart tables sets numbers
   pub are : AreNumbers nat_eq numbers classes.numbers.items classes.firsts.items
+
+-- VIDs of one class are in the same of these sets
+abbrev pub AreInSame : List (List Bool) → Numbering → Type 0
+AreInSame sets c =
+    (i j : ℕ) → i < 4094 → j < 4094 → slice_index c.numbers.items i ≡ slice_index c.numbers.items j
+    → AllByRecursion (λ set. has set (i + 1) ≡ has set (j + 1)) sets

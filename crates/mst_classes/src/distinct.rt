@@ -57,17 +57,6 @@ fn is_same(table: &Table, other: &Table) -> bool
     true
 }
 
-/// The sets of VLANs of the logical ports, each once. `AllocError`: memory was wanted and refused.
-pub(crate) fn vlan_sets(alloc: Global, view: &View) -> Result<Vec<VidSet>, AllocError>
-    ensures { IfOk result (λ sets. AllByRecursion (λ p. Contains sets.items (vlans_in view.now.settings.vlans p.name)) view.now.ports) }
-{
-    let mut met = IndexSet::new(alloc);
-    meet_sets(view, &mut met)?;
-    let mut sets = Vec::new(alloc);
-    sets.extend_from_slice(met.as_slice())?;
-    Ok(sets)
-}
-
 /// Adds the sets of VLANs of the logical ports to those that were met. One that is the same as the last that was new takes
 /// no more than to compare the two.
 pub(crate) fn meet_sets(view: &View, met: &mut IndexSet<VidSet>) -> Result<(), AllocError>

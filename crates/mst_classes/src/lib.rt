@@ -10,5 +10,7 @@ mod flagged_vids;
 mod splitting;
 
 pub use all::{set_of, vids};
-pub use classes::{classes_by_tables, classes_of_both, classes_of_vids};
+pub use classes::{
+    classes_by_tables, classes_of_both, classes_of_both_in, classes_of_vids, classes_of_vids_in,
+};
 pub use flagged_vids::flagged;

@@ -13,7 +13,9 @@ mod rows;
 pub use carriage::Carriage;
 pub use comparing::differing;
 pub use island::{BridgeList, Island, LanList, has_bridge};
-pub use mst_classes::{classes_of_both, classes_of_vids, flagged, set_of, vids};
+pub use mst_classes::{
+    classes_of_both, classes_of_both_in, classes_of_vids, classes_of_vids_in, flagged, set_of, vids,
+};
 pub use mst_roles::{
     Forest, Regions, Role, Settled, active_ports, bridge_id, cist_port, digest, forest_laws,
     is_had, laws as roles_laws, msti_port, mstis_in_use, port_forwards, port_role, role_of,
