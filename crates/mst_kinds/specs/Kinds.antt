@@ -546,11 +546,14 @@ first_of_verify_line verify_line.Region = mark.Fails
 first_of_verify_line verify_line.Role = mark.Fails
 first_of_verify_line verify_line.Reach = mark.Fails
 first_of_verify_line verify_line.Apart = mark.Fails
+first_of_verify_line verify_line.Leaves = mark.Fails
 first_of_verify_line verify_line.Together = mark.Fails
 first_of_verify_line verify_line.Leaf = mark.Fails
 first_of_verify_line verify_line.Depth = mark.Fails
 first_of_verify_line verify_line.Carries = mark.Fails
 first_of_verify_line verify_line.Avoids = mark.Fails
+first_of_verify_line verify_line.TooManyHops = mark.Fails
+first_of_verify_line verify_line.NotVia = mark.Fails
 first_of_verify_line verify_line.Hops = mark.Fails
 first_of_verify_line verify_line.Age = mark.Fails
 first_of_verify_line verify_line.ExternalCost = mark.Fails
@@ -573,6 +576,8 @@ parts_of_verify_line verify_line.Role = part.Key key.Line ∷ part.Key key.Failu
 parts_of_verify_line verify_line.Reach = part.Key key.Line ∷ part.Key key.Failure ∷ part.Said key.Expectation mark.Reach ∷ part.Key key.Vids ∷ part.Mark mark.Parts ∷ part.Key key.Parts ∷ []
 -- `fails N PLACE apart VIDS joined B,.. ..`
 parts_of_verify_line verify_line.Apart = part.Key key.Line ∷ part.Key key.Failure ∷ part.Said key.Expectation mark.Apart ∷ part.Key key.Vids ∷ part.Mark mark.Joined ∷ part.Key key.Joined ∷ []
+-- `fails N PLACE leaves VIDS joined B,.. ..`
+parts_of_verify_line verify_line.Leaves = part.Key key.Line ∷ part.Key key.Failure ∷ part.Said key.Expectation mark.Leaves ∷ part.Key key.Vids ∷ part.Mark mark.Joined ∷ part.Key key.Joined ∷ []
 -- `fails N PLACE together VIDS parts B,.. ..`
 parts_of_verify_line verify_line.Together = part.Key key.Line ∷ part.Key key.Failure ∷ part.Said key.Expectation mark.Together ∷ part.Key key.Vids ∷ part.Mark mark.Parts ∷ part.Key key.Parts ∷ []
 -- `fails N PLACE leaf T B parent of C,..`
@@ -583,6 +588,10 @@ parts_of_verify_line verify_line.Depth = part.Key key.Line ∷ part.Key key.Fail
 parts_of_verify_line verify_line.Carries = part.Key key.Line ∷ part.Key key.Failure ∷ part.Said key.Expectation mark.Carries ∷ part.Key key.Lan ∷ part.Mark mark.Without ∷ part.Key key.Vids ∷ []
 -- `fails N PLACE avoids L with VIDS`
 parts_of_verify_line verify_line.Avoids = part.Key key.Line ∷ part.Key key.Failure ∷ part.Said key.Expectation mark.Avoids ∷ part.Key key.Lan ∷ part.Mark mark.With ∷ part.Key key.Vids ∷ []
+-- `fails N PLACE hops VIDS D A,B`
+parts_of_verify_line verify_line.TooManyHops = part.Key key.Line ∷ part.Key key.Failure ∷ part.Said key.Expectation mark.Hops ∷ part.Key key.Vids ∷ part.Key key.HopCount ∷ part.Commas key.Bridges ∷ []
+-- `fails N PLACE via VIDS by A,..,B`
+parts_of_verify_line verify_line.NotVia = part.Key key.Line ∷ part.Key key.Failure ∷ part.Said key.Expectation mark.Via ∷ part.Key key.Vids ∷ part.Mark mark.By ∷ part.Commas key.Bridges ∷ []
 -- `fails N PLACE note hops T B depth D limit H`
 parts_of_verify_line verify_line.Hops = part.Key key.Line ∷ part.Key key.Failure ∷ part.Told key.Expectation mark.Fits ∷ part.Mark mark.Note ∷ part.Said key.Note mark.Hops ∷ part.Key key.Tree ∷ part.Key key.Bridge ∷ part.Mark mark.Depth ∷ part.Key key.Depth ∷ part.Mark mark.Limit ∷ part.Key key.Limit ∷ []
 -- `fails N PLACE note age B depth D limit M`
@@ -606,6 +615,7 @@ first_of_step_line step_line.Step = mark.Step
 first_of_step_line step_line.Cut = mark.Cut
 first_of_step_line step_line.Start = mark.Start
 first_of_step_line step_line.Mends = mark.Mends
+first_of_step_line step_line.Turns = mark.Turns
 first_of_step_line step_line.Restarts = mark.Restarts
 first_of_step_line step_line.Counts = mark.Steps
 first_of_step_line step_line.JudgedCounts = mark.Steps
@@ -619,6 +629,8 @@ parts_of_step_line step_line.Cut = part.Above key.Step ∷ part.Key key.Vids ∷
 parts_of_step_line step_line.Start = part.Above key.Step ∷ part.Mark mark.Unkept ∷ part.Key key.UnkeptCount ∷ []
 -- `mends N`
 parts_of_step_line step_line.Mends = part.Above key.Step ∷ part.Key key.Line ∷ []
+-- `turns T,.. B,..`
+parts_of_step_line step_line.Turns = part.Above key.Step ∷ part.Commas key.Trees ∷ part.Commas key.Bridges ∷ []
 -- `restarts B:P,..`
 parts_of_step_line step_line.Restarts = part.Above key.Step ∷ part.Commas key.Ports ∷ []
 -- `steps K moving M cutting N`

@@ -147,12 +147,14 @@ pub enum Mark {
     Every,
     Captures,
     Agree,
+    Leaves,
     Together,
     Same,
     Failures,
     Start,
     Unkept,
     Mends,
+    Turns,
     Restarts,
     Because,
     Tried,
@@ -162,6 +164,7 @@ pub enum Mark {
     Hop,
     By,
     Other,
+    Via,
 }
 
 impl Mark {
@@ -313,12 +316,14 @@ impl Mark {
             Mark::Every => b"*",
             Mark::Captures => b"captures",
             Mark::Agree => b"agree",
+            Mark::Leaves => b"leaves",
             Mark::Together => b"together",
             Mark::Same => b"same",
             Mark::Failures => b"failures",
             Mark::Start => b"start",
             Mark::Unkept => b"unkept",
             Mark::Mends => b"mends",
+            Mark::Turns => b"turns",
             Mark::Restarts => b"restarts",
             Mark::Because => b"because",
             Mark::Tried => b"tried",
@@ -328,6 +333,7 @@ impl Mark {
             Mark::Hop => b"hop",
             Mark::By => b"by",
             Mark::Other => b"other",
+            Mark::Via => b"via",
         }
     }
 }

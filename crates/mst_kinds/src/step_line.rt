@@ -15,6 +15,8 @@ pub enum StepLine {
     Start,
     /// `mends N`
     Mends,
+    /// `turns T,.. B,..`
+    Turns,
     /// `restarts B:P,..`
     Restarts,
     /// `steps K moving M cutting N`
@@ -33,6 +35,7 @@ impl StepLine {
             StepLine::Cut => Mark::Cut,
             StepLine::Start => Mark::Start,
             StepLine::Mends => Mark::Mends,
+            StepLine::Turns => Mark::Turns,
             StepLine::Restarts => Mark::Restarts,
             StepLine::Counts => Mark::Steps,
             StepLine::JudgedCounts => Mark::Steps,
@@ -49,6 +52,7 @@ impl StepLine {
             StepLine::Cut => parts![Above Step, Key Vids, Mark Parts, Key Parts],
             StepLine::Start => parts![Above Step, Mark Unkept, Key UnkeptCount],
             StepLine::Mends => parts![Above Step, Key Line],
+            StepLine::Turns => parts![Above Step, Commas Trees, Commas Bridges],
             StepLine::Restarts => parts![Above Step, Commas Ports],
             StepLine::Counts =>
                 parts![Key StepCount, Mark Moving, Key MovingCount, Mark Cutting, Key CuttingCount],

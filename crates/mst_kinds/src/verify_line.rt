@@ -21,6 +21,8 @@ pub enum VerifyLine {
     Reach,
     /// `fails N PLACE apart VIDS joined B,.. ..`
     Apart,
+    /// `fails N PLACE leaves VIDS joined B,.. ..`
+    Leaves,
     /// `fails N PLACE together VIDS parts B,.. ..`
     Together,
     /// `fails N PLACE leaf T B parent of C,..`
@@ -31,6 +33,10 @@ pub enum VerifyLine {
     Carries,
     /// `fails N PLACE avoids L with VIDS`
     Avoids,
+    /// `fails N PLACE hops VIDS D A,B`
+    TooManyHops,
+    /// `fails N PLACE via VIDS by A,..,B`
+    NotVia,
     /// `fails N PLACE note hops T B depth D limit H`
     Hops,
     /// `fails N PLACE note age B depth D limit M`
@@ -58,11 +64,14 @@ impl VerifyLine {
             VerifyLine::Role => Mark::Fails,
             VerifyLine::Reach => Mark::Fails,
             VerifyLine::Apart => Mark::Fails,
+            VerifyLine::Leaves => Mark::Fails,
             VerifyLine::Together => Mark::Fails,
             VerifyLine::Leaf => Mark::Fails,
             VerifyLine::Depth => Mark::Fails,
             VerifyLine::Carries => Mark::Fails,
             VerifyLine::Avoids => Mark::Fails,
+            VerifyLine::TooManyHops => Mark::Fails,
+            VerifyLine::NotVia => Mark::Fails,
             VerifyLine::Hops => Mark::Fails,
             VerifyLine::Age => Mark::Fails,
             VerifyLine::ExternalCost => Mark::Fails,
@@ -101,6 +110,8 @@ impl VerifyLine {
                 parts![Above Step, Key Line, Key Failure, Said Expectation Reach, Key Vids, Mark Parts, Key Parts],
             VerifyLine::Apart =>
                 parts![Above Step, Key Line, Key Failure, Said Expectation Apart, Key Vids, Mark Joined, Key Joined],
+            VerifyLine::Leaves =>
+                parts![Above Step, Key Line, Key Failure, Said Expectation Leaves, Key Vids, Mark Joined, Key Joined],
             VerifyLine::Together =>
                 parts![Above Step, Key Line, Key Failure, Said Expectation Together, Key Vids, Mark Parts, Key Parts],
             VerifyLine::Leaf =>
@@ -111,6 +122,10 @@ impl VerifyLine {
                 parts![Above Step, Key Line, Key Failure, Said Expectation Carries, Key Lan, Mark Without, Key Vids],
             VerifyLine::Avoids =>
                 parts![Above Step, Key Line, Key Failure, Said Expectation Avoids, Key Lan, Mark With, Key Vids],
+            VerifyLine::TooManyHops =>
+                parts![Above Step, Key Line, Key Failure, Said Expectation Hops, Key Vids, Key HopCount, Commas Bridges],
+            VerifyLine::NotVia =>
+                parts![Above Step, Key Line, Key Failure, Said Expectation Via, Key Vids, Mark By, Commas Bridges],
             VerifyLine::Hops =>
                 parts![Above Step, Key Line, Key Failure, Told Expectation Fits, Mark Note, Said Note Hops, Key Tree, Key Bridge, Mark Depth, Key Depth, Mark Limit, Key Limit],
             VerifyLine::Age =>
