@@ -99,6 +99,7 @@ rule_of kinds.Region = rule (codes "region") (Names ∷ []) (one names expectati
 rule_of kinds.Role = rule (codes "role") (Tree ∷ Ports ∷ Roles ∷ []) (three tree ports roles expectations.Role)
 rule_of kinds.Reach = rule (codes "reach") (Vids ∷ Names ∷ []) (two vids names expectations.Reach)
 rule_of kinds.Apart = rule (codes "apart") (Vids ∷ Names ∷ Names ∷ []) (three vids names names expectations.Apart)
+rule_of kinds.Leaves = rule (codes "leaves") (Vids ∷ Names ∷ []) (two vids names expectations.Leaves)
 rule_of kinds.Together = rule (codes "together") (Vids ∷ Names ∷ []) (two vids names expectations.Together)
 rule_of kinds.Leaf = rule (codes "leaf") (Tree ∷ Names ∷ []) (two tree names expectations.Leaf)
 rule_of kinds.Depth = rule (codes "depth") (Tree ∷ Steps ∷ []) (two tree steps expectations.Depth)
@@ -109,7 +110,7 @@ rule_of kinds.Fits = rule (codes "fits") [] (none_of expectations.Fits)
 -- every form, in the order in which they are told
 abbrev pub all_kinds : List Kind
 all_kinds =
-    kinds.Root ∷ kinds.RootNext ∷ kinds.Region ∷ kinds.Role ∷ kinds.Reach ∷ kinds.Apart ∷ kinds.Together ∷ kinds.Leaf ∷ kinds.Depth
+    kinds.Root ∷ kinds.RootNext ∷ kinds.Region ∷ kinds.Role ∷ kinds.Reach ∷ kinds.Apart ∷ kinds.Leaves ∷ kinds.Together ∷ kinds.Leaf ∷ kinds.Depth
     ∷ kinds.Carries ∷ kinds.Avoids ∷ kinds.Fits ∷ []
 
 -- the form of a word that takes the words behind it

@@ -4,3 +4,4 @@ pub mod Arguments
 pub mod Forms
 pub mod Reading
 pub mod Lines
+pub mod Leaving

@@ -32,28 +32,42 @@ in_scope None (Err E01) = Err E01
 in_scope None _ = Err E02
 in_scope (Some scope) expectation = with (Ok (promise scope)) expectation
 
+-- whether words are of what is meant to be cut. That stands by itself: neither a scope nor `finally` is in front of it
+abbrev pub is_leaving : List (List ℕ) → Bool
+is_leaving [] = false
+is_leaving (word ∷ others) = is_text word (codes "leaves")
+
+-- what words expect that stand behind a scope
+abbrev pub behind_scope : List (List ℕ) → Result Expectation Fault
+behind_scope words = if is_leaving words then Err E01 else expected words
+
 -- the words behind `after`: the kind of failures, which of them are meant, and an expectation
 abbrev pub after : List (List ℕ) → Result Promise Fault
 after (kind ∷ list ∷ others) =
-    if is_text kind (codes "lan") then in_scope (option_map AfterLan (names_value list)) (expected others)
-    else (if is_text kind (codes "bridge") then in_scope (option_map AfterBridge (names_value list)) (expected others) else Err E01)
+    if is_text kind (codes "lan") then in_scope (option_map AfterLan (names_value list)) (behind_scope others)
+    else (if is_text kind (codes "bridge") then in_scope (option_map AfterBridge (names_value list)) (behind_scope others) else Err E01)
 after _ = Err E01
 
 -- what words promise: an expectation, in the scope that the first of them says, if it says one
 abbrev pub scoped : List ℕ → List (List ℕ) → Result Promise Fault
 scoped word others =
     if is_text word (codes "after") then after others
-    else (if is_text word (codes "always") then in_scope (Some Always) (expected others) else in_scope (Some Now) (expected (word ∷ others)))
+    else (if is_text word (codes "always") then in_scope (Some Always) (behind_scope others) else in_scope (Some Now) (expected (word ∷ others)))
 
 -- ---- the end
--- the words behind `finally`: what they promise is of the end alone
+-- what words promise of the end alone
+abbrev pub of_the_end : List ℕ → List (List ℕ) → Result Promise Fault
+of_the_end word others = with (Ok in_the_end) (scoped word others)
+
+-- the words behind `finally`
 abbrev pub finally : List (List ℕ) → Result Promise Fault
 finally [] = Err E01
-finally (word ∷ others) = with (Ok in_the_end) (scoped word others)
+finally (word ∷ others) = if is_leaving (word ∷ others) then Err E01 else of_the_end word others
 
--- what the words of a line promise: `finally` is the first of them, or none
+-- what the words of a line promise: `finally` is the first of them, or none. What is meant to be cut is of the end alone without that word, too
 abbrev pub promised : List ℕ → List (List ℕ) → Result Promise Fault
-promised word others = if is_text word (codes "finally") then finally others else scoped word others
+promised word others =
+    if is_text word (codes "finally") then finally others else (if is_leaving (word ∷ others) then of_the_end word others else scoped word others)
 
 -- ---- lines
 -- a line by its words: nothing where it has none, or is a comment, whatever bytes that holds; else a promise, all of whose

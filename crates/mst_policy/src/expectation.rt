@@ -55,6 +55,11 @@ pub enum Expectation {
         names: NameList,
         others: NameList,
     },
+    /// For no VID a bridge that is one of them is in one island with one that isn't: what is meant to be cut.
+    Leaves {
+        vids: VidSet,
+        names: NameList,
+    },
     /// For each VID those of the bridges that were in one island before are in one.
     Together {
         vids: VidSet,

@@ -45,6 +45,7 @@ fn of_kind(
         Kind::Role => role(alloc, arguments),
         Kind::Reach => reach(alloc, arguments),
         Kind::Apart => apart(alloc, arguments),
+        Kind::Leaves => leaves(alloc, arguments),
         Kind::Together => together(alloc, arguments),
         Kind::Leaf => leaf(alloc, arguments),
         Kind::Depth => Ok(depth(arguments)),
@@ -160,6 +161,21 @@ fn apart(alloc: Global, arguments: &[u8]) -> Result<Result<Expectation, Fault>, 
             names: own,
             others,
         })),
+        Err(fault) => Ok(Err(fault)),
+    }
+}
+
+fn leaves(alloc: Global, arguments: &[u8]) -> Result<Result<Expectation, Fault>, AllocError>
+    ensures { IfOk result (λ read. read ≡ two scripts.vids values.names expectations.Leaves (words arguments.now)) }
+{
+    let Some((vids_word, list)) = two_words(arguments) else {
+        return Ok(Err(Fault::E01));
+    };
+    let Some(names) = names(alloc, list)? else {
+        return Ok(Err(Fault::E02));
+    };
+    match vids(vids_word) {
+        Ok(vids) => Ok(Ok(Expectation::Leaves { vids, names })),
         Err(fault) => Ok(Err(fault)),
     }
 }

@@ -39,6 +39,7 @@ pub enum Kind {
     Role,
     Reach,
     Apart,
+    Leaves,
     Together,
     Leaf,
     Depth,
@@ -69,13 +70,14 @@ macro_rules! forms {
     };
 }
 
-static FORMS: [Form; 12] = forms! {
+static FORMS: [Form; 13] = forms! {
     b"root" Root [Tree Bridge];
     b"root" RootNext [Tree Bridge Next NextBridge];
     b"region" Region [Names];
     b"role" Role [Tree Ports Roles];
     b"reach" Reach [Vids Names];
     b"apart" Apart [Vids Names Names];
+    b"leaves" Leaves [Vids Names];
     b"together" Together [Vids Names];
     b"leaf" Leaf [Tree Names];
     b"depth" Depth [Tree Steps];

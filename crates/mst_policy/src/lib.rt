@@ -2,7 +2,7 @@
 //!
 //! A policy is cut into lines and words as a script is, and its lines have a script's names, port numbers, trees and VIDs. A
 //! line is an expectation, or a scope and an expectation behind it: the scope says in which networks it is judged. With `finally`
-//! in front it is of the end of a change alone.
+//! in front it is of the end of a change alone, and so is what is meant to be cut, `leaves`, by itself.
 //! [`parse_promise`] gives what a line promises, or the least [`Fault`](mst_lang::Fault) of it. [`forms`] is the table of
 //! expectations that it goes by.
 #![tactic(auto)]
@@ -14,6 +14,7 @@ mod fault;
 mod form;
 mod item;
 pub mod laws;
+mod leaving;
 mod policy;
 mod read;
 mod wording;
@@ -22,6 +23,7 @@ pub use expectation::{Expectation, Promise, Roles, Scope};
 pub use fault::text;
 pub use form::{Argument, Form, Kind, form_of, forms, is_argument};
 pub use item::{NameItem, NameList, PortItem, PortList, PortsOf};
+pub use leaving::Leaving;
 pub use policy::{Policy, PolicyLine};
 pub use read::parse_promise;
 pub use wording::Wording;

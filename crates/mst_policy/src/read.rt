@@ -2,7 +2,7 @@ ghost use Rattle.std.specs.Prelude.{◌≡◌, ◌∷◌, IfOk};
 ghost use Rattle.std.specs.Option.{option_map};
 ghost use Rattle.mst_lang.specs.Words.{words};
 ghost use Rattle.mst_policy.specs.Arguments.{names_value};
-ghost use Rattle.mst_policy.specs.Reading.{reading, promised, after as after_words, finally as finally_words, in_scope as promised_in, in_the_end, scoped as scoped_words};
+ghost use Rattle.mst_policy.specs.Reading.{reading, promised, after as after_words, behind_scope as expected_behind, finally as finally_words, in_scope as promised_in, in_the_end, is_leaving as are_leaving, of_the_end as end_words, scoped as scoped_words};
 ghost use Rattle.mst_policy.specs.declared.expectation.Scope.TheVariants.{AfterLan, AfterBridge};
 
 use crate::arguments::names;
@@ -57,8 +57,36 @@ fn promise(
 {
     if is_word(word, b"finally") {
         finally(alloc, others)
+    } else if is_word(word, b"leaves") {
+        at_the_end(alloc, line, word, others)
     } else {
         scoped(alloc, line, word, others)
+    }
+}
+
+/// Whether words are of what is meant to be cut, which neither a scope nor `finally` may stand in front of.
+fn is_leaving(text: &[u8]) -> bool
+    ensures { result ≡ are_leaving (words text.now) }
+{
+    match next_word(text) {
+        Some((word, _)) => is_word(word, b"leaves"),
+        None => false,
+    }
+}
+
+/// What words promise of the end alone.
+fn at_the_end(
+    alloc: Global,
+    line: &[u8],
+    word: &[u8],
+    others: &[u8],
+) -> Result<Result<Promise, Fault>, AllocError>
+    requires { words line.now ≡ word.now ∷ words others.now }
+    ensures { IfOk result (λ read. read ≡ end_words word.now (words others.now)) }
+{
+    match scoped(alloc, line, word, others)? {
+        Ok(promise) => Ok(Ok(of_the_end(promise))),
+        Err(fault) => Ok(Err(fault)),
     }
 }
 
@@ -69,10 +97,10 @@ fn finally(alloc: Global, text: &[u8]) -> Result<Result<Promise, Fault>, AllocEr
     let Some((word, others)) = next_word(text) else {
         return Ok(Err(Fault::E01));
     };
-    match scoped(alloc, text, word, others)? {
-        Ok(promise) => Ok(Ok(of_the_end(promise))),
-        Err(fault) => Ok(Err(fault)),
+    if is_leaving(text) {
+        return Ok(Err(Fault::E01));
     }
+    at_the_end(alloc, text, word, others)
 }
 
 fn of_the_end(promise: Promise) -> Promise
@@ -98,12 +126,22 @@ fn scoped(
     if is_word(word, b"after") {
         after(alloc, others)
     } else if is_word(word, b"always") {
-        let expectation = expectation(alloc, others)?;
+        let expectation = behind_scope(alloc, others)?;
         Ok(in_scope(Some(Scope::Always), expectation))
     } else {
         let expectation = expectation(alloc, line)?;
         Ok(in_scope(Some(Scope::Now), expectation))
     }
+}
+
+/// What words expect that stand behind a scope.
+fn behind_scope(alloc: Global, text: &[u8]) -> Result<Result<Expectation, Fault>, AllocError>
+    ensures { IfOk result (λ read. read ≡ expected_behind (words text.now)) }
+{
+    if is_leaving(text) {
+        return Ok(Err(Fault::E01));
+    }
+    expectation(alloc, text)
 }
 
 /// What the words behind `after` promise.
@@ -118,11 +156,11 @@ fn after(alloc: Global, arguments: &[u8]) -> Result<Result<Promise, Fault>, Allo
     };
     if is_word(kind, b"lan") {
         let scope = after_lan(alloc, list)?;
-        let expectation = expectation(alloc, others)?;
+        let expectation = behind_scope(alloc, others)?;
         Ok(in_scope(scope, expectation))
     } else if is_word(kind, b"bridge") {
         let scope = after_bridge(alloc, list)?;
-        let expectation = expectation(alloc, others)?;
+        let expectation = behind_scope(alloc, others)?;
         Ok(in_scope(scope, expectation))
     } else {
         Ok(Err(Fault::E01))

@@ -11,7 +11,7 @@ use Rattle.mst_lang.specs.declared.line.Fault.{Fault}
 use Rattle.mst_lang.specs.declared.line.Fault.TheVariants.{E01, E02, E03}
 use Rattle.mst_policy.specs.Arguments.{with, names, names_value, ports, roles, steps, none_of, one, two, three}
 use Rattle.mst_policy.specs.Forms.{all_kinds, expected, is_right, kind_of, may_stand, root, root_alone, root_next, rule_of, takes}
-use Rattle.mst_policy.specs.Reading.{after, finally, in_scope, in_the_end, promise, promised, reading, scoped, worded}
+use Rattle.mst_policy.specs.Reading.{after, behind_scope, finally, in_scope, in_the_end, is_leaving, of_the_end, promise, promised, reading, scoped, worded}
 use Rattle.mst_policy.specs.declared.expectation.Expectation.{Expectation}
 use Rattle.mst_policy.specs.declared.expectation.Expectation.TheVariants as expectations
 use Rattle.mst_policy.specs.declared.expectation.Promise.{Promise}
@@ -23,7 +23,7 @@ use Rattle.mst_policy.specs.declared.form.Kind.{Kind}
 use Rattle.mst_policy.specs.declared.form.Kind.TheVariants as kinds
 use Rattle.mst_policy.specs.declared.item.NameItem.{NameItem}
 use Rattle.mst_hints.specs.Hints.{too_long}
-use Rattle.mst_policy_hints.specs.Hints.{after_hint, after_text, arguments_of, behind_hint, byte_text, expected_hint, failing_text, finally_hint, first_wrong, form_hint, form_of, has_form, hint_of, is_finally, promise_hint, scoped_hint, worded_hint, wrong_text}
+use Rattle.mst_policy_hints.specs.Hints.{after_hint, after_text, alone_text, arguments_of, behind_hint, behind_scope_hint, byte_text, expected_hint, failing_text, finally_hint, first_wrong, form_hint, form_of, has_form, hint_of, is_finally, promise_hint, scoped_hint, worded_hint, wrong_text}
 
 -- ---- tests
 and_no : (a : Bool) → (a && false) ≡ true → ⊥
@@ -127,6 +127,7 @@ says_alike kinds.Region = one_says Names names expectations.Region (λ w. refl)
 says_alike kinds.Role = three_says Tree Ports Roles tree ports roles expectations.Role (λ w. refl) (λ w. refl) (λ w. refl)
 says_alike kinds.Reach = two_says Vids Names vids names expectations.Reach (λ w. refl) (λ w. refl)
 says_alike kinds.Apart = three_says Vids Names Names vids names names expectations.Apart (λ w. refl) (λ w. refl) (λ w. refl)
+says_alike kinds.Leaves = two_says Vids Names vids names expectations.Leaves (λ w. refl) (λ w. refl)
 says_alike kinds.Together = two_says Vids Names vids names expectations.Together (λ w. refl) (λ w. refl)
 says_alike kinds.Leaf = two_says Tree Names tree names expectations.Leaf (λ w. refl) (λ w. refl)
 says_alike kinds.Depth = two_says Tree Steps tree steps expectations.Depth (λ w. refl) (λ w. refl)
@@ -154,9 +155,23 @@ formless : (word : List ℕ) (arguments : List (List ℕ)) (o : Option (List Arg
 formless word arguments None is = refl
 formless word arguments (Some form) is = absurd (true≢false is)
 
-formless_hinted : (words : List (List ℕ)) → has_form words ≡ false → is_some (expected_hint words) ≡ true
+-- ---- of one test
+if_hinted : {A : Type 0} (b : Bool) (h k : Option (List ℕ)) (r s : Result A Fault) → is_some h ≡ is_err r → is_some k ≡ is_err s → is_some (cond b h k) ≡ is_err (cond b r s)
+if_hinted true h k r s first second = first
+if_hinted false h k r s first second = second
+
+-- ---- what stands by itself
+behind_scope_hinted : (words : List (List ℕ)) → is_some (behind_scope_hint words) ≡ is_err (behind_scope words)
+behind_scope_hinted words = if_hinted (is_leaving words) (Some alone_text) (expected_hint words) (Err E01) (expected words) refl (expected_hinted words)
+
+-- words have a hint that are of no form which a scope may stand in front of
+formless_behind : (alone : Bool) (word : List ℕ) (arguments : List (List ℕ)) (o : Option (List Argument)) → (not alone && is_some o) ≡ false → is_some (cond alone (Some alone_text) (form_hint word arguments o)) ≡ true
+formless_behind true word arguments o is = refl
+formless_behind false word arguments o is = formless word arguments o is
+
+formless_hinted : (words : List (List ℕ)) → has_form words ≡ false → is_some (behind_scope_hint words) ≡ true
 formless_hinted [] is = refl
-formless_hinted (word ∷ arguments) is = formless word arguments (form_of word arguments) is
+formless_hinted (word ∷ arguments) is = formless_behind (is_leaving (word ∷ arguments)) word arguments (form_of word arguments) is
 
 -- ---- a scope
 with_err : {A B : Type 0} (f : A → B) (r : Result A Fault) → is_err (with (Ok f) r) ≡ is_err r
@@ -175,9 +190,9 @@ behind_by make (Some items) r has h text same there = same ∙ sym (with_err (pr
 behind_by make None r true h text same there = sym (no_scope r)
 behind_by make None r false h text same there = there refl ∙ sym (no_scope r)
 
-behind_hinted : (make : List NameItem → Scope) (failing list : List ℕ) (others : List (List ℕ)) → is_some (behind_hint failing list others) ≡ is_err (in_scope (option_map make (names_value list)) (expected others))
+behind_hinted : (make : List NameItem → Scope) (failing list : List ℕ) (others : List (List ℕ)) → is_some (behind_hint failing list others) ≡ is_err (in_scope (option_map make (names_value list)) (behind_scope others))
 behind_hinted make failing list others =
-    behind_by make (names_value list) (expected others) (has_form others) (expected_hint others) (failing_text failing) (expected_hinted others) (formless_hinted others)
+    behind_by make (names_value list) (behind_scope others) (has_form others) (behind_scope_hint others) (failing_text failing) (behind_scope_hinted others) (formless_hinted others)
 
 -- by the kind of what fails
 either_hinted : (a b : Bool) (h k : Option (List ℕ)) (r s t : Result Promise Fault) → is_some h ≡ is_err r → is_some h ≡ is_err s → is_some k ≡ is_err t → is_some (cond (a || b) h k) ≡ is_err (cond a r (cond b s t))
@@ -190,28 +205,35 @@ after_hinted [] = refl
 after_hinted (failing ∷ []) = refl
 after_hinted (failing ∷ list ∷ others) =
     either_hinted (is_text failing (codes "lan")) (is_text failing (codes "bridge")) (behind_hint failing list others) (Some after_text)
-    (in_scope (option_map AfterLan (names_value list)) (expected others)) (in_scope (option_map AfterBridge (names_value list)) (expected others)) (Err E01)
+    (in_scope (option_map AfterLan (names_value list)) (behind_scope others)) (in_scope (option_map AfterBridge (names_value list)) (behind_scope others)) (Err E01)
     (behind_hinted AfterLan failing list others) (behind_hinted AfterBridge failing list others) refl
 
 -- ---- a line
-if_hinted : {A : Type 0} (b : Bool) (h k : Option (List ℕ)) (r s : Result A Fault) → is_some h ≡ is_err r → is_some k ≡ is_err s → is_some (cond b h k) ≡ is_err (cond b r s)
-if_hinted true h k r s first second = first
-if_hinted false h k r s first second = second
-
 scoped_hinted : (word : List ℕ) (others : List (List ℕ)) → is_some (scoped_hint word others) ≡ is_err (scoped word others)
 scoped_hinted word others =
     if_hinted (is_text word (codes "after")) (after_hint others) _ (after others) _ (after_hinted others)
-    (if_hinted (is_text word (codes "always")) (expected_hint others) (expected_hint (word ∷ others)) (in_scope (Some Always) (expected others)) (in_scope (Some Now) (expected (word ∷ others)))
-    (expected_hinted others ∙ sym (with_err (promise Always) (expected others)))
+    (if_hinted (is_text word (codes "always")) (behind_scope_hint others) (expected_hint (word ∷ others)) (in_scope (Some Always) (behind_scope others)) (in_scope (Some Now) (expected (word ∷ others)))
+    (behind_scope_hinted others ∙ sym (with_err (promise Always) (behind_scope others)))
     (expected_hinted (word ∷ others) ∙ sym (with_err (promise Now) (expected (word ∷ others)))))
+
+-- of the end alone, too
+end_hinted : (word : List ℕ) (others : List (List ℕ)) → is_some (scoped_hint word others) ≡ is_err (of_the_end word others)
+end_hinted word others = scoped_hinted word others ∙ sym (with_err in_the_end (scoped word others))
 
 finally_hinted : (words : List (List ℕ)) → is_some (finally_hint words) ≡ is_err (finally words)
 finally_hinted [] = refl
-finally_hinted (word ∷ others) = scoped_hinted word others ∙ sym (with_err in_the_end (scoped word others))
+finally_hinted (word ∷ others) =
+    if_hinted (is_leaving (word ∷ others)) (Some alone_text) (scoped_hint word others) (Err E01) (of_the_end word others) refl (end_hinted word others)
+
+-- with one hint, of the end alone or not
+one_hinted : (final : Bool) (h : Option (List ℕ)) (r s : Result Promise Fault) → is_some h ≡ is_err r → is_some h ≡ is_err s → is_some h ≡ is_err (cond final r s)
+one_hinted true h r s first second = first
+one_hinted false h r s first second = second
 
 promise_hinted : (word : List ℕ) (others : List (List ℕ)) → is_some (promise_hint word others) ≡ is_err (promised word others)
 promise_hinted word others =
-    if_hinted (is_finally word) (finally_hint others) (scoped_hint word others) (finally others) (scoped word others) (finally_hinted others) (scoped_hinted word others)
+    if_hinted (is_finally word) (finally_hint others) (scoped_hint word others) (finally others) _ (finally_hinted others)
+    (one_hinted (is_leaving (word ∷ others)) (scoped_hint word others) (of_the_end word others) (scoped word others) (end_hinted word others) (scoped_hinted word others))
 
 words_hinted : (plain : Bool) (bytes : List ℕ) (words : List (List ℕ)) → is_some (worded_hint plain bytes words) ≡ is_err (worded plain words)
 words_hinted plain bytes [] = if_hinted plain None (Some bytes) (Ok None) (Err E01) refl refl

@@ -1,5 +1,5 @@
 -- What would be right where a line of a policy isn't read.
-use Rattle.std.specs.Prelude.{ℕ, ◌||◌, Bool, true, false, not, List, [], ◌∷◌, ◌++◌, length, nat_lt, Option, Some, None, is_some, if◌then◌else◌, codes}
+use Rattle.std.specs.Prelude.{ℕ, ◌&&◌, ◌||◌, Bool, true, false, not, List, [], ◌∷◌, ◌++◌, length, nat_lt, Option, Some, None, is_some, if◌then◌else◌, codes}
 use Rattle.std.specs.Option.{option_map}
 use Rattle.std.specs.List.{flat_map, list_all, list_any}
 use Rattle.mst_ids.specs.Words.{after_space}
@@ -9,6 +9,7 @@ use Rattle.mst_lang.specs.Reading.{is_comment}
 use Rattle.mst_lang.specs.Words.{words, is_plain}
 use Rattle.mst_hints.specs.Hints.{too_long, bad_byte, has_order_mark, is_utf16, besides, question, comment_text, count_text}
 use Rattle.mst_policy.specs.Forms.{Row, rule_of, kind_of, is_right, range_of, word_of}
+use Rattle.mst_policy.specs.Reading.{is_leaving}
 use Rattle.mst_policy.specs.declared.form.Argument.{Argument}
 use Rattle.mst_policy.specs.declared.form.Argument.TheVariants.{Names}
 use Rattle.mst_policy.specs.declared.form.Kind.{Kind}
@@ -132,6 +133,14 @@ abbrev pub expected_hint : List (List ℕ) → Option (List ℕ)
 expected_hint [] = Some scope_text
 expected_hint (word ∷ arguments) = form_hint word arguments (form_of word arguments)
 
+-- ---- the hint of what stands by itself
+unfoldable pub alone_text : List ℕ
+alone_text = codes "leaves stands by itself, without a scope or finally; it is judged in the last network"
+
+-- of an expectation behind a scope
+abbrev pub behind_scope_hint : List (List ℕ) → Option (List ℕ)
+behind_scope_hint words = if is_leaving words then Some alone_text else expected_hint words
+
 -- ---- the hint of a scope
 unfoldable pub after_text : List ℕ
 after_text = codes "after takes lan NAMES or bridge NAMES, and an expectation behind it"
@@ -140,14 +149,14 @@ after_text = codes "after takes lan NAMES or bridge NAMES, and an expectation be
 abbrev pub failing_text : List ℕ → List ℕ
 failing_text failing = codes "after " ++ failing ++ form_text (Names ∷ []) ++ codes ": " ++ range_of Names
 
--- whether words are of a form of an expectation
+-- whether words are of a form of an expectation that a scope may stand in front of
 abbrev pub has_form : List (List ℕ) → Bool
 has_form [] = false
-has_form (word ∷ arguments) = is_some (form_of word arguments)
+has_form (word ∷ arguments) = not (is_leaving (word ∷ arguments)) && is_some (form_of word arguments)
 
 -- of the words behind `after`: the list is told where it is none and the words behind it are an expectation's
 abbrev pub behind_hint : List ℕ → List ℕ → List (List ℕ) → Option (List ℕ)
-behind_hint failing list others = if is_right Names list || not (has_form others) then expected_hint others else Some (failing_text failing)
+behind_hint failing list others = if is_right Names list || not (has_form others) then behind_scope_hint others else Some (failing_text failing)
 
 abbrev pub after_hint : List (List ℕ) → Option (List ℕ)
 after_hint (failing ∷ list ∷ others) = if is_failing failing then behind_hint failing list others else Some after_text
@@ -157,7 +166,7 @@ after_hint _ = Some after_text
 abbrev pub scoped_hint : List ℕ → List (List ℕ) → Option (List ℕ)
 scoped_hint word others =
     if is_text word (codes "after") then after_hint others
-    else (if is_text word (codes "always") then expected_hint others else expected_hint (word ∷ others))
+    else (if is_text word (codes "always") then behind_scope_hint others else expected_hint (word ∷ others))
 
 -- ---- the hint of what stands behind `finally`
 unfoldable pub finally_text : List ℕ
@@ -166,7 +175,7 @@ finally_text = codes "finally has an expectation behind it"
 -- of the words behind `finally`
 abbrev pub finally_hint : List (List ℕ) → Option (List ℕ)
 finally_hint [] = Some finally_text
-finally_hint (word ∷ others) = scoped_hint word others
+finally_hint (word ∷ others) = if is_leaving (word ∷ others) then Some alone_text else scoped_hint word others
 
 -- ---- the hint of a line
 abbrev pub promise_hint : List ℕ → List (List ℕ) → Option (List ℕ)

@@ -1,7 +1,8 @@
 ghost use Rattle.std.specs.Prelude.{◌≡◌, ◌++◌, ◌∷◌, Some, OnOk};
 ghost use Rattle.mst_hints.specs.Hints.{hint_line, too_long};
 ghost use Rattle.mst_lang.specs.Words.{words};
-ghost use Rattle.mst_policy_hints.specs.Hints.{after_hint, after_text, behind_hint, byte_text as byte_text_of, expected_hint, failing_text, finally_hint, finally_text, form_hint, form_of as form_of_words, formless_text, all_forms_text, has_form as has_form_of, hint_of, number_text, promise_hint, scope_text, scoped_hint, words_text, wrong_text};
+ghost use Rattle.mst_policy.specs.Reading.{is_leaving as are_leaving};
+ghost use Rattle.mst_policy_hints.specs.Hints.{after_hint, after_text, alone_text, behind_hint, behind_scope_hint, byte_text as byte_text_of, expected_hint, failing_text, finally_hint, finally_text, form_hint, form_of as form_of_words, formless_text, all_forms_text, has_form as has_form_of, hint_of, number_text, promise_hint, scope_text, scoped_hint, words_text, wrong_text};
 
 use crate::bytes::byte_text;
 use crate::form::{first_wrong, form_of, is_expectation, push_form, push_forms};
@@ -86,6 +87,9 @@ fn push_finally_hint(
 ) -> Result<(), AllocError>
     ensures { OnOk result (out.new.items ≡ out.old.items ++ hint_line of.now number (finally_hint (words text.now))) }
 {
+    if is_leaving(text) {
+        return push_alone(of, number, out);
+    }
     match next_word(text) {
         Some((word, others)) => push_scoped_hint(of, number, text, word, others, out),
         None => push_finally(of, number, out),
@@ -99,6 +103,47 @@ fn push_finally(of: &[u8], number: u64, out: &mut Vec<u8>) -> Result<(), AllocEr
 {
     push_text(of, number, "finally has an expectation behind it", out)?;
     Ok(())
+}
+
+// ---- what stands by itself
+
+/// Whether words are of what is meant to be cut.
+fn is_leaving(text: &[u8]) -> bool
+    ensures { result ≡ are_leaving (words text.now) }
+{
+    match next_word(text) {
+        Some((word, _)) => word == b"leaves".as_slice(),
+        None => false,
+    }
+}
+
+/// Appends that neither a scope nor `finally` stands in front of what is meant to be cut.
+#[tactic(auto, unfolding(crate::specs::Hints::alone_text))]
+fn push_alone(of: &[u8], number: u64, out: &mut Vec<u8>) -> Result<(), AllocError>
+    ensures { OnOk result (out.new.items ≡ out.old.items ++ hint_line of.now number (Some alone_text)) }
+{
+    push_text(
+        of,
+        number,
+        "leaves stands by itself, without a scope or finally; it is judged in the last network",
+        out,
+    )?;
+    Ok(())
+}
+
+/// Appends the hint of an expectation behind a scope, if there is one.
+fn push_behind_scope(
+    of: &[u8],
+    number: u64,
+    text: &[u8],
+    out: &mut Vec<u8>,
+) -> Result<(), AllocError>
+    ensures { OnOk result (out.new.items ≡ out.old.items ++ hint_line of.now number (behind_scope_hint (words text.now))) }
+{
+    if is_leaving(text) {
+        return push_alone(of, number, out);
+    }
+    push_expected_hint(of, number, text, out)
 }
 
 // ---- scopes
@@ -118,7 +163,7 @@ fn push_scoped_hint(
     if word == b"after".as_slice() {
         push_after_hint(of, number, others, out)
     } else if word == b"always".as_slice() {
-        push_expected_hint(of, number, others, out)
+        push_behind_scope(of, number, others, out)
     } else {
         push_expected_hint(of, number, line, out)
     }
@@ -165,7 +210,7 @@ fn push_behind_hint(
     ensures { OnOk result (out.new.items ≡ out.old.items ++ hint_line of.now number (behind_hint failing.now list.now (words others.now))) }
 {
     if is_argument(Argument::Names, list) || !has_form(others) {
-        push_expected_hint(of, number, others, out)
+        push_behind_scope(of, number, others, out)
     } else {
         push_start(of, number, out)?;
         push_failing(failing, out)?;
@@ -173,12 +218,12 @@ fn push_behind_hint(
     }
 }
 
-/// Whether words are of a form of an expectation.
+/// Whether words are of a form of an expectation that a scope may stand in front of.
 fn has_form(text: &[u8]) -> bool
     ensures { result ≡ has_form_of (words text.now) }
 {
     match next_word(text) {
-        Some((word, arguments)) => form_of(word, arguments).is_some(),
+        Some((word, arguments)) => !is_leaving(text) && form_of(word, arguments).is_some(),
         None => false,
     }
 }
