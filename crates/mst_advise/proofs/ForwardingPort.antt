@@ -18,7 +18,7 @@ use Rattle.mst_roles.proofs.forest_lemmas.Lists.{no_some, some_is}
 use Rattle.mst_roles.proofs.forest_lemmas.Looking.{first_found}
 use Rattle.mst_roles.proofs.forest_lemmas.Seen.{port_there}
 use Rattle.mst_verify.specs.tree_judges.judged.reasons.Holds.{Holds, is_wanted}
-use Rattle.mst_verify.specs.tree_judges.judged.reasons.Named.{is_enabled, is_port_named, stopped}
+use Rattle.mst_verify.specs.tree_judges.judged.reasons.Named.{is_enabled, is_port_named, nothing_before, stopped}
 use Rattle.mst_verify.proofs.tree_judges_lemmas.RegionOf.{found_there}
 use Rattle.mst_advise.specs.Costs.{port_named}
 use Rattle.mst_advise.specs.Goals.{forwarding, this_port}
@@ -49,7 +49,7 @@ module _ (s : SettledNet) (is : IsSettledNet s) (tree : ℕ) (name : PortName) w
   its = is_port_named s.net (this_port name)
 
   abbrev IsWanted : Type 0
-  IsWanted = Holds s.net (outcome_of s) s.net None None (expect.Role tree (this_port name) forwarding)
+  IsWanted = Holds s.net (outcome_of s) s.net None nothing_before (expect.Role tree (this_port name) forwarding)
 
   -- one of these has the name
   has_name : (p : LogicalPort) → its p ≡ true → p.name ≡ name

@@ -4,6 +4,7 @@ use Rattle.std.specs.List.{AllByRecursion}
 use Rattle.mst_net.specs.tables.Tables.{Net, IsNetwork}
 use Rattle.mst_rows.specs.Rows.{Row}
 use Rattle.mst_roles.specs.forest.Outcome.{Outcome, IsOutcome}
+use Rattle.mst_policy.specs.Leaving.{Leaving}
 use Rattle.mst_sweeping.specs.StepText.{AreStepRows}
 use Rattle.mst_sweeping.specs.declared.step.Deed.{Deed}
 use Rattle.mst_sweeping.specs.declared.step.Deed.TheVariants as deed
@@ -26,7 +27,7 @@ OneOutcome = (net : Net) (o p : Outcome) → IsNetwork net → IsOutcome net o �
 abbrev pub OneStep : Type 0
 OneStep =
     (a b : Net) (o p q r : Outcome) → IsNetwork a → IsNetwork b → IsOutcome a o → IsOutcome b p → IsOutcome a q → IsOutcome b r
-    → (step : Deed) (rows other : List Row) (told said : Stepped) → AreStepRows a o b p step rows told → AreStepRows a q b r step other said → (rows ≡ other) × (told ≡ said)
+    → (leaving : Leaving) (step : Deed) (rows other : List Row) (told said : Stepped) → AreStepRows leaving a o b p step rows told → AreStepRows leaving a q b r step other said → (rows ≡ other) × (told ≡ said)
 
 -- a result isn't both
 not_both : {A E : Type 0} (r : Result A E) (a : A) → r ≡ Ok a → IsErr r → ⊥
@@ -59,8 +60,8 @@ module _ (goal : Goal) (net : Net) (o : Outcome) (outcomes : OneOutcome) (steps 
   same_told settings rows other x y =
       let now = same_now settings x.now y.now x.outcome y.outcome x.made y.made in
       let outcome = same_outcome settings x.now y.now x.outcome y.outcome x.made y.made in
-      let told : AreStepRows net o x.now x.outcome deed.Edits y.own y.does = subst (λ p. AreStepRows net o x.now p deed.Edits y.own y.does) (sym outcome) (subst (λ n. AreStepRows net o n y.outcome deed.Edits y.own y.does) (sym now) y.told) in
-      let own : x.own ≡ y.own = (steps net x.now o x.outcome o x.outcome is x.made.is_network settled x.made.is_outcome settled x.made.is_outcome deed.Edits x.own y.own x.does y.does x.told told).0 in
+      let told : AreStepRows [] net o x.now x.outcome deed.Edits y.own y.does = subst (λ p. AreStepRows [] net o x.now p deed.Edits y.own y.does) (sym outcome) (subst (λ n. AreStepRows [] net o n y.outcome deed.Edits y.own y.does) (sym now) y.told) in
+      let own : x.own ≡ y.own = (steps net x.now o x.outcome o x.outcome is x.made.is_network settled x.made.is_outcome settled x.made.is_outcome [] deed.Edits x.own y.own x.does y.does x.told told).0 in
       x.are ∙ ap (λ (rows : List Row). map setting_row settings ++ rows ++ count_row (length settings) ∷ []) own ∙ sym y.are
 
   -- the first of a list that brings it about

@@ -37,7 +37,7 @@ pub record Bring (goal : Goal) (net : Net) (o : Outcome) (settings : List Settin
   pub has : Has goal now outcome
   pub own : List Row
   pub does : Stepped
-  pub told : AreStepRows net o now outcome deed.Edits own does
+  pub told : AreStepRows [] net o now outcome deed.Edits own does
   pub are : rows ≡ map setting_row settings ++ own ++ count_row (length settings) ∷ []
 
 -- trying settings: they bring it about, or don't, and nothing is told

@@ -5,6 +5,7 @@ use Rattle.mst_net.specs.tables.Tables.{Net, IsNetwork}
 use Rattle.mst_net.specs.tables.declared.refusal.Refusal.{Refusal}
 use Rattle.mst_roles.specs.forest.Outcome.{Outcome, IsOutcome}
 use Rattle.mst_verify.specs.tree_judges.judged.reasons.Holds.{Holds}
+use Rattle.mst_verify.specs.tree_judges.judged.reasons.Named.{nothing_before}
 use Rattle.mst_advise.specs.Goals.{expectation_of}
 use Rattle.mst_advise.specs.Settings.{edit_of}
 use Rattle.mst_advise.specs.declared.goal.Goal.{Goal}
@@ -27,4 +28,4 @@ pub record Make (net : Net) (settings : List Setting) (now : Net) (p : Outcome) 
 
 -- a goal holds in a network with a settled outcome
 abbrev pub Has : Goal → Net → Outcome → Type 0
-Has goal net o = Holds net o net None None (expectation_of goal)
+Has goal net o = Holds net o net None nothing_before (expectation_of goal)

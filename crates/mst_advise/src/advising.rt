@@ -24,6 +24,7 @@ use crate::told::{put_because, put_count, put_none, put_settings};
 use indexmap::IndexSet;
 use mst_ids::{Name, PortName, Tree};
 use mst_net::{Network, Ready, Refusal};
+use mst_policy::Leaving;
 use mst_roles::Settled;
 use mst_roles::forest_laws::one_outcome;
 use mst_rows::Rows;
@@ -65,7 +66,8 @@ fn put_if_had<R: Rows>(
     }
     let replugged = IndexSet::new(alloc);
     put_settings(settings, out)?;
-    put_between(alloc, &Deed::Edits, old, new, &replugged, out)?;
+    let leaving = Leaving::none(alloc);
+    put_between(alloc, &Deed::Edits, old, new, &replugged, &leaving, out)?;
     put_count(settings.len() as u64, out)?;
     Ok(true)
 }

@@ -31,7 +31,8 @@ pub use failure::{Failure, failures};
 pub use homes::{homes_by, homes_of};
 pub use mst_facts::{Both, Planned, bridges_of_both};
 pub use mst_vlan::{
-    Carriage, classes_of_both, classes_of_vids, differing, flagged, laws as vlan_laws, set_of, vids,
+    Carriage, classes_of_both_in, classes_of_vids_in, differing, flagged, laws as vlan_laws,
+    set_of, vids,
 };
 pub use parts::{Stays, all_parts, staying};
 pub use ports::changes_role;

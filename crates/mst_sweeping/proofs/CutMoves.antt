@@ -6,15 +6,16 @@ use Rattle.mst_graph.proofs.Members.{from_filter, here, in_filter, in_none}
 use Rattle.mst_net.specs.tables.Tables.{Net}
 use Rattle.mst_rows.specs.Rows.{Row}
 use Rattle.mst_plan.specs.forest.Outcome.{Outcome}
+use Rattle.mst_policy.specs.Leaving.{Leaving}
 use Rattle.mst_sweep.specs.vlan.classes.AllVids.{all_vids}
 use Rattle.mst_graph.specs.Lists.{has_any}
 use Rattle.mst_sweep.proofs.vlan_lemmas.classes_lemmas.VidPlaces.{is_vid_there}
 use Rattle.mst_sweep.proofs.vlan_lemmas.OneList.{OneList}
-use Rattle.mst_sweep.proofs.OneSweep.{one_parts}
 use Rattle.mst_sweeping.specs.declared.step.Deed.{Deed}
 use Rattle.mst_sweeping.specs.declared.step.Stepped.{Stepped}
 use Rattle.mst_sweeping.specs.MovedVids.{links_differ}
 use Rattle.mst_sweeping.specs.StepText.{AreStepRows}
+use Rattle.mst_sweeping.proofs.Remaining.{cut_at_all}
 
 by_first : (c j d : Bool) → c ≡ true → (c || j || d) ≡ true
 by_first c j d e = ap (λ c. c || j || d) e
@@ -32,7 +33,7 @@ first_there : (xs : List ℕ) → has_any xs ≡ true → (x : ℕ) × Contains 
 first_there [] e = absurd (true≢false (sym e))
 first_there (x ∷ xs) e = (x, here x xs)
 
-module _ (a b : Net) (o p : Outcome) (one : OneList) (step : Deed) (rows : List Row) (told : Stepped) (x : AreStepRows a o b p step rows told) where
+module _ (leaving : Leaving) (a b : Net) (o p : Outcome) (one : OneList) (step : Deed) (rows : List Row) (told : Stepped) (x : AreStepRows leaving a o b p step rows told) where
   flagged_moves : (vid : ℕ) → Contains all_vids vid → x.are_moved.flags vid ≡ true → Contains x.moved vid
   flagged_moves vid h e = subst (λ vids. Contains vids vid) (sym x.are_moved.are) (in_filter x.are_moved.flags all_vids vid h e)
 
@@ -41,8 +42,7 @@ module _ (a b : Net) (o p : Outcome) (one : OneList) (step : Deed) (rows : List 
       let own = from_filter (λ vid. has_any (x.are_cut.parts vid)) all_vids vid (subst (λ vids. Contains vids vid) x.are_cut.cut h) in
       let v : is_vid vid ≡ true = is_vid_there vid own.0 in
       let m = x.are_moved.each vid v in
-      let same = one_parts a b o p one vid m.2.0 (x.are_cut.parts vid) m.2.1 (x.are_cut.are_parts vid v) in
-      let cut : m.0 ≡ true = m.2.2 ∙ ap has_any same ∙ own.1 in
+      let cut : m.0 ≡ true = m.2.2 ∙ cut_at_all leaving a b o p vid (x.are_cut.parts vid) one m.2.0 (x.are_cut.are_parts vid v) m.2.1 own.1 in
       flagged_moves vid own.0 (m.4 ∙ by_first m.0 m.1 (links_differ a o b p vid) cut)
 
   pub joined_moves : (vid : ℕ) → Contains x.joined vid → Contains x.moved vid
@@ -51,8 +51,7 @@ module _ (a b : Net) (o p : Outcome) (one : OneList) (step : Deed) (rows : List 
       let v : is_vid vid ≡ true = is_vid_there vid own.0 in
       let m = x.are_moved.each vid v in
       let j = x.are_joined.each vid v in
-      let same = one_parts b a p o one vid m.3.0 j.0 m.3.1 j.1 in
-      let joined : m.1 ≡ true = m.3.2 ∙ ap has_any same ∙ sym j.2 ∙ own.1 in
+      let joined : m.1 ≡ true = m.3.2 ∙ cut_at_all leaving b a p o vid j.0 one m.3.0 j.1 m.3.1 (sym j.2 ∙ own.1) in
       flagged_moves vid own.0 (m.4 ∙ by_second m.0 m.1 (links_differ a o b p vid) joined)
 
   pub told_moves : told.cuts ≡ true → told.moves ≡ true

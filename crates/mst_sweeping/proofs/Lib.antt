@@ -15,6 +15,11 @@ pub mod Replugged
 pub mod NoneAnew
 pub mod RestartLaws
 pub mod Flagged
+pub mod Remaining
+pub mod OfHomes
 pub mod SameFate
 pub mod CutMoves
 pub mod OneStep
+pub mod Turned
+pub mod TurnLists
+pub mod TurnLaws

@@ -5,6 +5,7 @@ use Rattle.std.proofs.lemmas.List.{append-nil}
 use Rattle.mst_net.specs.tables.Tables.{Net}
 use Rattle.mst_rows.specs.Rows.{Row}
 use Rattle.mst_plan.specs.forest.Outcome.{Outcome}
+use Rattle.mst_policy.specs.Leaving.{Leaving}
 use Rattle.mst_sweep.specs.vlan.classes.AllVids.{all_vids}
 use Rattle.mst_graph.specs.Lists.{has_any}
 use Rattle.mst_plan.proofs.forest_lemmas.Entries.{all_weaker}
@@ -23,9 +24,11 @@ use Rattle.mst_sweep.proofs.OneSweep.{one_parts}
 use Rattle.mst_sweeping.specs.declared.step.Deed.{Deed}
 use Rattle.mst_sweeping.specs.declared.step.Deed.TheVariants as deed
 use Rattle.mst_sweeping.specs.declared.step.Stepped.{Stepped}
-use Rattle.mst_sweeping.specs.MovedVids.{AreVidsWhere, IsCut, IsJoined, IsMoved, links_differ}
+use Rattle.mst_sweeping.specs.MovedVids.{ArePartsBut, AreVidsWhere, IsCut, IsJoinedBut, IsMoved, links_differ}
 use Rattle.mst_sweeping.specs.Restarts.{restarting}
-use Rattle.mst_sweeping.specs.StepText.{cut_by, deed_row, restart_rows, AreStepRows, IsAsInSweep}
+use Rattle.mst_sweeping.specs.StepText.{cut_by, deed_row, restart_rows, rows_behind, turn_rows, AreStepRows, IsAsInSweep}
+use Rattle.mst_sweeping.specs.Turns.{turning}
+use Rattle.mst_sweeping.proofs.Remaining.{one_parts_but, parts_for_all}
 
 -- the VIDs that are so are one list, where of each VID one is so
 one_where : (Is : ℕ → Bool → Type 0) → ((vid : ℕ) (c d : Bool) → Is vid c → Is vid d → c ≡ d) → (us vs : List ℕ) → AreVidsWhere Is us → AreVidsWhere Is vs → us ≡ vs
@@ -37,6 +40,9 @@ one_where Is single us vs x y =
 
 one_cut_flag : (a b : Net) (o p : Outcome) → OneList → (vid : ℕ) (c d : Bool) → IsCut a o b p vid c → IsCut a o b p vid d → c ≡ d
 one_cut_flag a b o p one vid c d x y = x.2 ∙ ap has_any (one_parts a b o p one vid x.0 y.0 x.1 y.1) ∙ sym y.2
+
+one_joined : (leaving : Leaving) (a b : Net) (o p : Outcome) → OneList → (vid : ℕ) (c d : Bool) → IsJoinedBut leaving a o b p vid c → IsJoinedBut leaving a o b p vid d → c ≡ d
+one_joined leaving a b o p one vid c d x y = x.2 ∙ ap has_any (one_parts_but leaving b a p o vid x.0 one y.0 x.1 y.1) ∙ sym y.2
 
 -- no row of no ports
 no_restarts : (step : Deed) → restart_rows step [] ≡ []
@@ -50,21 +56,24 @@ module _ (a b : Net) (o p : Outcome) (one : OneList) (grouping : OneGrouping) wh
       let joined : x.1 ≡ y.1 = one_cut_flag b a p o one vid x.1 y.1 x.3 y.3 in
       x.4 ∙ (λ i. cut i || joined i || links_differ a o b p vid) ∙ sym y.4
 
-  module _ (step : Deed) (rows other : List Row) (told said : Stepped) (x : AreStepRows a o b p step rows told) (y : AreStepRows a o b p step other said) where
+  module _ (leaving : Leaving) (step : Deed) (rows other : List Row) (told said : Stepped) (x : AreStepRows leaving a o b p step rows told) (y : AreStepRows leaving a o b p step other said) where
     moved : x.moved ≡ y.moved
     moved = one_where (IsMoved a o b p) one_moved x.moved y.moved x.are_moved y.are_moved
 
     joined : x.joined ≡ y.joined
-    joined = one_where (IsJoined a o b p) (one_cut_flag b a p o one) x.joined y.joined x.are_joined y.are_joined
+    joined = one_where (IsJoinedBut leaving a o b p) (one_joined leaving a b o p one) x.joined y.joined x.are_joined y.are_joined
+
+    one_parts_of : (vid : ℕ) (parts other : List (List (List ℕ))) → ArePartsBut leaving a o b p vid parts → ArePartsBut leaving a o b p vid other → parts ≡ other
+    one_parts_of vid parts other = one_parts_but leaving a b o p vid parts one other
 
     cut : x.cut ≡ y.cut
-    cut = one_cut (AreParts a o b p) (one_parts a b o p one) grouping (cut_by step) x.cut y.cut x.cut_rows y.cut_rows x.are_cut y.are_cut
+    cut = one_cut (ArePartsBut leaving a o b p) one_parts_of grouping (cut_by step) x.cut y.cut x.cut_rows y.cut_rows x.are_cut y.are_cut
 
     cut_rows : x.cut_rows ≡ y.cut_rows
-    cut_rows = one_list (AreParts a o b p) (one_parts a b o p one) grouping (cut_by step) x.cut y.cut x.cut_rows y.cut_rows x.are_cut y.are_cut
+    cut_rows = one_list (ArePartsBut leaving a o b p) one_parts_of grouping (cut_by step) x.cut y.cut x.cut_rows y.cut_rows x.are_cut y.are_cut
 
     pub rows_same : rows ≡ other
-    rows_same = x.are ∙ (λ i. deed_row step (moved_roots a o b p) (moved_ports a o b p) (runs_of (moved i)) (runs_of (cut i)) (runs_of (joined i)) ∷ cut_rows i ++ restart_rows step (restarting a b)) ∙ sym y.are
+    rows_same = x.are ∙ (λ i. deed_row step (moved_roots a o b p) (moved_ports a o b p) (runs_of (moved i)) (runs_of (cut i)) (runs_of (joined i)) ∷ cut_rows i ++ rows_behind step (turning a o b p) (restarting a b)) ∙ sym y.are
 
     pub told_same : told ≡ said
     told_same =
@@ -73,12 +82,12 @@ module _ (a b : Net) (o p : Outcome) (one : OneList) (grouping : OneGrouping) wh
         λ i. record { moves = moves i; cuts = cuts i }
 
   -- ---- beside a failure
-  module _ (step : Deed) (failure : Failure) (rows failed : List Row) (told : Stepped) (cuts : Bool) (none : restarting a b ≡ []) (x : AreStepRows a o b p step rows told) (y : AreFailureRows a o b p failure failed cuts) where
+  module _ (step : Deed) (failure : Failure) (rows failed : List Row) (told : Stepped) (cuts : Bool) (none : restarting a b ≡ []) (x : AreStepRows [] a o b p step rows told) (y : AreFailureRows a o b p failure failed cuts) where
     -- the VIDs that the step cuts are cut by the failure, into the same parts
     by_failure : AreCutsBy (AreParts a o b p) (by.One failure) x.cut (flat_map (group_rows (by.One failure) x.are_cut.parts) x.are_cut.groups)
     by_failure = record {
       parts = x.are_cut.parts;
-      are_parts = x.are_cut.are_parts;
+      are_parts = λ vid v. parts_for_all [] a b o p vid (x.are_cut.parts vid) refl (x.are_cut.are_parts vid v);
       groups = x.are_cut.groups;
       are_groups = x.are_cut.are_groups;
       cut = x.are_cut.cut;
@@ -100,10 +109,13 @@ module _ (a b : Net) (o p : Outcome) (one : OneList) (grouping : OneGrouping) wh
       joined = runs_of x.joined;
       parts = x.are_cut.parts;
       groups = x.are_cut.groups;
+      turning = turning a o b p;
       of_step =
           x.are
           ∙ ap (λ rows. deed_row step (moved_roots a o b p) (moved_ports a o b p) (runs_of x.moved) (runs_of x.cut) (runs_of x.joined) ∷ rows)
-          ((λ i. x.are_cut.are i ++ restart_rows step (none i)) ∙ ap (λ none. flat_map (group_rows (cut_by step) x.are_cut.parts) x.are_cut.groups ++ none) (no_restarts step) ∙ append-nil (flat_map (group_rows (cut_by step) x.are_cut.parts) x.are_cut.groups));
+          ((λ i. x.are_cut.are i ++ rows_behind step (turning a o b p) (none i))
+          ∙ ap (λ none. flat_map (group_rows (cut_by step) x.are_cut.parts) x.are_cut.groups ++ (turn_rows step (turning a o b p) ++ none)) (no_restarts step)
+          ∙ ap (λ turns. flat_map (group_rows (cut_by step) x.are_cut.parts) x.are_cut.groups ++ turns) (append-nil (turn_rows step (turning a o b p))));
       of_failure = y.are ∙ (λ i. failure_row failure (moved_roots a o b p) (moved_ports a o b p) (runs_of (sym same_cut i)) ∷ sym same_rows i);
       both_cut = x.cuts ∙ ap has_any same_cut ∙ sym y.some;
     }

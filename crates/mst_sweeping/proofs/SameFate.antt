@@ -15,15 +15,18 @@ use Rattle.mst_plan.specs.forest.Forest.{Forest, IsForest}
 use Rattle.mst_plan.specs.forest.Outcome.{Outcome}
 use Rattle.mst_sweep.specs.vlan.classes.Alike.{AreAlike}
 use Rattle.mst_roles.proofs.Named.{port_is, port_same}
-use Rattle.mst_sweep.specs.Parts.{AreParts}
+use Rattle.mst_policy.specs.Leaving.{Leaving, leaves}
+use Rattle.mst_view.specs.View.{bridge_names}
+use Rattle.mst_sweep.specs.Parts.{all_parts, staying as staying_in, AreParts, ArePartsOf}
 use Rattle.mst_sweep.proofs.StillJoined.{no_parts}
 use Rattle.mst_sweeping.specs.declared.links.Link.{Link}
 use Rattle.mst_sweeping.specs.Links.{carried, shared, staying, stays, same_link, same_links}
-use Rattle.mst_sweeping.specs.MovedVids.{IsCut, IsJoined, IsMoved, links_differ}
+use Rattle.mst_sweeping.specs.MovedVids.{ArePartsBut, IsCut, IsJoined, IsJoinedBut, IsMoved, links_differ, remaining}
 use Rattle.mst_sweep.specs.vlan.classes.Classes.{HasOnly}
 use Rattle.mst_sweeping.specs.Seen.{seen_carried, seen_differ}
 use Rattle.mst_sweeping.proofs.Carried.{carried_alike, carried_same, ends_alike, ends_by, links_by}
 use Rattle.mst_sweeping.proofs.OnNamed.{stays_same}
+use Rattle.mst_sweeping.proofs.Remaining.{InSame, none_of_all, same_remain}
 
 -- ---- links are compared by their names
 link_decides : (k j : Link) → Decides (same_link k j) (k ≡ j)
@@ -44,8 +47,14 @@ module _ (a b : Net) (o p : Outcome) (vid : ℕ) (same : carried a o vid ≡ car
   same_ends : vid_links a o vid ≡ vid_links b p vid
   same_ends = links_by a o vid ∙ ap (map ends_by) same ∙ sym (links_by b p vid)
 
+  none : all_parts (staying_in olds news (bridge_names a)) ≡ []
+  none = no_parts a b o p vid olds news are so (λ x y walk. subst (λ ks. AreJoined ks (bridge_at x) (bridge_at y)) same_ends walk)
+
   pub not_cut : AreParts a o b p vid []
-  not_cut = (olds, news, are, so, sym (no_parts a b o p vid olds news are so (λ x y walk. subst (λ ks. AreJoined ks (bridge_at x) (bridge_at y)) same_ends walk)))
+  not_cut = (olds, news, are, so, sym none)
+
+  pub not_cut_but : (leaving : Leaving) → ArePartsBut leaving a o b p vid []
+  not_cut_but leaving = (olds, news, are, so, sym (none_of_all (λ bridge. not (leaves leaving vid bridge)) olds news (bridge_names a) none))
 
 pub same_differ : (a b : Net) (o p : Outcome) (vid : ℕ) → carried a o vid ≡ carried b p vid → links_differ a o b p vid ≡ false
 same_differ a b o p vid same =
@@ -61,8 +70,8 @@ module _ (a b : Net) (n k : Numbers) (v w : Viewed) (f g : Forest) (of : AreOf a
 -- ---- VIDs that nothing tells apart
 module _ (a b : Net) (n k : Numbers) (v w : Viewed) (f g : Forest) (of : AreOf a n v f.regions) (so : AreOf b k w g.regions) (o p : Outcome) (tables : List (List ℕ)) (sets : List (List Bool))
     (old : HasOnly v tables sets) (new : HasOnly w tables sets) (x y : ℕ) (alike : AreAlike tables sets x y) where
-  pub parts_alike : (parts : List (List (List ℕ))) → AreParts a o b p x parts → AreParts a o b p y parts
-  parts_alike parts s = (
+  parts_of_alike : (bridges : List (List ℕ)) (parts : List (List (List ℕ))) → ArePartsOf bridges a o b p x parts → ArePartsOf bridges a o b p y parts
+  parts_of_alike bridges parts s = (
     s.0,
     s.1,
     subst (λ ks. AreIslands (bridges_on a) (lans_up a) ks s.0) (ends_alike a n v f of o tables sets old x y alike) s.2,
@@ -70,8 +79,11 @@ module _ (a b : Net) (n k : Numbers) (v w : Viewed) (f g : Forest) (of : AreOf a
     s.4,
   )
 
+  pub parts_but_alike : (leaving : Leaving) → InSame leaving x y → (parts : List (List (List ℕ))) → ArePartsBut leaving a o b p x parts → ArePartsBut leaving a o b p y parts
+  parts_but_alike leaving same parts s = parts_of_alike (remaining leaving y a) parts (subst (λ bridges. ArePartsOf bridges a o b p x parts) (same_remain leaving x y a same) s)
+
   pub cut_alike : (c : Bool) → IsCut a o b p x c → IsCut a o b p y c
-  cut_alike c s = (s.0, parts_alike s.0 s.1, s.2)
+  cut_alike c s = (s.0, parts_of_alike (bridge_names a) s.0 s.1, s.2)
 
   differ_alike : links_differ a o b p x ≡ links_differ a o b p y
   differ_alike = λ i.
@@ -81,6 +93,9 @@ module _ (a b : Net) (n k : Numbers) (v w : Viewed) (f g : Forest) (of : AreOf a
     (old : HasOnly v tables sets) (new : HasOnly w tables sets) (x y : ℕ) (alike : AreAlike tables sets x y) where
   pub joined_alike : (c : Bool) → IsJoined a o b p x c → IsJoined a o b p y c
   joined_alike = cut_alike b a k n w v g f so of p o tables sets new old x y alike
+
+  pub joined_but_alike : (leaving : Leaving) → InSame leaving x y → (c : Bool) → IsJoinedBut leaving a o b p x c → IsJoinedBut leaving a o b p y c
+  joined_but_alike leaving same c s = (s.0, parts_but_alike b a k n w v g f so of p o tables sets new old x y alike leaving same s.0 s.1, s.2)
 
   pub moved_alike : (c : Bool) → IsMoved a o b p x c → IsMoved a o b p y c
   moved_alike c s = (

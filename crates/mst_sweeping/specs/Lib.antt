@@ -5,5 +5,6 @@ pub mod Pairing
 pub mod Links
 pub mod MovedVids
 pub mod Restarts
+pub mod Turns
 pub mod StepText
 pub mod Seen

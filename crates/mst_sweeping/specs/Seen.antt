@@ -10,17 +10,31 @@ use Rattle.mst_net.specs.tables.Seen.{bridge_row}
 use Rattle.mst_net.specs.tables.Tables.{Net, port_eq}
 use Rattle.mst_view.specs.Aggregation.{same_name}
 use Rattle.mst_view.specs.Viewed.{Viewed}
+use Rattle.mst_view.specs.declared.in_view.BridgeInView.{BridgeInView}
 use Rattle.mst_view.specs.declared.in_view.PortInView.{PortInView}
 use Rattle.mst_roles.specs.SeenActive.{seen_active}
+use Rattle.mst_roles.specs.SeenRoles.{seen_role}
 use Rattle.mst_sweep.specs.vlan.Seen.{seen_member}
 use Rattle.mst_plan.specs.forest.Forest.{Forest}
+use Rattle.mst_plan.specs.forest.InUse.{seen_has}
+use Rattle.mst_plan.specs.forest.Outcome.{Outcome}
 use Rattle.mst_sweep.specs.facts.declared.both.Both.{Both}
+use Rattle.mst_sweep.specs.facts.declared.planned.Planned.{Planned}
 use Rattle.mst_sweep.specs.facts.Told.{same_told}
+use Rattle.mst_sweep.specs.Baseline.{AreHomes}
+use Rattle.mst_sweep.specs.Between.{OfNumbered}
 use Rattle.mst_sweep.specs.Seen.{seen_port_moved}
 use Rattle.mst_sweeping.specs.Links.{shared, staying, same_links}
 use Rattle.mst_sweeping.specs.Restarts.{is_replugged}
+use Rattle.mst_sweeping.specs.Turns.{has_other_way, leads_out}
 use Rattle.mst_sweeping.specs.declared.links.Link.{Link}
 use Rattle.mst_sweeping.specs.declared.ports.BothPorts.{BothPorts}
+use Rattle.mst_sweeping.specs.declared.turns.TreeTurns.{TreeTurns}
+
+-- ---- islands
+-- it is so of all networks of two plans in which the islands of a VID have these places
+abbrev pub OfHomes : Planned → Planned → ℕ → List (ℕ × ℕ) → List (ℕ × ℕ) → (Net → Outcome → Net → Outcome → Type 0) → Type 0
+OfHomes old new vid olds news IsSo = OfNumbered old new (λ a n o b k p. AreHomes a n o vid olds → AreHomes b k p vid news → IsSo a o b p)
 
 -- ---- links
 -- what carries a VID
@@ -68,6 +82,30 @@ seen_both_ports v w = filter_map (seen_port_in_both w.ports) v.ports
 -- it has another role in a tree afterwards, and neither is Disabled
 abbrev pub seen_moved : Viewed → Forest → Viewed → Forest → ℕ → BothPorts → Bool
 seen_moved v f w g tree both = seen_port_moved v f w g tree both.old both.new
+
+-- ---- what turns
+-- a port is a way out of its bridge in a tree
+abbrev pub seen_way_out : Viewed → Forest → ℕ → PortInView → Bool
+seen_way_out v f tree p = option_map_or leads_out (seen_role v f tree p) false
+
+abbrev pub seen_ways_out : Viewed → Forest → ℕ → List Link
+seen_ways_out v f tree = map seen_link_of (filter (seen_way_out v f tree) v.ports)
+
+-- a bridge takes part in a tree: it is on, and has the tree
+abbrev pub seen_takes_part : Viewed → ℕ → BridgeInView → Bool
+seen_takes_part v tree b = (bridge_row b.bridge).is_on && seen_has v tree b.bridge.number
+
+-- a bridge of both takes part in both, and is one of these
+abbrev pub seen_turns : (List ℕ → Bool) → Viewed → Viewed → ℕ → Both → Bool
+seen_turns has_other v w tree both = seen_takes_part v tree both.old && seen_takes_part w tree both.new && has_other both.old.name
+
+-- the bridges of a set are those that have another way
+abbrev pub HaveOtherWays : List Link → List Link → (List ℕ → Bool) → Type 0
+HaveOtherWays before afterwards has_other = (bridge : List ℕ) → has_other bridge ≡ has_other_way before afterwards bridge
+
+-- a tree with the bridges that turn in it, as it is kept
+abbrev pub turning_of : TreeTurns → ℕ × List (List ℕ)
+turning_of t = (t.tree, t.bridges.items)
 
 -- ---- what starts anew
 -- a bridge stays what it was, or doesn't

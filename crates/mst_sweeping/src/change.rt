@@ -7,10 +7,11 @@ ghost use Rattle.mst_sweeping.specs.Seen.{seen_on, seen_stays};
 
 use indexmap::IndexSet;
 use mst_ids::Name;
+use mst_policy::Leaving;
 use mst_sweep::{Both, Carriage, Planned};
 
 /// Two settled networks, one before a step and one after it, what carries each VID in them, the bridges that both have, in the order of
-/// the one and in that of the other, and the names of the bridges that are on in each.
+/// the one and in that of the other, the names of the bridges that are on in each, and which are meant to leave VIDs.
 #[derive(Clone, Copy)]
 pub(crate) struct Change<'a> {
     pub(crate) old: &'a Planned<'a>,
@@ -21,6 +22,7 @@ pub(crate) struct Change<'a> {
     pub(crate) turned: &'a [Both],
     pub(crate) old_on: &'a IndexSet<Name>,
     pub(crate) new_on: &'a IndexSet<Name>,
+    pub(crate) leaving: &'a Leaving<'a>,
     ghost is_before: { IsCarriageOf old.now before.now },
     ghost is_afterwards: { IsCarriageOf new.now afterwards.now },
     ghost are_both: { both.now ≡ seen_both old.now.view.now new.now.view.now },

@@ -3,8 +3,7 @@ ghost use Rattle.std.specs.List.{All, AllZip};
 ghost use Rattle.mst_graph.specs.Lists.{has_any};
 ghost use Rattle.mst_sweep.specs.Between.{OfNetworks};
 ghost use Rattle.mst_sweep.specs.Cuts.{names_of};
-ghost use Rattle.mst_sweep.specs.Parts.{AreParts};
-ghost use Rattle.mst_sweeping.specs.MovedVids.{IsJoined, IsMoved};
+ghost use Rattle.mst_sweeping.specs.MovedVids.{ArePartsBut, IsJoinedBut, IsMoved};
 
 use crate::change::Change;
 use crate::fate::fate_of;
@@ -29,9 +28,9 @@ pub(crate) fn fates_at(
     requires { All (λ place. place < 4094) places.now }
     ensures as_long { IfOk result (λ fates. (vec_len fates.parts ≡ length places.now) × (vec_len fates.joins ≡ length places.now) × (vec_len fates.moves ≡ length places.now)) }
     ensures parts { IfOk result (λ fates. OfNetworks change.now.old.now change.now.new.now (λ a before b afterwards.
-        AllZip (λ place parts. AreParts a before b afterwards (place + 1) parts) places.now (map names_of fates.parts.items))) }
+        AllZip (λ place parts. ArePartsBut change.now.leaving.now a before b afterwards (place + 1) parts) places.now (map names_of fates.parts.items))) }
     ensures joins { IfOk result (λ fates. OfNetworks change.now.old.now change.now.new.now (λ a before b afterwards.
-        AllZip (λ place joins. IsJoined a before b afterwards (place + 1) joins) places.now fates.joins.items)) }
+        AllZip (λ place joins. IsJoinedBut change.now.leaving.now a before b afterwards (place + 1) joins) places.now fates.joins.items)) }
     ensures moves { IfOk result (λ fates. OfNetworks change.now.old.now change.now.new.now (λ a before b afterwards.
         AllZip (λ place moves. IsMoved a before b afterwards (place + 1) moves) places.now fates.moves.items)) }
 {

@@ -1,8 +1,11 @@
 //! Laws of what failures do. Their functions do nothing: a caller has their clauses.
-ghost use Rattle.std.specs.Prelude.{◌≡◌, ◌↔◌, ◌≤◌, ℕ, List, [], Bool, true, Ok};
+ghost use Rattle.std.specs.Prelude.{◌≡◌, ◌↔◌, ◌≤◌, ℕ, List, [], Bool, true, false, Ok};
 ghost use Rattle.std.specs.List.{flat_map, sum_by, Contains};
 ghost use Rattle.mst_net.specs.tables.Tables.{Net, IsNetwork};
 ghost use Rattle.mst_rows.specs.Rows.{Row};
+ghost use Rattle.mst_view.specs.View.{bridge_names};
+ghost use Rattle.mst_graph.specs.Lists.{has_any};
+ghost use Rattle.mst_policy.specs.Leaving.{are_left, Leaving as LeavingOf};
 ghost use Rattle.mst_sweeping.specs.Pairing.{SweepsPairs, SweepPairsParts};
 ghost use Rattle.mst_sweeping.specs.Sweeping.{Sweeps, SweepsPart, SweepParts};
 ghost use Rattle.mst_sweep.specs.SweepParts.{PartOf, ToldOfPart, whole_part, but_last_row};
@@ -10,10 +13,13 @@ ghost use Rattle.mst_net.specs.tables.After.{after};
 ghost use Rattle.mst_plan.specs.forest.Outcome.{Outcome, IsOutcome};
 ghost use Rattle.mst_sweep.specs.Failures.{edit_of};
 ghost use Rattle.mst_sweep.specs.declared.failure.Failure.{Failure as FailureOf};
+ghost use Rattle.mst_sweep.specs.Parts.{AreParts};
 ghost use Rattle.mst_sweep.specs.SweepText.{AreFailureRows};
+ghost use Rattle.mst_sweeping.specs.MovedVids.{ArePartsBut};
 ghost use Rattle.mst_ids.specs.declared.name.PortName.{PortName as PortNameOf};
 ghost use Rattle.mst_sweeping.specs.Restarts.{IsLeftAlone, IsPluggedOver, restarting};
 ghost use Rattle.mst_sweeping.specs.StepText.{AreStepRows, IsAsInSweep};
+ghost use Rattle.mst_sweeping.specs.Turns.{lists_of, trees_with, turned, turning, ways_out, KeepsWays, TakesOtherWay, TurnIn};
 ghost use Rattle.mst_sweeping.specs.declared.step.Deed.{Deed as DeedOf};
 ghost use Rattle.mst_sweeping.specs.declared.step.Stepped.{Stepped as SteppedOf};
 
@@ -65,7 +71,7 @@ pub fn pair_parts()
 /// none.
 pub fn one_step()
     ensures { (a b : Net) (o p q r : Outcome) → IsNetwork a → IsNetwork b → IsOutcome a o → IsOutcome b p → IsOutcome a q → IsOutcome b r
-        → (step : DeedOf) (rows other : List Row) (told said : SteppedOf) → AreStepRows a o b p step rows told → AreStepRows a q b r step other said → (rows ≡ other) × (told ≡ said) }
+        → (leaving : LeavingOf) (step : DeedOf) (rows other : List Row) (told said : SteppedOf) → AreStepRows leaving a o b p step rows told → AreStepRows leaving a q b r step other said → (rows ≡ other) × (told ≡ said) }
 {
     one_outcome();
     islands_of_vid();
@@ -74,18 +80,27 @@ pub fn one_step()
 
 /// The VIDs that a step cuts, and those that it joins, are among those that move. So a step that cuts some moves some.
 pub fn cut_moves()
-    ensures cut { (a b : Net) (o p : Outcome) (step : DeedOf) (rows : List Row) (told : SteppedOf) → (x : AreStepRows a o b p step rows told) → (vid : ℕ) → Contains x.cut vid → Contains x.moved vid }
-    ensures joined { (a b : Net) (o p : Outcome) (step : DeedOf) (rows : List Row) (told : SteppedOf) → (x : AreStepRows a o b p step rows told) → (vid : ℕ) → Contains x.joined vid → Contains x.moved vid }
-    ensures told { (a b : Net) (o p : Outcome) (step : DeedOf) (rows : List Row) (told : SteppedOf) → AreStepRows a o b p step rows told → told.cuts ≡ true → told.moves ≡ true }
+    ensures cut { (leaving : LeavingOf) (a b : Net) (o p : Outcome) (step : DeedOf) (rows : List Row) (told : SteppedOf) → (x : AreStepRows leaving a o b p step rows told) → (vid : ℕ) → Contains x.cut vid → Contains x.moved vid }
+    ensures joined { (leaving : LeavingOf) (a b : Net) (o p : Outcome) (step : DeedOf) (rows : List Row) (told : SteppedOf) → (x : AreStepRows leaving a o b p step rows told) → (vid : ℕ) → Contains x.joined vid → Contains x.moved vid }
+    ensures told { (leaving : LeavingOf) (a b : Net) (o p : Outcome) (step : DeedOf) (rows : List Row) (told : SteppedOf) → AreStepRows leaving a o b p step rows told → told.cuts ≡ true → told.moves ≡ true }
 {
     islands_of_vid();
 }
 
-/// Where a failure makes the one network of the other, a step that does the same tells the same roots, number of ports and VIDs that are cut
-/// as the failure in a sweep does, and these VIDs have the same parts.
+/// A VID that no bridge is meant to leave has the parts that it has by all bridges. One that is cut without those that are meant to leave it is cut
+/// with them.
+pub fn parts_without_leaving()
+    ensures same { (leaving : LeavingOf) (a b : Net) (o p : Outcome) (vid : ℕ) (parts : List (List (List ℕ))) → are_left leaving vid ≡ false → ArePartsBut leaving a o b p vid parts ↔ AreParts a o b p vid parts }
+    ensures fewer { (leaving : LeavingOf) (a b : Net) (o p : Outcome) (vid : ℕ) (rest parts : List (List (List ℕ))) → ArePartsBut leaving a o b p vid rest → AreParts a o b p vid parts → has_any rest ≡ true → has_any parts ≡ true }
+{
+    islands_of_vid();
+}
+
+/// Where a failure makes the one network of the other and nothing is meant to leave, a step that does the same tells the same roots, number of ports and VIDs that are cut
+/// as the failure in a sweep does, and these VIDs have the same parts; behind these it tells the bridges that turn, and nothing else.
 pub fn as_in_sweep()
     ensures { (a b : Net) (o p q r : Outcome) (failure : FailureOf) → IsNetwork a → IsNetwork b → IsOutcome a o → IsOutcome b p → IsOutcome a q → IsOutcome b r → after (edit_of failure) a ≡ Ok b
-        → (step : DeedOf) (rows failed : List Row) (told : SteppedOf) (cuts : Bool) → AreStepRows a o b p step rows told → AreFailureRows a q b r failure failed cuts → IsAsInSweep step failure rows told failed cuts }
+        → (step : DeedOf) (rows failed : List Row) (told : SteppedOf) (cuts : Bool) → AreStepRows [] a o b p step rows told → AreFailureRows a q b r failure failed cuts → IsAsInSweep step failure rows told failed cuts }
 {
     one_outcome();
     islands_of_vid();
@@ -98,4 +113,20 @@ pub fn restarts_by_own_plug()
     ensures none { (net : Net) → restarting net net ≡ [] }
     ensures over { (a b : Net) (port : PortNameOf) → IsPluggedOver a b port → Contains (restarting a b) port }
     ensures alone { (a b : Net) (port : PortNameOf) → IsLeftAlone a b port → Contains (restarting a b) port → ⊥ }
+{}
+
+/// No bridge turns between a network and itself. A bridge turns in a tree exactly when it takes part in it in both networks and doesn't
+/// keep its ways out there. The trees of a list of bridges are those in which these turn and no other, and a list is told exactly when it has a
+/// tree. So no list has a bridge that keeps its ways out in all trees.
+pub fn turns_by_way_out()
+    ensures none { (net : Net) (o : Outcome) → turning net o net o ≡ [] }
+    ensures exactly { (a b : Net) (o p : Outcome) (tree : ℕ) (bridge : List ℕ)
+        → Contains (turned a o b p tree) bridge ↔ TakesOtherWay a o b p tree bridge }
+    ensures trees { (a b : Net) (o p : Outcome) (bridges : List (List ℕ)) (tree : ℕ)
+        → Contains (trees_with (turning a o b p) bridges) tree ↔ TurnIn a o b p bridges tree }
+    ensures lists { (a b : Net) (o p : Outcome) (bridges : List (List ℕ))
+        → Contains (lists_of (turning a o b p)) bridges ↔ (tree : ℕ) × TurnIn a o b p bridges tree }
+    ensures kept { (a b : Net) (o p : Outcome) (bridge : List ℕ)
+        → ((tree : ℕ) → KeepsWays (ways_out a o tree) (ways_out b p tree) bridge)
+        → (told : List (List ℕ)) → Contains (lists_of (turning a o b p)) told → Contains told bridge → ⊥ }
 {}

@@ -2,7 +2,7 @@
 //! and nothing is made in the network.
 //!
 //! Of one step of a change it tells what lies between two settled networks: the trees whose roots move, how many roles, the VIDs that move,
-//! that are cut and that are joined, and the logical ports that start anew.
+//! that are cut and that are joined, the bridges that turn, and the logical ports that start anew.
 #![tactic(auto)]
 
 mod between;
@@ -21,6 +21,7 @@ mod restarts;
 mod step;
 mod sweeping;
 mod told;
+mod turns;
 
 pub use between::put_between;
 pub use failing::{trees_failed, without_failure};

@@ -12,7 +12,7 @@ use mst_sweep::Carriage;
 use std::alloc::{AllocError, Global};
 
 /// A logical port that links its bridge to its logical LAN.
-#[derive(Clone, Copy, PartialEq, Eq)]
+#[derive(Clone, Copy, PartialEq, Eq, Hash)]
 pub struct Link {
     pub port: PortName,
     pub lan: Name,

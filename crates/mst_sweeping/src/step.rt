@@ -1,4 +1,4 @@
-ghost use Rattle.std.specs.Prelude.{◌≡◌, ◌++◌, ◌∷◌, [], List, true, IfOk, OnOk, None, Some, vec_len};
+ghost use Rattle.std.specs.Prelude.{◌≡◌, ◌++◌, ◌∷◌, [], List, true, IfOk, OnOk, None, Some, map, vec_len};
 ghost use Rattle.std.specs.HashSet.{contains};
 ghost use Rattle.mst_ids.specs.Vids.{runs_from};
 ghost use Rattle.mst_rows.specs.Rows.{Row};
@@ -10,11 +10,11 @@ ghost use Rattle.mst_sweep.specs.facts.Both.{seen_both};
 ghost use Rattle.mst_sweep.specs.Between.{OfNetworks};
 ghost use Rattle.mst_sweep.specs.declared.cuts.CutBy.{CutBy as CutByOf};
 ghost use Rattle.mst_sweep.specs.Cuts.{rows_of, runs_of, AreCutsBy};
-ghost use Rattle.mst_sweep.specs.Parts.{AreParts};
-ghost use Rattle.mst_sweeping.specs.MovedVids.{AreVidsWhere, IsJoined, IsMoved};
+ghost use Rattle.mst_sweeping.specs.MovedVids.{ArePartsBut, AreVidsWhere, IsJoinedBut, IsMoved};
 ghost use Rattle.mst_sweeping.specs.Restarts.{restarting as all_restarting};
-ghost use Rattle.mst_sweeping.specs.Seen.{seen_both_ports};
-ghost use Rattle.mst_sweeping.specs.StepText.{cut_by as cut_by_of, deed_row, does_row, last_row, restart_rows, step_row, AreRepluggedIn, AreStepRows};
+ghost use Rattle.mst_sweeping.specs.Seen.{seen_both_ports, turning_of};
+ghost use Rattle.mst_sweeping.specs.StepText.{cut_by as cut_by_of, deed_row, does_row, last_row, restart_rows, rows_behind, step_row, turn_row, turn_rows, AreRepluggedIn, AreStepRows};
+ghost use Rattle.mst_sweeping.specs.Turns.{turning as all_turning};
 ghost use Rattle.mst_sweeping.specs.declared.step.Deed.TheVariants.{Step as StepOf};
 
 use crate::change::Change;
@@ -23,9 +23,11 @@ use crate::on::bridges_on;
 use crate::ports::{BothPorts, moved_ports, ports_of_both};
 use crate::restarts::restarting;
 use crate::told::{Told, told_of};
+use crate::turns::{TreeTurns, lists_of, trees_with, turning};
 use indexmap::IndexSet;
-use mst_ids::{PortName, Tree, VidSet};
+use mst_ids::{Name, PortName, Tree, VidSet};
 use mst_kinds::{AdviseLine, Kind, StepLine};
+use mst_policy::Leaving;
 use mst_rows::{Rows, Value, put};
 use mst_sweep::{Both, Carriage, CutBy, Planned, bridges_of_both, moved_roots, put_cuts, set_of};
 use std::alloc::{AllocError, Global};
@@ -148,6 +150,55 @@ fn cut_by(deed: &Deed) -> CutBy
     }
 }
 
+/// Puts the row of the bridges that turn in these trees.
+fn put_turn_row<'a, R: Rows>(
+    step: &Step,
+    trees: &'a [Tree],
+    bridges: &'a [Name],
+    out: &mut R,
+) -> Result<(), AllocError>
+    ensures { (first : R) (rows : List Row) → R.grew first out.old rows → OnOk result (R.grew first out.new (rows ++ turn_row step.now trees.now bridges.now ∷ [])) }
+{
+    let values = [
+        Value::Number(step.number),
+        Value::Trees(trees),
+        Value::Names(bridges),
+    ];
+    put::<R>(Kind::Step(StepLine::Turns), &values, out)
+}
+
+/// Puts the rows of the bridges that turn in a step: one for each list of them, with the trees in which these turn.
+fn put_turn_rows<R: Rows>(
+    alloc: Global,
+    step: &Step,
+    turning: &[TreeTurns],
+    out: &mut R,
+) -> Result<(), AllocError>
+    ensures { (first : R) (rows : List Row) → R.grew first out.old rows → OnOk result (R.grew first out.new (rows ++ turn_rows (StepOf step.now) (map turning_of turning.now))) }
+{
+    let lists = lists_of(alloc, turning)?;
+    for bridges in lists.as_slice() {
+        let trees = trees_with(alloc, turning, bridges.as_slice())?;
+        put_turn_row(step, trees.as_slice(), bridges.as_slice(), out)?;
+    }
+    Ok(())
+}
+
+/// Puts these rows behind a step.
+fn put_turns<R: Rows>(
+    alloc: Global,
+    deed: &Deed,
+    turning: &[TreeTurns],
+    out: &mut R,
+) -> Result<(), AllocError>
+    ensures { (first : R) (rows : List Row) → R.grew first out.old rows → OnOk result (R.grew first out.new (rows ++ turn_rows deed.now (map turning_of turning.now))) }
+{
+    match deed {
+        Deed::Step(step) => put_turn_rows(alloc, step, turning, out),
+        Deed::Edits => Ok(()),
+    }
+}
+
 /// Puts the row of the ports that start anew in a step.
 fn put_restart_row<'a, R: Rows>(
     step: &Step,
@@ -172,19 +223,32 @@ fn put_restarts<R: Rows>(deed: &Deed, ports: &[PortName], out: &mut R) -> Result
     }
 }
 
-/// Puts the rows of a step, by what is told of it.
+/// Puts the rows behind those of what a step cuts: of the bridges that turn, and of the ports that start anew.
+fn put_behind<R: Rows>(
+    alloc: Global,
+    deed: &Deed,
+    turning: &[TreeTurns],
+    restarting: &[PortName],
+    out: &mut R,
+) -> Result<(), AllocError>
+    ensures { (first : R) (rows : List Row) → R.grew first out.old rows → OnOk result (R.grew first out.new (rows ++ rows_behind deed.now (map turning_of turning.now) restarting.now)) }
+{
+    put_turns(alloc, deed, turning, out)?;
+    put_restarts(deed, restarting, out)
+}
+
+/// Puts the row of a step and those of what it cuts, by what is told of it.
 fn put_told<R: Rows>(
     deed: &Deed,
     roots: &[Tree],
     ports: u64,
     told: &Told,
-    restarting: &[PortName],
     out: &mut R,
 ) -> Result<Stepped, AllocError>
     requires { NumberEach told.now.classes.numbers.items (vec_len told.now.cuts.parts) }
     ensures { IfOk result (λ stepped. (stepped.moves ≡ has_any told.now.moved.items) × (stepped.cuts ≡ has_any told.now.cuts.vids.items)
         × ((first : R) (rows : List Row) → R.grew first out.old rows
-        → R.grew first out.new (rows ++ (deed_row deed.now roots.now ports (runs_of told.now.moved.items) (runs_of told.now.cuts.vids.items) (runs_of told.now.joined.items) ∷ rows_of (cut_by_of deed.now) told.now.classes.numbers.items told.now.cuts ++ restart_rows deed.now restarting.now)))) }
+        → R.grew first out.new (rows ++ (deed_row deed.now roots.now ports (runs_of told.now.moved.items) (runs_of told.now.cuts.vids.items) (runs_of told.now.joined.items) ∷ rows_of (cut_by_of deed.now) told.now.classes.numbers.items told.now.cuts)))) }
 {
     let moved = told.moved.as_slice();
     let cut = told.cuts.vids.as_slice();
@@ -199,27 +263,27 @@ fn put_told<R: Rows>(
         out,
     )?;
     put_cuts(&cut_by(deed), &told.classes, &told.cuts, out)?;
-    put_restarts(deed, restarting, out)?;
     Ok(Stepped {
         moves: are_some(moved),
         cuts: are_some(cut),
     })
 }
 
-/// The VIDs that a step cuts, joins and moves, by the bridges that both networks have.
+/// The VIDs that a step cuts, joins and moves, by the bridges that both networks have and those that are meant to leave.
 fn told_between(
     alloc: Global,
     old: &Planned,
     new: &Planned,
     both: &[Both],
+    leaving: &Leaving,
 ) -> Result<Told, AllocError>
     requires old { Known old.now.view.now old.now.forest.now.regions }
     requires new { Known new.now.view.now new.now.forest.now.regions }
     requires both { both.now ≡ seen_both old.now.view.now new.now.view.now }
     ensures numbered { IfOk result (λ told. NumberEach told.classes.numbers.items (vec_len told.cuts.parts)) }
     ensures cut { IfOk result (λ told. OfNetworks old.now new.now (λ a before b afterwards.
-        (by : CutByOf) → AreCutsBy (AreParts a before b afterwards) by told.cuts.vids.items (rows_of by told.classes.numbers.items told.cuts))) }
-    ensures joined { IfOk result (λ told. OfNetworks old.now new.now (λ a before b afterwards. AreVidsWhere (IsJoined a before b afterwards) told.joined.items)) }
+        (by : CutByOf) → AreCutsBy (ArePartsBut leaving.now a before b afterwards) by told.cuts.vids.items (rows_of by told.classes.numbers.items told.cuts))) }
+    ensures joined { IfOk result (λ told. OfNetworks old.now new.now (λ a before b afterwards. AreVidsWhere (IsJoinedBut leaving.now a before b afterwards) told.joined.items)) }
     ensures moved { IfOk result (λ told. OfNetworks old.now new.now (λ a before b afterwards. AreVidsWhere (IsMoved a before b afterwards) told.moved.items)) }
 {
     let before = Carriage::new(alloc, old.view, old.forest)?;
@@ -236,8 +300,26 @@ fn told_between(
         turned: turned.as_slice(),
         old_on: &old_on,
         new_on: &new_on,
+        leaving,
     };
     told_of(alloc, &change)
+}
+
+/// The bridges that turn in a step, by trees: none where edits are advised, of which that isn't told.
+fn turning_in(
+    alloc: Global,
+    deed: &Deed,
+    old: &Planned,
+    new: &Planned,
+    both: &[Both],
+) -> Result<Vec<TreeTurns>, AllocError>
+    requires { both.now ≡ seen_both old.now.view.now new.now.view.now }
+    ensures { IfOk result (λ turning. OfNetworks old.now new.now (λ a before b afterwards. turn_rows deed.now (map turning_of turning.items) ≡ turn_rows deed.now (all_turning a before b afterwards))) }
+{
+    match deed {
+        Deed::Step(_) => turning(alloc, old, new, both),
+        Deed::Edits => Ok(Vec::new(alloc)),
+    }
 }
 
 /// The logical ports that start anew in a step: none where edits are advised, of which that isn't told.
@@ -262,11 +344,12 @@ fn restarting_in(
 }
 
 /// Puts the rows of a step, or of edits that are advised: which trees' roots move, how many roles, which VIDs move, which are cut and into which parts, and which are
-/// joined, and of a step which logical ports start anew, and answers whether some move and whether some are cut. `old` is the plan of the network before the step, `new` that of the
-/// network after it; `replugged` has the ports that a step plugs into other LANs, and nothing is told by it of edits that are advised. `AllocError`: memory was wanted and refused; some of the
+/// joined, and of a step which bridges turn in which trees and which logical ports start anew, and answers whether some move and whether some are cut. `old` is the plan of the network before the step, `new` that of the
+/// network after it; `replugged` has the ports that a step plugs into other LANs, and nothing is told by it of edits that are advised; what is meant to leave a
+/// VID is neither cut off nor joined. `AllocError`: memory was wanted and refused; some of the
 /// rows may have been put.
 ///
-/// It looks at the roles of each logical port once for each tree, and once at what carries each class of VIDs that nothing tells apart in
+/// It looks at the roles of each logical port twice for each tree, and once at what carries each class of VIDs that nothing tells apart in
 /// either network. Islands are made only of a class of which that isn't the same.
 pub fn put_step<R: Rows>(
     alloc: Global,
@@ -274,15 +357,16 @@ pub fn put_step<R: Rows>(
     old: &Planned,
     new: &Planned,
     replugged: &IndexSet<PortName>,
+    leaving: &Leaving,
     out: &mut R,
 ) -> Result<Stepped, AllocError>
     requires old { Known old.now.view.now old.now.forest.now.regions }
     requires new { Known new.now.view.now new.now.forest.now.regions }
     ensures { IfOk result (λ told. OfNetworks old.now new.now (λ a before b afterwards. AreRepluggedIn deed.now a b (contains port_eq replugged.now)
-        → (own : List Row) × AreStepRows a before b afterwards deed.now own told × ((first : R) (rows : List Row) → R.grew first out.old rows → R.grew first out.new (rows ++ own)))) }
+        → (own : List Row) × AreStepRows leaving.now a before b afterwards deed.now own told × ((first : R) (rows : List Row) → R.grew first out.old rows → R.grew first out.new (rows ++ own)))) }
 {
     let both = bridges_of_both(alloc, old.view, new.view)?;
-    let told = told_between(alloc, old, new, both.as_slice())?;
+    let told = told_between(alloc, old, new, both.as_slice(), leaving)?;
     let roots = moved_roots(alloc, old, new, both.as_slice())?;
     let shared = ports_of_both(alloc, old.view, new.view)?;
     let ports = moved_ports(old, new, shared.as_slice());
@@ -295,8 +379,10 @@ pub fn put_step<R: Rows>(
         shared.as_slice(),
         replugged,
     )?;
-    let restarting = anew.as_slice();
-    put_told(deed, roots.as_slice(), ports, &told, restarting, out)
+    let turning = turning_in(alloc, deed, old, new, both.as_slice())?;
+    let stepped = put_told(deed, roots.as_slice(), ports, &told, out)?;
+    put_behind(alloc, deed, turning.as_slice(), anew.as_slice(), out)?;
+    Ok(stepped)
 }
 
 /// Puts the row of how many steps there are, how many of them move some VID and how many cut some.

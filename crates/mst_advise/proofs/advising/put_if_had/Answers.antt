@@ -3,6 +3,8 @@ use Rattle.mst_rows.specs.Rows.{Row}
 use Rattle.mst_roles.specs.forest.Settled.{outcome_of}
 use Rattle.mst_advise.specs.Told.{count_row, setting_row}
 use Rattle.mst_advise.specs.Made.{Has}
+use Rattle.mst_sweeping.specs.StepText.{AreStepRows}
+use Rattle.mst_sweeping.specs.declared.step.Deed.TheVariants as deed
 use Rattle.mst_advise.proofs.Tried.{none_put, put_then}
 use Rattle.mst_advise.proofs.advising.put_if_had.Goals as goal
 
@@ -24,7 +26,7 @@ returns g c net numbers is made =
         has = subst (λ o. Has c.args.goal.now s.net o) (sym same) (c.in_ok-holds.ensures.0 c.if-not-branch.false);
         own = said.0;
         does = c.in_ok-put_between.field-0;
-        told = said.1;
+        told = subst (λ leaving. AreStepRows leaving net is.forest.outcome s.net are.forest.outcome deed.Edits said.0 c.in_ok-put_between.field-0) c.none-leaving.ensures said.1;
         are = refl;
       },
       put_then grew c.args.out.now c.put_between.new.out c.put_count.new.out (edits ++ said.0) last

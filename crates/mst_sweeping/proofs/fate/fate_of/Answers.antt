@@ -1,11 +1,11 @@
 use Rattle.std.proofs.Common.{◌≡◌, ◌||◌, false, [], refl, sym, ap, subst, ◌∙◌, map}
-use Rattle.mst_sweep.specs.Parts.{AreParts}
 use Rattle.mst_sweep.specs.vlan.Carried.{ViewWithTrees}
 use Rattle.mst_sweeping.specs.Links.{carried}
+use Rattle.mst_sweeping.specs.MovedVids.{ArePartsBut}
 use Rattle.mst_sweeping.specs.Seen.{seen_carried}
 use Rattle.mst_sweeping.proofs.Carried.{carried_same}
 use Rattle.mst_sweeping.proofs.CarryAlike.{same_links_seen}
-use Rattle.mst_sweeping.proofs.SameFate.{not_cut, same_differ}
+use Rattle.mst_sweeping.proofs.SameFate.{not_cut, not_cut_but, same_differ}
 use Rattle.mst_sweeping.proofs.fate.fate_of.Goals as goal
 
 pub returns-then-not-differs-clause-parts : goal.returns-then-not-differs-clause-parts
@@ -22,7 +22,7 @@ returns-then-not-differs-clause-parts c a b n k is are of so =
     sym (carried_same a n v f of is vid)
     ∙ same_links_seen change.old.now change.new.now change.before.now change.afterwards.now change.is_before change.is_afterwards vid (c.requires c.if-not-differs.true)
     ∙ carried_same b k w g so are vid in
-    subst (AreParts a is.outcome b are.outcome vid) (sym (ap (map (λ names. names.items)) c.new.ensures.items)) (not_cut a b is.outcome are.outcome vid same olds.0 news.0 olds.1 news.1)
+    subst (ArePartsBut change.leaving.now a is.outcome b are.outcome vid) (sym (ap (map (λ names. names.items)) c.new.ensures.items)) (not_cut_but a b is.outcome are.outcome vid same olds.0 news.0 olds.1 news.1 change.leaving.now)
 
 pub returns-then-not-differs-clause-joins : goal.returns-then-not-differs-clause-joins
 returns-then-not-differs-clause-joins c a b n k is are of so =
@@ -38,7 +38,7 @@ returns-then-not-differs-clause-joins c a b n k is are of so =
     sym (carried_same a n v f of is vid)
     ∙ same_links_seen change.old.now change.new.now change.before.now change.afterwards.now change.is_before change.is_afterwards vid (c.requires c.if-not-differs.true)
     ∙ carried_same b k w g so are vid in
-    ([], not_cut b a are.outcome is.outcome vid (sym same) news.0 olds.0 news.1 olds.1, refl)
+    ([], not_cut_but b a are.outcome is.outcome vid (sym same) news.0 olds.0 news.1 olds.1 change.leaving.now, refl)
 
 pub returns-then-not-differs-clause-moves : goal.returns-then-not-differs-clause-moves
 returns-then-not-differs-clause-moves c a b n k is are of so =
