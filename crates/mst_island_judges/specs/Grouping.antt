@@ -13,12 +13,14 @@ use Rattle.mst_judged.specs.reasons.declared.reason.Reason.TheVariants as why
 abbrev pub tells_of : Telling → Parts → Bool
 tells_of telling.Reach parts = has_two parts
 tells_of telling.Apart parts = has_any parts
+tells_of telling.Leaves parts = has_any parts
 tells_of telling.Together parts = has_any parts
 
 -- the reason of VIDs that have these parts
 abbrev pub reason_of : Telling → List Bool → Parts → Reason
 reason_of telling.Reach vids parts = why.Reach vids parts
 reason_of telling.Apart vids parts = why.Apart vids parts
+reason_of telling.Leaves vids parts = why.Leaves vids parts
 reason_of telling.Together vids parts = why.Together vids parts
 
 abbrev pub tells : Telling → List ℕ → Parts → List Reason

@@ -19,6 +19,8 @@ pub(crate) enum Telling {
     Reach,
     /// That bridges of two lists are.
     Apart,
+    /// That bridges of a list and others are.
+    Leaves,
     /// That bridges came apart into them.
     Together,
 }
@@ -40,6 +42,7 @@ fn is_told(telling: Telling, parts: &[Vec<Name>]) -> bool
     match telling {
         Telling::Reach => has_two(parts),
         Telling::Apart => is_any(parts),
+        Telling::Leaves => is_any(parts),
         Telling::Together => is_any(parts),
     }
 }
@@ -51,6 +54,7 @@ fn reason_of(telling: Telling, vids: VidSet, parts: Parts) -> Reason
     match telling {
         Telling::Reach => Reason::Reach { vids, parts },
         Telling::Apart => Reason::Apart { vids, parts },
+        Telling::Leaves => Reason::Leaves { vids, parts },
         Telling::Together => Reason::Together { vids, parts },
     }
 }

@@ -1,9 +1,11 @@
-ghost use Rattle.std.specs.Prelude.{◌≡◌, ◌+◌, ◌<◌, IfOk, MatchOption, Some, false, filter, filter_map, length, map, slice_index, slice_index_or, true, vec_len, ⊤};
+ghost use Rattle.std.specs.Prelude.{◌≡◌, ◌+◌, ◌<◌, not, IfOk, MatchOption, Some, false, filter, filter_map, length, map, slice_index, slice_index_or, true, vec_len, ⊤};
 ghost use Rattle.mst_judged.specs.reasons.sweep.facts.Both.{seen_both};
 ghost use Rattle.mst_forest.specs.Settled.{outcome_of};
 ghost use Rattle.mst_judged.specs.reasons.sweep.Cuts.{names_of};
 ghost use Rattle.mst_judged.specs.reasons.sweep.Parts.{all_parts as all_parts_of};
 ghost use Rattle.mst_judged.specs.reasons.sweep.Seen.{seen_stays};
+ghost use Rattle.mst_policy.specs.Leaving.{leaves, sets_of};
+ghost use Rattle.mst_judged.specs.reasons.sweep.vlan.classes.Classes.{AreInSame};
 ghost use Rattle.mst_judged.specs.reasons.Named.{is_named as is_named_of, Prior as PriorOf};
 ghost use Rattle.mst_island_judges.specs.Compared.{HaveParts};
 ghost use Rattle.mst_judged.specs.Islands.{AreOfClasses, HasHomesBy, IsBeside, IsKeptOf, kept_in};
@@ -18,7 +20,7 @@ use mst_judged::{
     Both, Judged, Prior, Reason, all_parts, bridges_of_both, classes_asked, homes_by, homes_in,
     is_named, staying,
 };
-use mst_policy::NameList;
+use mst_policy::{Leaving, NameList};
 use std::alloc::{AllocError, Global};
 
 /// The bridges of these names that both networks have.
@@ -50,16 +52,34 @@ fn kept_at(
     }
 }
 
-/// The parts of these bridges, by the places of their islands in both networks.
+/// Those of these bridges that aren't meant to leave a VID.
+fn remaining(
+    alloc: Global,
+    leaving: &Leaving,
+    both: &[Both],
+    vid: Vid,
+) -> Result<Vec<Both>, AllocError>
+    ensures { IfOk result (λ rest. rest.items ≡ filter (λ bridge. not (leaves leaving.now vid bridge.old.name)) both.now) }
+{
+    both.iter()
+        .filter(|bridge| !leaving.has(vid, &bridge.old.name))
+        .copied()
+        .collect(alloc)
+}
+
+/// The parts of those of these bridges that aren't meant to leave a VID, by the places of their islands in both networks.
 fn parts_by(
     alloc: Global,
+    compared: &Compared,
     olds: &IndexMap<BridgeNo, usize>,
     news: &IndexMap<BridgeNo, usize>,
-    both: &[Both],
+    vid: Vid,
 ) -> Result<Vec<Vec<Name>>, AllocError>
-    ensures { IfOk result (λ parts. names_of parts ≡ all_parts_of (filter_map (seen_stays olds.now.entries news.now.entries) both.now)) }
+    ensures { IfOk result (λ parts. names_of parts
+        ≡ all_parts_of (filter_map (seen_stays olds.now.entries news.now.entries) (filter (λ bridge. not (leaves compared.now.judged.now.leaving.now vid bridge.old.name)) compared.now.both.now))) }
 {
-    let all = staying(alloc, olds, news, both)?;
+    let rest = remaining(alloc, compared.judged.leaving, compared.both, vid)?;
+    let all = staying(alloc, olds, news, rest.as_slice())?;
     all_parts(alloc, all.as_slice())
 }
 
@@ -76,13 +96,13 @@ fn parts_from(
     ensures { IfOk result (λ parts. HaveParts compared.now (slice_index compared.now.prior.now.classes.now.firsts.items class + 1) (names_of parts)) }
 {
     compared.judged.plan.known();
-    if let Some(news) = kept_at(compared.prior.news, class) {
-        return parts_by(alloc, olds, news, compared.both);
-    }
     let firsts = compared.prior.classes.firsts.as_slice();
     let vid = Vid::new(firsts[class] as u64 + 1).unwrap();
+    if let Some(news) = kept_at(compared.prior.news, class) {
+        return parts_by(alloc, compared, olds, news, vid);
+    }
     let news = homes_in(alloc, compared.judged.plan, vid)?;
-    parts_by(alloc, olds, &news, compared.both)
+    parts_by(alloc, compared, olds, &news, vid)
 }
 
 /// Whether the same ports carry the VIDs of a class in both networks, as its flag says.
@@ -152,7 +172,8 @@ fn bodies(
 
 /// The reasons of VIDs in which these bridges came apart.
 fn reasons_of(alloc: Global, compared: &Compared, vids: &VidSet) -> Result<Vec<Reason>, AllocError>
-    requires { IsBeside compared.now.judged.now.plan.now compared.now.prior.now }
+    requires beside { IsBeside compared.now.judged.now.plan.now compared.now.prior.now }
+    requires same { AreInSame (sets_of compared.now.judged.now.leaving.now) compared.now.prior.now.classes.now }
     ensures { IfOk result (λ reasons. AreVidReasons (HaveParts compared.now) together_reason vids.now reasons.items) }
 {
     compared.judged.plan.known();
@@ -165,7 +186,7 @@ fn reasons_of(alloc: Global, compared: &Compared, vids: &VidSet) -> Result<Vec<R
 }
 
 /// For which VIDs bridges that were in one island before are in several, and in which parts they are then, VIDs of equal parts in one reason, by
-/// the least VID: none where nothing is before. `AllocError`: memory was wanted and refused.
+/// the least VID: none where nothing is before. Those that are meant to leave a VID are left out. `AllocError`: memory was wanted and refused.
 ///
 /// Islands are made once for VIDs that no table and no set of VLANs tells apart, and only where other ports carry them than before.
 pub fn together_reasons(
@@ -174,9 +195,10 @@ pub fn together_reasons(
     vids: &VidSet,
     names: &NameList,
 ) -> Result<Vec<Reason>, AllocError>
-    requires { MatchOption judged.now.prior ⊤ (IsBeside judged.now.plan.now) }
-    ensures { IfOk result (λ reasons. (prior : PriorOf) → IsKeptOf prior judged.now.prior
-        → AreTogetherReasons prior judged.now.plan.now.net (outcome_of judged.now.plan.now) vids.now judged.now.gone names.now reasons.items) }
+    requires prior { MatchOption judged.now.prior ⊤ (IsBeside judged.now.plan.now) }
+    requires same { MatchOption judged.now.prior ⊤ (λ prior. AreInSame (sets_of judged.now.leaving.now) prior.classes.now) }
+    ensures { IfOk result (λ reasons. (prior : PriorOf) → IsKeptOf prior judged.now.prior judged.now.leaving.now
+        → AreTogetherReasons prior.before prior.leaving judged.now.plan.now.net (outcome_of judged.now.plan.now) vids.now judged.now.gone names.now reasons.items) }
 {
     let Some(prior) = &judged.prior else {
         return Ok(Vec::new(alloc));

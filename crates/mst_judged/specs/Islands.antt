@@ -16,7 +16,8 @@ use Rattle.mst_reasons.specs.sweep.Baseline.{AreHomes}
 use Rattle.mst_reasons.specs.sweep.Parts.{ArePartsOf}
 use Rattle.mst_reasons.specs.sweep.vlan.classes.Classes.{AreClasses}
 use Rattle.mst_reasons.specs.Holds.{IsReached}
-use Rattle.mst_reasons.specs.Named.{Gone, Prior, named}
+use Rattle.mst_policy.specs.Leaving.{Leaving}
+use Rattle.mst_reasons.specs.Named.{Gone, Prior, remaining}
 use Rattle.mst_reasons.specs.Reasons.{Parts}
 use Rattle.mst_judged.specs.declared.beside.Beside.{Beside}
 use Rattle.mst_judged.specs.declared.before.Before.{Before}
@@ -95,10 +96,14 @@ pub record IsOneOf (net : Net) (o : Outcome) (c : ViewWithTrees) : Type 0 where
   pub outcome_is : outcome_of network ≡ o
 
 -- there is a network before where something is kept of one, and it is one of that
-abbrev pub IsKeptOf : Prior → Option KeptPrior → Type 0
-IsKeptOf None None = ⊤
-IsKeptOf (Some prior) (Some kept) = IsOneOf prior.0 prior.1 kept.old.now
-IsKeptOf _ _ = ⊥
+abbrev pub IsKeptBefore : Option (Net × Outcome) → Option KeptPrior → Type 0
+IsKeptBefore None None = ⊤
+IsKeptBefore (Some before) (Some kept) = IsOneOf before.0 before.1 kept.old.now
+IsKeptBefore _ _ = ⊥
+
+-- and the same bridges are meant to leave
+abbrev pub IsKeptOf : Prior → Option KeptPrior → Leaving → Type 0
+IsKeptOf prior kept leaving = IsKeptBefore prior.before kept × (prior.leaving ≡ leaving)
 
 -- where the flag of a class is false the same ports carry its first VID in the network before, on the same LANs
 abbrev pub AreAlike : ViewWithTrees → SettledNet → List ℕ → List Bool → Type 0
@@ -121,9 +126,9 @@ pub record AreBeside (old : ViewWithTrees) (s : SettledNet) (beside : Beside) : 
   pub news : AreMade s beside.classes.firsts.items beside.news.items
   pub alike : AreAlike old s beside.classes.firsts.items beside.differ.items
 
--- these are the parts that a VID has of the bridges of NAMES in each network of which this is kept
-abbrev pub ArePartsBeside : SettledNet → KeptPrior → Gone → List NameItem → ℕ → Parts → Type 0
-ArePartsBeside s kept lost names vid parts = (net : Net) (o : Outcome) → IsOneOf net o kept.old.now → ArePartsOf (named net lost names) net o s.net (outcome_of s) vid parts
+-- these are the parts that a VID has of the bridges of NAMES that aren't to leave it, in each network of which this is kept
+abbrev pub ArePartsBeside : SettledNet → KeptPrior → Leaving → Gone → List NameItem → ℕ → Parts → Type 0
+ArePartsBeside s kept leaving lost names vid parts = (net : Net) (o : Outcome) → IsOneOf net o kept.old.now → ArePartsOf (remaining leaving vid net lost names) net o s.net (outcome_of s) vid parts
 
 -- ---- parts
 -- bridges with where they are

@@ -3,7 +3,8 @@ ghost use Rattle.std.specs.List.{list_any};
 ghost use Rattle.std.specs.HashSet.{contains};
 ghost use Rattle.mst_ids.specs.declared.name.PortName.{PortName as PortNameOf};
 ghost use Rattle.mst_tables.specs.Tables.{port_eq};
-ghost use Rattle.mst_reasons.specs.sweep.vlan.classes.Classes.{AreClasses};
+ghost use Rattle.mst_policy.specs.Leaving.{sets_of};
+ghost use Rattle.mst_reasons.specs.sweep.vlan.classes.Classes.{AreClasses, AreInSame};
 ghost use Rattle.mst_judged.specs.Islands.{HasIslandsOf, IsOfPlan};
 ghost use Rattle.mst_judged.specs.Seen.{IsBefore};
 
@@ -12,7 +13,8 @@ use crate::vids::classes_asked;
 use indexmap::{IndexMap, IndexSet};
 use mst_graph::Numbering;
 use mst_ids::{BridgeNo, PortName, VidSet};
-use mst_reasons::{Carriage, classes_of_vids};
+use mst_policy::Leaving;
+use mst_reasons::{Carriage, classes_of_vids_in};
 use mst_roles::Settled;
 use mst_view::View;
 use std::alloc::{AllocError, Global};
@@ -41,14 +43,16 @@ fn enabled_ports(alloc: Global, view: &View) -> Result<IndexSet<PortName>, Alloc
 }
 
 impl Before {
-    /// Of this network. `AllocError`: memory was wanted and refused.
-    pub fn new(alloc: Global, plan: &Settled) -> Result<Before, AllocError>
+    /// Of this network, with classes that nothing tells apart which is meant to leave. `AllocError`: memory was wanted and refused.
+    pub fn new(alloc: Global, plan: &Settled, leaving: &Leaving) -> Result<Before, AllocError>
         ensures classes { IfOk result (λ before. AreClasses plan.now.view before.classes) }
+        ensures same { IfOk result (λ before. AreInSame (sets_of leaving.now) before.classes) }
         ensures ports { IfOk result (IsBefore plan.now.net) }
     {
         plan.known();
         let view = plan.view();
-        let classes = classes_of_vids(alloc, view)?;
+        let left = leaving.sets(alloc)?;
+        let classes = classes_of_vids_in(alloc, view, left.as_slice())?;
         let enabled = enabled_ports(alloc, view)?;
         let homes = Vec::new(alloc);
         Ok(Before {
@@ -65,14 +69,16 @@ impl Before {
         plan: &Settled,
         carriage: &Carriage,
         vids: &VidSet,
+        leaving: &Leaving,
     ) -> Result<Before, AllocError>
         requires { IsOfPlan plan.now carriage.now }
         ensures classes { IfOk result (λ before. AreClasses plan.now.view before.classes) }
+        ensures same { IfOk result (λ before. AreInSame (sets_of leaving.now) before.classes) }
         ensures ports { IfOk result (IsBefore plan.now.net) }
         ensures islands { IfOk result (HasIslandsOf carriage.now plan.now.numbers) }
     {
         plan.known();
-        let mut before = Before::new(alloc, plan)?;
+        let mut before = Before::new(alloc, plan, leaving)?;
         let places = before.classes.firsts.as_slice();
         let numbers = before.classes.numbers.as_slice();
         let asked = classes_asked(alloc, numbers, vids, places.len())?;

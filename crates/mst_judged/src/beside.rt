@@ -1,4 +1,6 @@
 ghost use Rattle.std.specs.Prelude.{IfOk};
+ghost use Rattle.mst_policy.specs.Leaving.{sets_of};
+ghost use Rattle.mst_reasons.specs.sweep.vlan.classes.Classes.{AreInSame};
 ghost use Rattle.mst_judged.specs.Islands.{AreBeside, IsOfPlan};
 
 use crate::homes::{made_at, with_both};
@@ -6,7 +8,8 @@ use crate::vids::classes_asked;
 use indexmap::IndexMap;
 use mst_graph::Numbering;
 use mst_ids::{BridgeNo, VidSet};
-use mst_reasons::{Carriage, classes_of_both, differing};
+use mst_policy::Leaving;
+use mst_reasons::{Carriage, classes_of_both_in, differing};
 use mst_roles::Settled;
 use std::alloc::{AllocError, Global};
 
@@ -31,12 +34,15 @@ impl Beside {
         new: &Carriage,
         plan: &Settled,
         vids: &VidSet,
+        leaving: &Leaving,
     ) -> Result<Beside, AllocError>
         requires { IsOfPlan plan.now new.now }
-        ensures { IfOk result (AreBeside old.now plan.now) }
+        ensures beside { IfOk result (AreBeside old.now plan.now) }
+        ensures same { IfOk result (λ beside. AreInSame (sets_of leaving.now) beside.classes) }
     {
         plan.known();
-        let classes = classes_of_both(alloc, old.view(), plan.view())?;
+        let left = leaving.sets(alloc)?;
+        let classes = classes_of_both_in(alloc, old.view(), plan.view(), left.as_slice())?;
         let places = classes.firsts.as_slice();
         let numbers = classes.numbers.as_slice();
         let asked = classes_asked(alloc, numbers, vids, places.len())?;

@@ -37,6 +37,7 @@ impl<'a> Prior<'a> {
         requires kept { AreKept plan.now before.now homes.now }
         requires alike { AreAlike old.now plan.now before.now.classes.firsts.items homes.now.differ.items }
         ensures old { result.old.now ≡ old.now }
+        ensures classes { result.classes.now ≡ before.now.classes }
         ensures beside { IsBeside plan.now result }
     {
         let _plan = plan;
@@ -53,6 +54,7 @@ impl<'a> Prior<'a> {
     pub fn beside(old: &'a Carriage<'a>, plan: &Settled, beside: &'a Beside) -> Prior<'a>
         requires { AreBeside old.now plan.now beside.now }
         ensures old { result.old.now ≡ old.now }
+        ensures classes { result.classes.now ≡ beside.now.classes }
         ensures beside { IsBeside plan.now result }
     {
         let _plan = plan;

@@ -3,3 +3,4 @@ pub use Rattle.mst_sweep.proofs as sweep_lemmas
 pub use Rattle.mst_summary.proofs as summary_lemmas
 pub mod Things
 pub mod NamedIn
+pub mod Remaining

@@ -54,6 +54,14 @@ passes_none test xs e x h = go (test x) refl
 pub none_passes : {A : Type 0} (test : A → Bool) (xs : List A) → ((x : A) → Contains xs x → test x ≡ false) → has_any (filter test xs) ≡ false
 none_passes test xs h = not_any (filter test xs) (λ x k. let r = from_filter test xs x k in true≢false (sym r.1 ∙ h x r.0))
 
+pub filter_twice : {A : Type 0} (p q : A → Bool) (xs : List A) → filter p (filter q xs) ≡ filter (λ x. q x && p x) xs
+filter_twice p q [] = refl
+filter_twice {A} p q (x ∷ xs) = go (q x) (filter_twice p q xs)
+  where
+    go : (b : Bool) → filter p (filter q xs) ≡ filter (λ x. q x && p x) xs → filter p (cond b (x ∷ filter q xs) (filter q xs)) ≡ cond (b && p x) (x ∷ filter (λ x. q x && p x) xs) (filter (λ x. q x && p x) xs)
+    go true e = ap (λ l. cond (p x) (x ∷ l) l) e
+    go false e = e
+
 -- ---- lists of each
 front_none : {A : Type 0} (xs ys : List A) → xs ++ ys ≡ [] → xs ≡ []
 front_none [] ys e = refl

@@ -25,7 +25,8 @@ use Rattle.mst_policy.specs.declared.expectation.Expectation.{Expectation}
 use Rattle.mst_policy.specs.declared.expectation.Expectation.TheVariants as expect
 use Rattle.mst_policy.specs.declared.expectation.Roles.{Roles}
 use Rattle.mst_policy.specs.declared.item.NameItem.{NameItem}
-use Rattle.mst_reasons.specs.Named.{Gone, Prior, named, ports_named, vids_in}
+use Rattle.mst_policy.specs.Leaving.{Leaving}
+use Rattle.mst_reasons.specs.Named.{Gone, Prior, named, ports_named, remaining, unnamed, vids_in}
 use Rattle.mst_reasons.specs.Over.{goes_over}
 use Rattle.mst_reasons.specs.Roots.{concerned, IsNextRoot}
 
@@ -70,15 +71,15 @@ AllReach net o vids bridges = (vid : ℕ) → Contains (vids_in vids) vid → (x
 abbrev pub AreApart : Net → Outcome → List Bool → List (List ℕ) → List (List ℕ) → Type 0
 AreApart net o vids bridges others = (vid : ℕ) → Contains (vids_in vids) vid → (x y : List ℕ) → Contains bridges x → Contains others y → AreTogether net o vid x y → ⊥
 
--- those that were together before and are on here, too, are together here
-abbrev pub AllStayTogether : Net → Outcome → Net → Outcome → List Bool → List (List ℕ) → Type 0
+-- those that were together before and are on here, too, are together here, of these bridges in each VID
+abbrev pub AllStayTogether : Net → Outcome → Net → Outcome → List Bool → (ℕ → List (List ℕ)) → Type 0
 AllStayTogether a p net o vids bridges =
-    (vid : ℕ) → Contains (vids_in vids) vid → (x y : List ℕ) → Contains bridges x → Contains bridges y → Contains (bridges_on net) x → Contains (bridges_on net) y → AreTogether a p vid x y → AreTogether net o vid x y
+    (vid : ℕ) → Contains (vids_in vids) vid → (x y : List ℕ) → Contains (bridges vid) x → Contains (bridges vid) y → Contains (bridges_on net) x → Contains (bridges_on net) y → AreTogether a p vid x y → AreTogether net o vid x y
 
 -- where nothing is before, nothing is asked
-abbrev pub StayTogether : Prior → Net → Outcome → List Bool → Gone → List NameItem → Type 0
-StayTogether None net o vids lost names = ⊤
-StayTogether (Some prior) net o vids lost names = AllStayTogether prior.0 prior.1 net o vids (named prior.0 lost names)
+abbrev pub StayTogether : Option (Net × Outcome) → Leaving → Net → Outcome → List Bool → Gone → List NameItem → Type 0
+StayTogether None leaving net o vids lost names = ⊤
+StayTogether (Some before) leaving net o vids lost names = AllStayTogether before.0 before.1 net o vids (λ vid. remaining leaving vid before.0 lost names)
 
 -- ---- parents
 abbrev pub AreLeaves : Net → Outcome → ℕ → List (List ℕ) → Type 0
@@ -108,16 +109,17 @@ limit_notes notes = filter (λ note. not (is_restricted note.kind)) notes
 abbrev pub NoLimitBinds : Net → Outcome → Type 0
 NoLimitBinds net o = (notes : List Row) → AreNoteRows net o notes → limit_notes notes ≡ []
 
--- ---- all eleven
+-- ---- all twelve
 -- an expectation holds in a network with this outcome. It is the one before all failures, or one that a failure makes of that one,
--- `before`, and then this bridge is gone, if it was one. What stays together was so in the network that is prior to it
+-- `before`, and then this bridge is gone, if it was one. What stays together was so in the network that is prior to it, and isn't meant to leave
 abbrev pub Holds : Net → Outcome → Net → Gone → Prior → Expectation → Type 0
 Holds net o before lost prior (expect.Root tree b next) = IsOneRoot net o tree b × ForSome next (IsNextRoot net o tree b)
 Holds net o before lost prior (expect.Region names) = AreOneRegion net (named net lost names)
 Holds net o before lost prior (expect.Role tree ports roles) = HaveRoles net o tree (ports_named net before ports) roles
 Holds net o before lost prior (expect.Reach vids names) = AllReach net o vids (named net lost names)
 Holds net o before lost prior (expect.Apart vids names others) = AreApart net o vids (named net lost names) (named net lost others)
-Holds net o before lost prior (expect.Together vids names) = StayTogether prior net o vids lost names
+Holds net o before lost prior (expect.Leaves vids names) = AreApart net o vids (named net lost names) (unnamed net names)
+Holds net o before lost prior (expect.Together vids names) = StayTogether prior.before prior.leaving net o vids lost names
 Holds net o before lost prior (expect.Leaf tree names) = AreLeaves net o tree (named net lost names)
 Holds net o before lost prior (expect.Depth tree steps) = IsShallow net o tree steps
 Holds net o before lost prior (expect.Carries lan vids) = AllGoOver net o lan vids

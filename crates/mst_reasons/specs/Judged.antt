@@ -16,7 +16,7 @@ use Rattle.mst_policy.specs.declared.expectation.Expectation.TheVariants as expe
 use Rattle.mst_policy.specs.declared.expectation.Scope.{Scope}
 use Rattle.mst_policy.specs.declared.expectation.Scope.TheVariants as scope
 use Rattle.mst_policy.specs.declared.expectation.Promise.{Promise}
-use Rattle.mst_reasons.specs.Named.{Gone, Prior}
+use Rattle.mst_reasons.specs.Named.{Gone, Prior, with_before}
 use Rattle.mst_reasons.specs.Holds.{Holds}
 
 -- the name of what fails
@@ -90,10 +90,10 @@ pub record IsJudgedSomewhere (net : Net) (has_prior : Bool) (promise : Promise) 
   pub is_asked : asks_at has_prior promise place ≡ true
 
 -- the expectation holds in the network that a failure makes: before that is the network itself
-abbrev pub HoldsAfter : Net → Outcome → Failure → Expectation → Type 0
-HoldsAfter net o failure expectation = (failed : Net) (p : Outcome) → after (edit_of failure) net ≡ Ok failed → IsOutcome failed p → Holds failed p net (gone_of failure) (Some (net, o)) expectation
+abbrev pub HoldsAfter : Net → Outcome → Prior → Failure → Expectation → Type 0
+HoldsAfter net o prior failure expectation = (failed : Net) (p : Outcome) → after (edit_of failure) net ≡ Ok failed → IsOutcome failed p → Holds failed p net (gone_of failure) (with_before net o prior) expectation
 
 -- the promise is kept: the expectation holds in each network in which it is judged
 pub record IsKept (net : Net) (o : Outcome) (prior : Prior) (promise : Promise) : Type 0 where
-  pub now : asks_now (is_some prior) promise ≡ true → Holds net o net None prior promise.expectation
-  pub failed : (failure : Failure) → Contains (failures net) failure → asks promise failure ≡ true → HoldsAfter net o failure promise.expectation
+  pub now : asks_now (is_some prior.before) promise ≡ true → Holds net o net None prior promise.expectation
+  pub failed : (failure : Failure) → Contains (failures net) failure → asks promise failure ≡ true → HoldsAfter net o prior failure promise.expectation

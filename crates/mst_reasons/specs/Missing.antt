@@ -43,6 +43,7 @@ bridges_of (expect.Region names) = names
 bridges_of (expect.Role tree ports roles) = map (λ item. item.bridge) ports
 bridges_of (expect.Reach vids names) = names
 bridges_of (expect.Apart vids names others) = names ++ others
+bridges_of (expect.Leaves vids names) = names
 bridges_of (expect.Together vids names) = names
 bridges_of (expect.Leaf tree names) = names
 bridges_of _ = []

@@ -1,5 +1,5 @@
 -- Which bridges and logical ports the lists of an expectation have in a network.
-use Rattle.std.specs.Prelude.{ℕ, ◌&&◌, not, Bool, false, List, Option, MatchOption, filter, ⊤}
+use Rattle.std.specs.Prelude.{ℕ, ◌&&◌, not, Bool, false, List, [], Option, Some, None, MatchOption, filter, ⊤}
 use Rattle.std.specs.List.{list_any}
 use Rattle.std.specs.Option.{option_map_or}
 use Rattle.std.specs.FinMap as fin
@@ -11,16 +11,27 @@ use Rattle.mst_view.specs.Aggregation.{same_name}
 use Rattle.mst_view.specs.View.{LogicalPort, view_ports}
 use Rattle.mst_sweep.specs.vlan.classes.AllVids.{all_vids}
 use Rattle.mst_policy.specs.Items as policy
+use Rattle.mst_policy.specs.Leaving.{Leaving, leaves}
 use Rattle.mst_policy.specs.declared.item.NameItem.{NameItem}
 use Rattle.mst_policy.specs.declared.item.PortItem.{PortItem}
 
--- the network before the one that is judged, with a settled outcome of it, if there is one
-abbrev pub Prior : Type 0
-Prior = Option (Net × Outcome)
+-- what a network that is judged is compared with: the one before it, with a settled outcome of that, if there is one, and which bridges are
+-- meant to leave which VIDs
+pub record Prior : Type 0 where
+  pub before : Option (Net × Outcome)
+  pub leaving : Leaving
 
--- it is a network
+-- nothing is before, and nothing is meant to leave
+abbrev pub nothing_before : Prior
+nothing_before = record { before = None; leaving = [] }
+
+-- after a failure the network itself is before
+abbrev pub with_before : Net → Outcome → Prior → Prior
+with_before net o prior = record prior { before = Some (net, o) }
+
+-- what is before is a network
 abbrev pub OfNetwork : Prior → Type 0
-OfNetwork prior = MatchOption prior ⊤ (λ p. IsNetwork p.0)
+OfNetwork prior = MatchOption prior.before ⊤ (λ p. IsNetwork p.0)
 
 -- ---- bridges
 -- the bridge that failed, if one did
@@ -37,6 +48,14 @@ is_named gone names bridge = policy.has names bridge && not (is_gone gone bridge
 -- these bridges, on or off, in byte order of names
 abbrev pub named : Net → Gone → List NameItem → List (List ℕ)
 named net gone names = filter (is_named gone names) (fin.keys net.bridges)
+
+-- the bridges that aren't of NAMES
+abbrev pub unnamed : Net → List NameItem → List (List ℕ)
+unnamed net names = filter (λ bridge. not (policy.has names bridge)) (fin.keys net.bridges)
+
+-- the bridges of NAMES that aren't meant to leave a VID
+abbrev pub remaining : Leaving → ℕ → Net → Gone → List NameItem → List (List ℕ)
+remaining leaving vid net gone names = filter (λ bridge. not (leaves leaving vid bridge)) (named net gone names)
 
 -- ---- logical ports
 -- a logical port of this name is enabled

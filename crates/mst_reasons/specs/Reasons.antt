@@ -31,7 +31,8 @@ use Rattle.mst_policy.specs.declared.expectation.Expectation.{Expectation}
 use Rattle.mst_policy.specs.declared.expectation.Expectation.TheVariants as expect
 use Rattle.mst_policy.specs.declared.expectation.Roles.{Roles}
 use Rattle.mst_policy.specs.declared.item.NameItem.{NameItem}
-use Rattle.mst_reasons.specs.Named.{Gone, Prior, named, ports_named, vids_in}
+use Rattle.mst_policy.specs.Leaving.{Leaving}
+use Rattle.mst_reasons.specs.Named.{Gone, Prior, named, ports_named, remaining, unnamed, vids_in}
 use Rattle.mst_reasons.specs.Over.{not_as_wanted}
 use Rattle.mst_reasons.specs.Roots.{concerned, is_root_of, IsNextRoot}
 use Rattle.mst_reasons.specs.Holds.{is_wanted, AreTogether, IsReached}
@@ -146,13 +147,21 @@ apart_reason vids parts = if has_any parts then why.Apart (set_where (is_among v
 abbrev pub AreApartReasons : Net → Outcome → List Bool → List (List ℕ) → List (List ℕ) → List Reason → Type 0
 AreApartReasons net o vids bridges others reasons = AreVidReasons (AreBoth net o bridges others) apart_reason vids reasons
 
+-- the parts in which bridges that were to leave are with others
+abbrev pub leaves_reason : List ℕ → Parts → List Reason
+leaves_reason vids parts = if has_any parts then why.Leaves (set_where (is_among vids)) parts ∷ [] else []
+
+abbrev pub AreLeavesReasons : Net → Outcome → List Bool → List (List ℕ) → List (List ℕ) → List Reason → Type 0
+AreLeavesReasons net o vids bridges others reasons = AreVidReasons (AreBoth net o bridges others) leaves_reason vids reasons
+
 -- the parts of these bridges that were in one island before, where they came apart
 abbrev pub together_reason : List ℕ → Parts → List Reason
 together_reason vids parts = if has_any parts then why.Together (set_where (is_among vids)) parts ∷ [] else []
 
-abbrev pub AreTogetherReasons : Prior → Net → Outcome → List Bool → Gone → List NameItem → List Reason → Type 0
-AreTogetherReasons None net o vids lost names reasons = reasons ≡ []
-AreTogetherReasons (Some prior) net o vids lost names reasons = AreVidReasons (ArePartsOf (named prior.0 lost names) prior.0 prior.1 net o) together_reason vids reasons
+abbrev pub AreTogetherReasons : Option (Net × Outcome) → Leaving → Net → Outcome → List Bool → Gone → List NameItem → List Reason → Type 0
+AreTogetherReasons None leaving net o vids lost names reasons = reasons ≡ []
+AreTogetherReasons (Some before) leaving net o vids lost names reasons =
+    AreVidReasons (λ vid parts. ArePartsOf (remaining leaving vid before.0 lost names) before.0 before.1 net o vid parts) together_reason vids reasons
 
 -- ---- parents
 -- those of these things for which this holds, in their order
@@ -222,14 +231,15 @@ pub record AreFitsReasons (net : Net) (o : Outcome) (reasons : List Reason) : Ty
   pub are_notes : AreNoteRows net o notes
   pub are : reasons ≡ filter_map (λ note. limit_reason note.kind note.cells) notes
 
--- ---- all eleven
+-- ---- all twelve
 abbrev pub AreReasons : Net → Outcome → Net → Gone → Prior → Expectation → List Reason → Type 0
 AreReasons net o before lost prior (expect.Root tree b next) reasons = AreRootReasons net o tree b next reasons
 AreReasons net o before lost prior (expect.Region names) reasons = AreRegionReasons net (named net lost names) reasons
 AreReasons net o before lost prior (expect.Role tree ports roles) reasons = reasons ≡ role_reasons net o tree (ports_named net before ports) roles
 AreReasons net o before lost prior (expect.Reach vids names) reasons = AreReachReasons net o vids (named net lost names) reasons
 AreReasons net o before lost prior (expect.Apart vids names others) reasons = AreApartReasons net o vids (named net lost names) (named net lost others) reasons
-AreReasons net o before lost prior (expect.Together vids names) reasons = AreTogetherReasons prior net o vids lost names reasons
+AreReasons net o before lost prior (expect.Leaves vids names) reasons = AreLeavesReasons net o vids (named net lost names) (unnamed net names) reasons
+AreReasons net o before lost prior (expect.Together vids names) reasons = AreTogetherReasons prior.before prior.leaving net o vids lost names reasons
 AreReasons net o before lost prior (expect.Leaf tree names) reasons = AreLeafReasons net o tree (named net lost names) reasons
 AreReasons net o before lost prior (expect.Depth tree steps) reasons = AreDepthReasons net o tree steps reasons
 AreReasons net o before lost prior (expect.Carries lan vids) reasons = reasons ≡ carries_reason lan (not_as_wanted net o lan true vids)

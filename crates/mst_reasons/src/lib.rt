@@ -15,7 +15,7 @@ pub use missing::Missing;
 pub use mst_note_text::{Child, children_of, laws as note_text_laws, put_notes};
 pub use mst_summary::{Follower, as_follower, goes_over, least};
 pub use mst_sweep::{
-    Both, Carriage, Failure, Planned, all_parts, bridges_of_both, classes_of_both, classes_of_vids,
-    differing, flagged, homes_by, homes_of, set_of, staying, vids, vlan_laws,
+    Both, Carriage, Failure, Planned, all_parts, bridges_of_both, classes_of_both_in,
+    classes_of_vids_in, differing, flagged, homes_by, homes_of, set_of, staying, vids, vlan_laws,
 };
 pub use reason::Reason;

@@ -41,6 +41,11 @@ pub enum Reason {
         vids: VidSet,
         parts: Parts,
     },
+    /// Bridges that were to leave these VIDs are in one island with others.
+    Leaves {
+        vids: VidSet,
+        parts: Parts,
+    },
     /// Bridges that were in one island of these VIDs before are in several.
     Together {
         vids: VidSet,

@@ -15,7 +15,7 @@ use Rattle.mst_graph.specs.Lists.{has_any}
 use Rattle.mst_island_judges.specs.judged.reasons.sweep.vlan.Reach.{bridges_on}
 use Rattle.mst_island_judges.specs.judged.reasons.Named.{vids_in}
 use Rattle.mst_island_judges.specs.judged.reasons.Holds.{AllReach, AreApart, AreOneRegion, AreTogether, IsReached}
-use Rattle.mst_island_judges.specs.judged.reasons.Reasons.{has_two, AreRegionReasons, Parts, group_reasons, AreVidReasons, reach_reason, AreReachReasons, is_in, either_on, has_both, AreBoth, apart_reason, AreApartReasons}
+use Rattle.mst_island_judges.specs.judged.reasons.Reasons.{has_two, AreRegionReasons, Parts, group_reasons, AreVidReasons, reach_reason, AreReachReasons, is_in, either_on, has_both, AreBoth, apart_reason, AreApartReasons, leaves_reason, AreLeavesReasons}
 use Rattle.mst_island_judges.specs.judged.reasons.declared.reason.Reason.{Reason}
 use Rattle.mst_island_judges.specs.judged.reasons.declared.reason.Reason.TheVariants as why
 use Rattle.mst_island_judges.proofs.judged_lemmas.reasons_lemmas.Things.{any_passes, none_passes, passes_none, told_if, each_none, none_each, thinned_self}
@@ -161,8 +161,16 @@ module _ (net : Net) (o : Outcome) (bridges others : List (List ℕ)) (vid : ℕ
           let y_in = in_whole (r.are_parts.in_order part k) y.0 y.1 in
           absurd (apart x.0 y.0 (there_in bridges x.0 x.2) (there_in others y.0 y.2) ((r.are_parts.related part x.0 y.0 k x.1 y_in).0 y.1))
 
-pub apart_broken : (net : Net) (o : Outcome) (vids : List Bool) (bridges others : List (List ℕ)) (reasons : List Reason) → AreApartReasons net o vids bridges others reasons
-    → (reasons ≡ []) ↔ AreApart net o vids bridges others
-apart_broken net o vids bridges others reasons r =
-    let b = vids_broken (AreBoth net o bridges others) apart_reason has_any (λ group parts. told_if (has_any parts) (why.Apart (set_where (is_among group)) parts)) vids reasons r in
-    (λ e vid h. apart_there net o bridges others vid (r.parts vid) (r.are_parts vid h) (b.0 e vid h), λ apart. b.1 (λ vid h. there_apart net o bridges others vid (r.parts vid) (r.are_parts vid h) (apart vid h)))
+-- whatever is told of such parts
+module _ (net : Net) (o : Outcome) (vids : List Bool) (bridges others : List (List ℕ)) (reasons : List Reason) where
+  both_broken : (tell : List ℕ → Parts → List Reason) → ((group : List ℕ) (parts : Parts) → (tell group parts ≡ []) ↔ (has_any parts ≡ false)) → AreVidReasons (AreBoth net o bridges others) tell vids reasons
+      → (reasons ≡ []) ↔ AreApart net o vids bridges others
+  both_broken tell tells r =
+      let b = vids_broken (AreBoth net o bridges others) tell has_any tells vids reasons r in
+      (λ e vid h. apart_there net o bridges others vid (r.parts vid) (r.are_parts vid h) (b.0 e vid h), λ apart. b.1 (λ vid h. there_apart net o bridges others vid (r.parts vid) (r.are_parts vid h) (apart vid h)))
+
+  pub apart_broken : AreApartReasons net o vids bridges others reasons → (reasons ≡ []) ↔ AreApart net o vids bridges others
+  apart_broken r = both_broken apart_reason (λ group parts. told_if (has_any parts) (why.Apart (set_where (is_among group)) parts)) r
+
+  pub leaves_broken : AreLeavesReasons net o vids bridges others reasons → (reasons ≡ []) ↔ AreApart net o vids bridges others
+  leaves_broken r = both_broken leaves_reason (λ group parts. told_if (has_any parts) (why.Leaves (set_where (is_among group)) parts)) r

@@ -31,7 +31,7 @@ use Rattle.mst_island_judges.proofs.judged_lemmas.reasons_lemmas.sweep_lemmas.Fa
 use Rattle.mst_island_judges.proofs.judged_lemmas.reasons_lemmas.sweep_lemmas.Joined.{has_home, home_on, home_joined, joined_home}
 use Rattle.mst_island_judges.specs.judged.reasons.Holds.{AllReach, AreTogether, IsReached}
 use Rattle.mst_island_judges.specs.judged.reasons.Judged.{gone_of, HoldsAfter}
-use Rattle.mst_island_judges.specs.judged.reasons.Named.{is_gone, is_named, named, vids_in}
+use Rattle.mst_island_judges.specs.judged.reasons.Named.{is_gone, is_named, named, nothing_before, vids_in}
 use Rattle.mst_verify.specs.Whole.{AreAllVids, Fails, IsWhole, NoneIsCut, reach_all}
 use Rattle.mst_verify.proofs.Failed.{in_range, not_gone, on_key, stays_on}
 use Rattle.mst_verify.proofs.ReachLinked.{same_or_not}
@@ -118,7 +118,7 @@ module _ (single : (net : Net) (o p : Outcome) → IsNetwork net → IsOutcome n
   parts_of : (vid : ℕ) → Contains (vids_in vids) vid → AreParts net o failed p vid (cuts.parts vid)
   parts_of vid h = cuts.are_parts vid (is_vid_there vid (a_vid vid h))
 
-  holds_uncut : HoldsAfter net o failure (reach_all vids) → NoneIsCut vids cut
+  holds_uncut : HoldsAfter net o nothing_before failure (reach_all vids) → NoneIsCut vids cut
   holds_uncut holds vid h k =
       let parts = parts_of vid h in
       let some = (from_filter cuts_some all_vids vid (subst (λ vids. Contains vids vid) cuts.cut k)).1 in
@@ -130,7 +130,7 @@ module _ (single : (net : Net) (o p : Outcome) → IsNetwork net → IsOutcome n
       uncut_reach net failed failure fails.made o p vid parts.0 parts.1 parts.2 parts.3 (whole vid h)
       (λ some. none vid h (subst (λ vids. Contains vids vid) (sym cuts.cut) (in_filter cuts_some all_vids vid (a_vid vid h) (ap has_any parts.4 ∙ some))))
 
-  uncut_holds : NoneIsCut vids cut → HoldsAfter net o failure (reach_all vids)
+  uncut_holds : NoneIsCut vids cut → HoldsAfter net o nothing_before failure (reach_all vids)
   uncut_holds none other q e its =
       let first = fails.made in
       let same : other ≡ failed = cc in
@@ -138,11 +138,11 @@ module _ (single : (net : Net) (o p : Outcome) → IsNetwork net → IsOutcome n
       let outcome : q ≡ p = single failed q p ok (subst (λ n. IsOutcome n q) same its) fails.is_made in
       subst (λ n. AllReach n q vids (named n (gone_of failure) (Any ∷ []))) (sym same) (subst (λ q. AllReach failed q vids (named failed (gone_of failure) (Any ∷ []))) (sym outcome) (uncut_here none))
 
-  pub holds_where_uncut : HoldsAfter net o failure (reach_all vids) ↔ NoneIsCut vids cut
+  pub holds_where_uncut : HoldsAfter net o nothing_before failure (reach_all vids) ↔ NoneIsCut vids cut
   holds_where_uncut = (holds_uncut, uncut_holds)
 
   -- by all VIDs
-  pub holds_where_none : AreAllVids vids → HoldsAfter net o failure (reach_all vids) ↔ (has_any cut ≡ false)
+  pub holds_where_none : AreAllVids vids → HoldsAfter net o nothing_before failure (reach_all vids) ↔ (has_any cut ≡ false)
   holds_where_none all = (
     λ holds. no_true (has_any cut) (λ some.
         let vid = any_there cut some in
@@ -155,7 +155,7 @@ module _ (single : (net : Net) (o p : Outcome) → IsNetwork net → IsOutcome n
 pub told_where_cut : (single : (net : Net) (o p : Outcome) → IsNetwork net → IsOutcome net o → IsOutcome net p → o ≡ p)
     → (networks : (edit : Edit) (net new : Net) → InRange edit → IsNetwork net → after edit net ≡ Ok new → IsNetwork new)
     → (net : Net) (o : Outcome) → IsNetwork net → IsOutcome net o → (failure : Failure) → Contains (failures net) failure → (vids : List Bool) → AreAllVids vids → IsWhole net o vids → (told : Told) → IsTold net o failure told
-    → HoldsAfter net o failure (reach_all vids) ↔ (told.cuts ≡ false)
+    → HoldsAfter net o nothing_before failure (reach_all vids) ↔ (told.cuts ≡ false)
 told_where_cut single networks net o ok is failure can vids all whole told t =
     let fails : Fails net o failure t.failed t.outcome = record { is_network = ok; is_outcome = is; can_fail = can; made = t.made; is_made = t.is_outcome } in
     let h = holds_where_none single networks net o failure t.failed t.outcome fails vids whole t.is.vids t.is.cut t.is.are_cuts all in

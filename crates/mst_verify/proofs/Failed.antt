@@ -5,7 +5,7 @@ use Rattle.std.specs.FinMap as fin
 use Rattle.std.specs.List.{Contains}
 use Rattle.std.specs.Option.{option_map, option_map_or}
 use Rattle.std.proofs.lemmas.List.Elements.{Contains-append_cases}
-use Rattle.mst_graph.proofs.Members.{in_map, from_map, in_filter, from_filter}
+use Rattle.mst_graph.proofs.Members.{in_map, from_map, from_filter}
 use Rattle.mst_lang.specs.Ranges.{InRange}
 use Rattle.mst_lang.specs.declared.line.BridgeChange.TheVariants.{Power}
 use Rattle.mst_lang.specs.declared.line.Power.TheVariants.{Off}
@@ -20,7 +20,7 @@ use Rattle.mst_view.specs.Aggregation.{plugs, same_name}
 use Rattle.mst_view.specs.View.{LogicalPort, IsUnrestricted, as_port, logical_port, view_ports}
 use Rattle.mst_roles.proofs.forest_lemmas.Entries.{entries_found}
 use Rattle.mst_roles.proofs.forest_lemmas.Lists.{all_contained, no_some, some_is}
-use Rattle.mst_roles.proofs.forest_lemmas.Views.{bridges_are, entry_there}
+use Rattle.mst_roles.proofs.forest_lemmas.Views.{bridges_are}
 use Rattle.mst_island_judges.specs.judged.reasons.sweep.vlan.Reach.{bridges_on}
 use Rattle.mst_island_judges.specs.judged.reasons.sweep.Apart.{AllAreMembers}
 use Rattle.mst_island_judges.specs.judged.reasons.sweep.Failures.{edit_of, failures}

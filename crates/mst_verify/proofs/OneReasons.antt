@@ -18,9 +18,9 @@ use Rattle.mst_island_judges.specs.judged.reasons.sweep.vlan.Reach.{bridges_on}
 use Rattle.mst_island_judges.specs.judged.reasons.note_text.Children.{HasSteps}
 use Rattle.mst_island_judges.specs.judged.reasons.note_text.Depths.{ParentIn}
 use Rattle.mst_island_judges.specs.judged.reasons.note_text.NotesText.{AreNoteRows}
-use Rattle.mst_island_judges.specs.judged.reasons.Named.{Gone, Prior, is_named, named}
+use Rattle.mst_island_judges.specs.judged.reasons.Named.{Gone, Prior, is_named, named, unnamed}
 use Rattle.mst_island_judges.specs.judged.reasons.Holds.{AreTogether, IsReached}
-use Rattle.mst_island_judges.specs.judged.reasons.Reasons.{limit_reason, root_reasons, AreRootReasons, has_two, AreRegionReasons, Parts, reach_reason, AreReachReasons, is_in, either_on, has_both, AreBoth, apart_reason, AreApartReasons, AreThose, leaf_reason, AreLeafReasons, AreDepthReasons, AreFitsReasons, AreReasons}
+use Rattle.mst_island_judges.specs.judged.reasons.Reasons.{limit_reason, root_reasons, AreRootReasons, has_two, AreRegionReasons, Parts, reach_reason, AreReachReasons, is_in, either_on, has_both, AreBoth, apart_reason, AreApartReasons, leaves_reason, AreLeavesReasons, AreThose, leaf_reason, AreLeafReasons, AreDepthReasons, AreFitsReasons, AreReasons}
 use Rattle.mst_island_judges.specs.judged.reasons.Roots.{IsNextRoot}
 use Rattle.mst_island_judges.specs.judged.reasons.declared.reason.Reason.{Reason}
 use Rattle.mst_island_judges.specs.judged.reasons.declared.reason.Reason.TheVariants as why
@@ -57,6 +57,9 @@ module _ (net : Net) (o : Outcome) where
 
   one_apart : (vids : List Bool) (bridges others : List (List ℕ)) (reasons more : List Reason) → AreApartReasons net o vids bridges others reasons → AreApartReasons net o vids bridges others more → reasons ≡ more
   one_apart vids bridges others reasons more x y = one_of_vids (AreBoth net o bridges others) (both_same bridges others) apart_reason vids reasons more x y
+
+  one_leaves : (vids : List Bool) (bridges others : List (List ℕ)) (reasons more : List Reason) → AreLeavesReasons net o vids bridges others reasons → AreLeavesReasons net o vids bridges others more → reasons ≡ more
+  one_leaves vids bridges others reasons more x y = one_of_vids (AreBoth net o bridges others) (both_same bridges others) leaves_reason vids reasons more x y
 
   -- ---- parents
   one_leaf : (tree : ℕ) (bridges : List (List ℕ)) (reasons others : List Reason) → AreLeafReasons net o tree bridges reasons → AreLeafReasons net o tree bridges others → reasons ≡ others
@@ -101,7 +104,7 @@ module _ (net : Net) (o : Outcome) where
     one_root : (tree : ℕ) (b : List ℕ) (wanted : Option (List ℕ)) (reasons others : List Reason) → AreRootReasons net o tree b wanted reasons → AreRootReasons net o tree b wanted others → reasons ≡ others
     one_root tree b wanted reasons others x y = x.are ∙ ap (root_reasons net o tree b wanted) (next_same tree b x.next y.next x.is_next y.is_next) ∙ sym y.are
 
-    -- ---- all eleven
+    -- ---- all twelve
     module _ (before : Net) (gone : Gone) (prior : Prior) (islands : OneIslands) (one : (notes other : List Row) → AreNoteRows net o notes → AreNoteRows net o other → notes ≡ other) where
       pub reasons_same : (e : Expectation) (reasons others : List Reason) → AreReasons net o before gone prior e reasons → AreReasons net o before gone prior e others → reasons ≡ others
       reasons_same (expect.Root tree b next) reasons others x y = one_root tree b next reasons others x y
@@ -109,7 +112,8 @@ module _ (net : Net) (o : Outcome) where
       reasons_same (expect.Role tree ports roles) reasons others x y = x ∙ sym y
       reasons_same (expect.Reach vids names) reasons others x y = one_reach vids (named net gone names) (names_once net (is_named gone names)) reasons others x y
       reasons_same (expect.Apart vids names more) reasons others x y = one_apart vids (named net gone names) (named net gone more) reasons others x y
-      reasons_same (expect.Together vids names) reasons others x y = one_together net o vids gone names islands prior reasons others x y
+      reasons_same (expect.Leaves vids names) reasons others x y = one_leaves vids (named net gone names) (unnamed net names) reasons others x y
+      reasons_same (expect.Together vids names) reasons others x y = one_together net o vids gone names prior.leaving islands prior.before reasons others x y
       reasons_same (expect.Leaf tree names) reasons others x y = one_leaf tree (named net gone names) reasons others x y
       reasons_same (expect.Depth tree steps) reasons others x y = one_depth tree steps reasons others x y
       reasons_same (expect.Carries lan vids) reasons others x y = x ∙ sym y

@@ -79,7 +79,7 @@ module _ (active : ActiveLink) (outcomes : (net : Net) → IsNetwork net → (o 
 
   kept_linked : IsKept net o prior (always_reach vids names) → StayLinked net names
   kept_linked kept = record {
-    now = reach_linked active net o vids (named net None names) ok is pass (kept.now (asked_now vids names (is_some prior)));
+    now = reach_linked active net o vids (named net None names) ok is pass (kept.now (asked_now vids names (is_some prior.before)));
     failed = λ failure h left e.
         let its = network failure h left e in
         let p = outcomes left its in

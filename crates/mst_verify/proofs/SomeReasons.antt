@@ -25,10 +25,10 @@ use Rattle.mst_roles.specs.forest.Outcome.{Outcome, trees_of}
 use Rattle.mst_island_judges.specs.judged.reasons.sweep.vlan.Reach.{AreIslandsOf, bridges_on, vid_links}
 use Rattle.mst_island_judges.specs.judged.reasons.sweep.Parts.{home}
 use Rattle.mst_island_judges.proofs.judged_lemmas.reasons_lemmas.sweep_lemmas.Joined.{has_home, home_joined, home_on, joined_home}
-use Rattle.mst_island_judges.specs.judged.reasons.Named.{Gone, Prior, named, ports_named}
+use Rattle.mst_island_judges.specs.judged.reasons.Named.{Gone, Prior, named, ports_named, unnamed}
 use Rattle.mst_island_judges.specs.judged.reasons.Holds.{AreTogether, IsReached}
 use Rattle.mst_island_judges.specs.judged.reasons.Over.{not_as_wanted}
-use Rattle.mst_island_judges.specs.judged.reasons.Reasons.{root_reasons, AreRootReasons, has_two, AreRegionReasons, role_reasons, Parts, reach_reason, AreReachReasons, either_on, has_both, is_in, AreBoth, apart_reason, AreApartReasons, leaf_reason, AreLeafReasons, AreDepthReasons, carries_reason, avoids_reason, limit_reason, AreReasons}
+use Rattle.mst_island_judges.specs.judged.reasons.Reasons.{root_reasons, AreRootReasons, has_two, AreRegionReasons, role_reasons, Parts, reach_reason, AreReachReasons, either_on, has_both, is_in, AreBoth, apart_reason, AreApartReasons, leaves_reason, AreLeavesReasons, leaf_reason, AreLeafReasons, AreDepthReasons, carries_reason, avoids_reason, limit_reason, AreReasons}
 use Rattle.mst_island_judges.specs.judged.reasons.Roots.{concerned, identifier, IsNextRoot}
 use Rattle.mst_tree_judges.specs.Seen.{is_child_of}
 use Rattle.mst_island_judges.specs.judged.reasons.declared.reason.Reason.{Reason}
@@ -183,14 +183,17 @@ module _ (net : Net) (o : Outcome) where
           },
         )
 
-  -- ---- all eleven
+  -- ---- all twelve
   module _ (ok : IsNetwork net) (settled : IsSettled (trees_of net o)) (islands : IslandsOf net o) (notes : (notes : List Row) × AreNoteRows net o notes) (before : Net) (gone : Gone) (prior : Prior)
-      (olds : MatchOption prior ⊤ (λ p. IslandsOf p.0 p.1)) where
+      (olds : MatchOption prior.before ⊤ (λ p. IslandsOf p.0 p.1)) where
     some_reach : (vids : List Bool) (bridges : List (List ℕ)) → (reasons : List Reason) × AreReachReasons net o vids bridges reasons
     some_reach vids bridges = some_of_vids (λ vid parts. AreGroups (IsReached net o vid) bridges parts) reach_reason (λ vid. reached_parts net o vid (islands vid).0 (islands vid).1 bridges) vids
 
     some_apart : (vids : List Bool) (bridges others : List (List ℕ)) → (reasons : List Reason) × AreApartReasons net o vids bridges others reasons
     some_apart vids bridges others = some_of_vids (AreBoth net o bridges others) apart_reason (λ vid. both_parts net o vid (islands vid).0 (islands vid).1 bridges others) vids
+
+    some_leaves : (vids : List Bool) (bridges others : List (List ℕ)) → (reasons : List Reason) × AreLeavesReasons net o vids bridges others reasons
+    some_leaves vids bridges others = some_of_vids (AreBoth net o bridges others) leaves_reason (λ vid. both_parts net o vid (islands vid).0 (islands vid).1 bridges others) vids
 
     pub some_reasons : (e : Expectation) → (reasons : List Reason) × AreReasons net o before gone prior e reasons
     some_reasons (expect.Root tree b next) = some_root tree b next
@@ -198,7 +201,8 @@ module _ (net : Net) (o : Outcome) where
     some_reasons (expect.Role tree ports roles) = (role_reasons net o tree (ports_named net before ports) roles, refl)
     some_reasons (expect.Reach vids names) = some_reach vids (named net gone names)
     some_reasons (expect.Apart vids names others) = some_apart vids (named net gone names) (named net gone others)
-    some_reasons (expect.Together vids names) = some_together net o vids gone names islands prior olds
+    some_reasons (expect.Leaves vids names) = some_leaves vids (named net gone names) (unnamed net names)
+    some_reasons (expect.Together vids names) = some_together net o vids gone names prior.leaving islands prior.before olds
     some_reasons (expect.Leaf tree names) = some_leaf ok settled tree (named net gone names)
     some_reasons (expect.Depth tree steps) = some_depth ok settled tree steps
     some_reasons (expect.Carries lan vids) = (carries_reason lan (not_as_wanted net o lan true vids), refl)

@@ -12,6 +12,7 @@ use Rattle.mst_lang.specs.Ranges.{InRange}
 use Rattle.mst_lang.specs.declared.line.Edit.{Edit}
 use Rattle.mst_net.specs.tables.After.{after}
 use Rattle.mst_net.specs.tables.Tables.{IsNetwork, Net}
+use Rattle.mst_policy.specs.Leaving.{leaves}
 use Rattle.mst_policy.specs.declared.item.NameItem.TheVariants.{Any}
 use Rattle.mst_rows.specs.Rows.{Row}
 use Rattle.mst_roles.proofs.forest_lemmas.Pieces.{flat_map-flat_map}
@@ -31,7 +32,7 @@ use Rattle.mst_island_judges.specs.judged.reasons.sweep.declared.parts.Stays.{St
 use Rattle.mst_island_judges.proofs.judged_lemmas.reasons_lemmas.sweep_lemmas.Joined.{home_on}
 use Rattle.mst_island_judges.specs.judged.reasons.Holds.{AllStayTogether}
 use Rattle.mst_island_judges.specs.judged.reasons.Judged.{gone_of, HoldsAfter}
-use Rattle.mst_island_judges.specs.judged.reasons.Named.{is_named, named, vids_in}
+use Rattle.mst_island_judges.specs.judged.reasons.Named.{is_named, named, nothing_before, remaining, vids_in}
 use Rattle.mst_island_judges.specs.judged.reasons.Reasons.{AreTogetherReasons, AreVidReasons, Parts, group_reasons, together_reason}
 use Rattle.mst_verify.specs.Whole.{AreAllVids, all_together, as_cut}
 use Rattle.mst_island_judges.specs.judged.reasons.declared.reason.Reason.{Reason}
@@ -58,10 +59,17 @@ all_pass test [] h = refl
 all_pass test (x ∷ xs) h = ap (λ b. cond b (x ∷ filter test xs) (filter test xs)) (h x (here x xs)) ∙ ap (λ ys. x ∷ ys) (all_pass test xs (λ y k. h y (there x y xs k)))
 
 -- ---- a failure
+-- all bridges but the one that failed: none is to leave a VID
+abbrev left_by : Net → Failure → ℕ → List (List ℕ)
+left_by net failure vid = remaining [] vid net (gone_of failure) (Any ∷ [])
+
 module _ (net failed : Net) (failure : Failure) (made : after (edit_of failure) net ≡ Ok failed) (o p : Outcome) where
-  -- all bridges but the one that failed
-  abbrev left : List (List ℕ)
-  left = named net (gone_of failure) (Any ∷ [])
+  abbrev left : ℕ → List (List ℕ)
+  left = left_by net failure
+
+  -- their parts
+  abbrev HasParts : ℕ → Parts → Type 0
+  HasParts vid parts = ArePartsOf (left vid) net o failed p vid parts
 
   module _ (vid : ℕ) (olds news : List (Island (List ℕ) (List ℕ))) (are : AreIslandsOf failed p vid news) where
     -- that one has no place afterwards
@@ -73,21 +81,23 @@ module _ (net failed : Net) (failure : Failure) (made : after (edit_of failure) 
         go (Some i) None f = refl
         go (Some i) (Some j) f = absurd (true≢false (sym (ap not (not_gone failure net failed made name (home_on failed p vid news are name j f))) ∙ gone))
 
-    left_stay : staying olds news left ≡ staying olds news (bridge_names net)
-    left_stay = kept_whole (stays_at olds news) (is_named (gone_of failure) (Any ∷ [])) lost (bridge_names net)
+    left_stay : staying olds news (left vid) ≡ staying olds news (bridge_names net)
+    left_stay =
+        ap (staying olds news) (all_pass (λ bridge. not (leaves [] vid bridge)) (named net (gone_of failure) (Any ∷ [])) (λ bridge _. refl))
+        ∙ kept_whole (stays_at olds news) (is_named (gone_of failure) (Any ∷ [])) lost (bridge_names net)
 
   -- so the parts of those that are left are the parts of all
-  of_all : (vid : ℕ) (parts : Parts) → ArePartsOf left net o failed p vid parts → AreParts net o failed p vid parts
+  of_all : (vid : ℕ) (parts : Parts) → HasParts vid parts → AreParts net o failed p vid parts
   of_all vid parts s = (s.0, s.1, s.2, s.3, s.4 ∙ ap all_parts (left_stay vid s.0 s.1 s.3))
 
-  of_left : (vid : ℕ) (parts : Parts) → AreParts net o failed p vid parts → ArePartsOf left net o failed p vid parts
+  of_left : (vid : ℕ) (parts : Parts) → AreParts net o failed p vid parts → HasParts vid parts
   of_left vid parts s = (s.0, s.1, s.2, s.3, s.4 ∙ ap all_parts (sym (left_stay vid s.0 s.1 s.3)))
 
   module _ (vids : List Bool) (every : AreAllVids vids) (cut : List ℕ) (rows : List Row) (cuts : AreCuts net o failed p failure cut rows) where
     all_are : vids_in vids ≡ all_vids
     all_are = all_pass (has vids) all_vids every
 
-    left_parts : (vid : ℕ) → Contains all_vids vid → ArePartsOf left net o failed p vid (cuts.parts vid)
+    left_parts : (vid : ℕ) → Contains all_vids vid → HasParts vid (cuts.parts vid)
     left_parts vid h = of_left vid (cuts.parts vid) (cuts.are_parts vid (is_vid_there vid h))
 
     -- ---- rows
@@ -103,7 +113,7 @@ module _ (net failed : Net) (failure : Failure) (made : after (edit_of failure) 
     abbrev told : List Reason
     told = flat_map (group_reasons together_reason cuts.parts) cuts.groups
 
-    are_told : AreVidReasons (ArePartsOf left net o failed p) together_reason vids told
+    are_told : AreVidReasons HasParts together_reason vids told
     are_told = record {
       parts = cuts.parts;
       are_parts = λ vid h. left_parts vid (subst (λ vs. Contains vs vid) all_are h);
@@ -112,9 +122,9 @@ module _ (net failed : Net) (failure : Failure) (made : after (edit_of failure) 
       are = refl;
     }
 
-    pub rows_same : OneIslands → (reasons : List Reason) → AreTogetherReasons (Some (net, o)) failed p vids (gone_of failure) (Any ∷ []) reasons → flat_map (as_cut failure) reasons ≡ rows
+    pub rows_same : OneIslands → (reasons : List Reason) → AreTogetherReasons (Some (net, o)) [] failed p vids (gone_of failure) (Any ∷ []) reasons → flat_map (as_cut failure) reasons ≡ rows
     rows_same one reasons r =
-        ap (flat_map (as_cut failure)) (one_of_vids (ArePartsOf left net o failed p) (λ vid parts other s t. one_parts one left net failed o p vid parts other s t) together_reason vids reasons told r are_told)
+        ap (flat_map (as_cut failure)) (one_of_vids HasParts (λ vid parts other s t. one_parts one (left vid) net failed o p vid parts other s t) together_reason vids reasons told r are_told)
         ∙ flat_map-flat_map (as_cut failure) (group_reasons together_reason cuts.parts) cuts.groups
         ∙ each_same (λ group. flat_map (as_cut failure) (group_reasons together_reason cuts.parts group)) (group_rows (One failure) cuts.parts) cuts.groups (λ group _. one_row group)
         ∙ sym cuts.are
@@ -128,32 +138,32 @@ module _ (net failed : Net) (failure : Failure) (made : after (edit_of failure) 
         let vid = any_there cut some in
         let its = from_filter cuts_some all_vids vid.0 (subst (λ vids. Contains vids vid.0) cuts.cut vid.1) in
         let parts = left_parts vid.0 its.0 in
-        let whole = stay_whole net failed o p vid.0 parts.0 parts.1 parts.2 parts.3 left (stay vid.0 (subst (λ vs. Contains vs vid.0) (sym all_are) its.0)) in
+        let whole = stay_whole net failed o p vid.0 parts.0 parts.1 parts.2 parts.3 (left vid.0) (stay vid.0 (subst (λ vs. Contains vs vid.0) (sym all_are) its.0)) in
         true≢false (sym its.1 ∙ ap has_any parts.4 ∙ whole))
 
     uncut_stay : has_any cut ≡ false → AllStayTogether net o failed p vids left
     uncut_stay none vid h =
         let its = subst (λ vs. Contains vs vid) all_are h in
         let parts = left_parts vid its in
-        whole_stay net failed o p vid parts.0 parts.1 parts.2 parts.3 left
+        whole_stay net failed o p vid parts.0 parts.1 parts.2 parts.3 (left vid)
         (ap has_any (sym parts.4) ∙ no_true (cuts_some vid) (λ some. true≢false (sym (there_any cut vid (subst (λ vids. Contains vids vid) (sym cuts.cut) (in_filter cuts_some all_vids vid its some))) ∙ none)))
 
 -- ---- as a sweep tells of the failure
 module _ (single : (net : Net) (o p : Outcome) → IsNetwork net → IsOutcome net o → IsOutcome net p → o ≡ p)
     (networks : (edit : Edit) (net new : Net) → InRange edit → IsNetwork net → after edit net ≡ Ok new → IsNetwork new) (net : Net) (o : Outcome) (ok : IsNetwork net) (failure : Failure) (can : Contains (failures net) failure)
     (vids : List Bool) (every : AreAllVids vids) (told : Told) (t : IsTold net o failure told) where
-  holds_uncut : HoldsAfter net o failure (all_together vids) → told.cuts ≡ false
+  holds_uncut : HoldsAfter net o nothing_before failure (all_together vids) → told.cuts ≡ false
   holds_uncut holds = t.is.some ∙ stay_uncut net t.failed failure t.made o t.outcome vids every t.is.vids t.is.cut t.is.are_cuts (holds t.failed t.outcome t.made t.is_outcome)
 
-  uncut_holds : told.cuts ≡ false → HoldsAfter net o failure (all_together vids)
+  uncut_holds : told.cuts ≡ false → HoldsAfter net o nothing_before failure (all_together vids)
   uncut_holds none other q e its =
       let first = t.made in
       let same : other ≡ t.failed = cc in
       let its_network : IsNetwork t.failed = networks (edit_of failure) net t.failed (in_range net ok failure can) ok t.made in
       let outcome : q ≡ t.outcome = single t.failed q t.outcome its_network (subst (λ n. IsOutcome n q) same its) t.is_outcome in
-      subst (λ n. AllStayTogether net o n q vids (named net (gone_of failure) (Any ∷ []))) (sym same)
-      (subst (λ q. AllStayTogether net o t.failed q vids (named net (gone_of failure) (Any ∷ []))) (sym outcome)
+      subst (λ n. AllStayTogether net o n q vids (left_by net failure)) (sym same)
+      (subst (λ q. AllStayTogether net o t.failed q vids (left_by net failure)) (sym outcome)
       (uncut_stay net t.failed failure t.made o t.outcome vids every t.is.vids t.is.cut t.is.are_cuts (sym t.is.some ∙ none)))
 
-  pub together_where_uncut : HoldsAfter net o failure (all_together vids) ↔ (told.cuts ≡ false)
+  pub together_where_uncut : HoldsAfter net o nothing_before failure (all_together vids) ↔ (told.cuts ≡ false)
   together_where_uncut = (holds_uncut, uncut_holds)

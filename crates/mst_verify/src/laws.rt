@@ -11,7 +11,7 @@ ghost use Rattle.mst_island_judges.specs.judged.reasons.sweep.Cuts.{AreCuts};
 ghost use Rattle.mst_island_judges.specs.judged.reasons.sweep.Failures.{failures};
 ghost use Rattle.mst_island_judges.specs.judged.reasons.sweep.SweepText.{Told, IsTold};
 ghost use Rattle.mst_island_judges.specs.judged.reasons.sweep.declared.failure.Failure.{Failure as FailureOf};
-ghost use Rattle.mst_island_judges.specs.judged.reasons.Named.{Gone, OfNetwork, Prior};
+ghost use Rattle.mst_island_judges.specs.judged.reasons.Named.{Gone, OfNetwork, Prior, nothing_before, with_before};
 ghost use Rattle.mst_island_judges.specs.judged.reasons.Holds.{AllReach, Holds};
 ghost use Rattle.mst_island_judges.specs.judged.reasons.Judged.{HoldsAfter, IsJudgedSomewhere, IsKept, gone_of, looks_back};
 ghost use Rattle.mst_verify.specs.Linked.{AllPass, AllAreLinked, StayLinked, always_reach};
@@ -68,9 +68,9 @@ pub fn reach_where_linked()
 /// all VIDs, where a sweep doesn't count it among those that cut some.
 pub fn cuts_are_failures()
     ensures vids { (net failed : Net) (o p : Outcome) (failure : FailureOf) (vids : List Bool) (cut : List ℕ) (rows : List Row)
-        → Fails net o failure failed p → IsWhole net o vids → AreCuts net o failed p failure cut rows → HoldsAfter net o failure (reach_all vids) ↔ NoneIsCut vids cut }
+        → Fails net o failure failed p → IsWhole net o vids → AreCuts net o failed p failure cut rows → HoldsAfter net o nothing_before failure (reach_all vids) ↔ NoneIsCut vids cut }
     ensures counted { (net : Net) (o : Outcome) (failure : FailureOf) (vids : List Bool) (told : Told)
-        → IsNetwork net → IsOutcome net o → Contains (failures net) failure → AreAllVids vids → IsWhole net o vids → IsTold net o failure told → HoldsAfter net o failure (reach_all vids) ↔ (told.cuts ≡ false) }
+        → IsNetwork net → IsOutcome net o → Contains (failures net) failure → AreAllVids vids → IsWhole net o vids → IsTold net o failure told → HoldsAfter net o nothing_before failure (reach_all vids) ↔ (told.cuts ≡ false) }
 {
     one_outcome();
     networks();
@@ -80,9 +80,9 @@ pub fn cuts_are_failures()
 /// where a sweep doesn't count it among those that cut some VID.
 pub fn together_as_in_sweep()
     ensures rows { (net failed : Net) (o p : Outcome) (failure : FailureOf) (vids : List Bool) (reasons : List ReasonOf) (cut : List ℕ) (rows : List Row)
-        → Fails net o failure failed p → AreAllVids vids → AreReasons failed p net (gone_of failure) (Some (net, o)) (all_together vids) reasons → AreCuts net o failed p failure cut rows → flat_map (as_cut failure) reasons ≡ rows }
+        → Fails net o failure failed p → AreAllVids vids → AreReasons failed p net (gone_of failure) (with_before net o nothing_before) (all_together vids) reasons → AreCuts net o failed p failure cut rows → flat_map (as_cut failure) reasons ≡ rows }
     ensures counted { (net : Net) (o : Outcome) (failure : FailureOf) (vids : List Bool) (told : Told)
-        → IsNetwork net → IsOutcome net o → Contains (failures net) failure → AreAllVids vids → IsTold net o failure told → HoldsAfter net o failure (all_together vids) ↔ (told.cuts ≡ false) }
+        → IsNetwork net → IsOutcome net o → Contains (failures net) failure → AreAllVids vids → IsTold net o failure told → HoldsAfter net o nothing_before failure (all_together vids) ↔ (told.cuts ≡ false) }
 {
     one_outcome();
     networks();

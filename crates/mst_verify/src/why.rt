@@ -1,13 +1,17 @@
 ghost use Rattle.std.specs.Prelude.{IfOk, MatchOption, ⊤};
 ghost use Rattle.mst_net.specs.tables.Tables.{Net};
+ghost use Rattle.mst_policy.specs.Leaving.{sets_of};
 ghost use Rattle.mst_roles.specs.forest.Settled.{outcome_of};
+ghost use Rattle.mst_island_judges.specs.judged.reasons.sweep.vlan.classes.Classes.{AreInSame};
 ghost use Rattle.mst_island_judges.specs.judged.Islands.{AreKept, IsBeside, IsKeptOf};
 ghost use Rattle.mst_island_judges.specs.judged.reasons.Named.{Prior};
 ghost use Rattle.mst_island_judges.specs.judged.reasons.Over.{HasItsLan};
 ghost use Rattle.mst_island_judges.specs.judged.reasons.Reasons.{AreReasons};
 ghost use Rattle.mst_island_judges.specs.judged.Seen.{IsBefore};
 
-use mst_island_judges::{Judged, Reason, apart_reasons, reach_reasons, together_reasons};
+use mst_island_judges::{
+    Judged, Reason, apart_reasons, leaves_reasons, reach_reasons, together_reasons,
+};
 use mst_policy::Expectation;
 use mst_tree_judges::{
     avoids_reasons, carries_reasons, depth_reasons, fits_reasons, leaf_reasons, region_reasons,
@@ -27,7 +31,8 @@ pub fn reasons(
     requires kept { AreKept judged.now.plan.now judged.now.before.now judged.now.homes.now }
     requires lan { HasItsLan judged.now.plan.now.net expectation.now }
     requires prior { MatchOption judged.now.prior ⊤ (IsBeside judged.now.plan.now) }
-    ensures { IfOk result (λ reasons. (before : Net) (prior : Prior) → IsBefore before judged.now.before.now → IsKeptOf prior judged.now.prior
+    requires same { MatchOption judged.now.prior ⊤ (λ prior. AreInSame (sets_of judged.now.leaving.now) prior.classes.now) }
+    ensures { IfOk result (λ reasons. (before : Net) (prior : Prior) → IsBefore before judged.now.before.now → IsKeptOf prior judged.now.prior judged.now.leaving.now
         → AreReasons judged.now.plan.now.net (outcome_of judged.now.plan.now) before judged.now.gone prior expectation.now reasons.items) }
 {
     match expectation {
@@ -44,6 +49,7 @@ pub fn reasons(
             names,
             others,
         } => apart_reasons(alloc, judged, vids, names, others),
+        Expectation::Leaves { vids, names } => leaves_reasons(alloc, judged, vids, names),
         Expectation::Together { vids, names } => together_reasons(alloc, judged, vids, names),
         Expectation::Leaf { tree, names } => leaf_reasons(alloc, judged, *tree, names),
         Expectation::Depth { tree, steps } => depth_reasons(alloc, judged, *tree, *steps),

@@ -1,5 +1,6 @@
 use Rattle.std.proofs.Common.{◌+◌, List, get_or, sym, subst}
 use Rattle.std.specs.List.{filter}
+use Rattle.std.specs.Option.{option_copied}
 use Rattle.std.proofs.lemmas.Result.{IfOk-weaker}
 use Rattle.mst_view.specs.declared.in_view.BridgeInView.{BridgeInView}
 use Rattle.mst_forest.specs.Settled.{outcome_of}
@@ -8,7 +9,7 @@ use Rattle.mst_judged.specs.Islands.{AreReachParts, HaveNumbers}
 use Rattle.mst_judged.specs.reasons.Seen.{names_in}
 use Rattle.mst_judged.specs.reasons.Named.{named}
 use Rattle.mst_judged.specs.reasons.Reasons.{AreBoth, Parts}
-use Rattle.mst_island_judges.specs.Seen.{seen_either}
+use Rattle.mst_island_judges.specs.Seen.{others_in, seen_either}
 use Rattle.mst_island_judges.proofs.EitherOn.{are_both}
 use Rattle.mst_judged.proofs.NamedIn.{have_numbers}
 use Rattle.mst_island_judges.proofs.apart.body_at.Goals as goal
@@ -17,7 +18,7 @@ pub parts_at-requires-clause-bridges : goal.parts_at-requires-clause-bridges
 parts_at-requires-clause-bridges c =
     let s = c.args.judged.now.plan.now in
     subst (HaveNumbers s.numbers) (sym {A = List BridgeInView} c.requires.bridges)
-    (have_numbers s.net s.numbers s.view c.known.ensures.of.view (seen_either c.args.judged.now.gone c.args.names.now c.args.others.now))
+    (have_numbers s.net s.numbers s.view c.known.ensures.of.view (seen_either c.args.judged.now.gone c.args.names.now (option_copied c.args.others)))
 
 pub returns : goal.returns
 returns c = IfOk-weaker c.of_both.result _ _
@@ -26,8 +27,8 @@ returns c = IfOk-weaker c.of_both.result _ _
     let o = outcome_of s in
     let gone = c.args.judged.now.gone in
     let names = c.args.names.now in
-    let others = c.args.others.now in
+    let others = option_copied c.args.others in
     let vid = get_or c.args.judged.now.before.now.classes.firsts.items c.args.class 0 + 1 in
     let all : Parts = names_of c.in_ok-parts.parts in
     let are : AreReachParts s.net o (names_in (filter (seen_either gone names others) s.view.bridges)) vid all = subst (λ bs. AreReachParts s.net o (names_in bs) vid all) c.requires.bridges c.in_ok-parts.ensures in
-    subst (AreBoth s.net o (named s.net gone names) (named s.net gone others) vid) (sym {A = Parts} told) (are_both s.net s.numbers s.view c.known.ensures.of.view gone names others o vid all are)) c.of_both.ensures
+    subst (AreBoth s.net o (named s.net gone names) (others_in s.net gone names others) vid) (sym {A = Parts} told) (are_both s.net s.numbers s.view c.known.ensures.of.view gone names others o vid all are)) c.of_both.ensures

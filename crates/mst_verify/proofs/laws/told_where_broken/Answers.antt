@@ -6,14 +6,14 @@ use Rattle.mst_net.specs.tables.Tables.{Net, IsNetwork}
 use Rattle.mst_roles.specs.forest.nested.Trees.{IsSettled}
 use Rattle.mst_roles.specs.forest.Outcome.{Outcome, IsOutcome, trees_of}
 use Rattle.mst_island_judges.specs.judged.reasons.note_text.NotesText.{AreNoteRows}
-use Rattle.mst_island_judges.specs.judged.reasons.Named.{Gone, Prior, is_named, named, ports_named}
+use Rattle.mst_island_judges.specs.judged.reasons.Named.{Gone, Prior, is_named, named, ports_named, unnamed}
 use Rattle.mst_island_judges.specs.judged.reasons.Holds.{Holds}
 use Rattle.mst_island_judges.specs.judged.reasons.Reasons.{AreReasons}
 use Rattle.mst_island_judges.specs.judged.reasons.declared.reason.Reason.{Reason}
 use Rattle.mst_tree_judges.proofs.Keys.{names_once}
 use Rattle.mst_tree_judges.proofs.RootsThere.{roots_there}
 use Rattle.mst_verify.proofs.BrokenLists.{carries_broken, avoids_broken, role_broken}
-use Rattle.mst_verify.proofs.BrokenParts.{region_broken, reach_broken, apart_broken}
+use Rattle.mst_verify.proofs.BrokenParts.{region_broken, reach_broken, apart_broken, leaves_broken}
 use Rattle.mst_verify.proofs.BrokenTrees.{leaf_broken, depth_broken}
 use Rattle.mst_tree_judges.proofs.BrokenRoots.{root_broken}
 use Rattle.mst_verify.proofs.ReasonsTogether.{together_broken}
@@ -28,7 +28,8 @@ module _ (net : Net) (o : Outcome) (before : Net) (gone : Gone) (prior : Prior) 
   broken (expect.Role tree ports roles) reasons r = role_broken net o tree (ports_named net before ports) roles reasons r
   broken (expect.Reach vids names) reasons r = reach_broken net o vids (named net gone names) (names_once net (is_named gone names)) reasons r
   broken (expect.Apart vids names others) reasons r = apart_broken net o vids (named net gone names) (named net gone others) reasons r
-  broken (expect.Together vids names) reasons r = together_broken net o vids gone names prior reasons r
+  broken (expect.Leaves vids names) reasons r = leaves_broken net o vids (named net gone names) (unnamed net names) reasons r
+  broken (expect.Together vids names) reasons r = together_broken net o vids gone names prior.leaving prior.before reasons r
   broken (expect.Leaf tree names) reasons r = leaf_broken net o ok is tree (named net gone names) reasons r
   broken (expect.Depth tree steps) reasons r = depth_broken net o tree steps reasons r
   broken (expect.Carries lan vids) reasons r = carries_broken net o lan vids reasons r

@@ -36,6 +36,12 @@ returns-in-Apart c = IfOk-weaker c.apart_reasons.result _ _
     let s = c.args.judged.now.plan.now in
     subst (λ (e : Expectation). AreReasons s.net (outcome_of s) before c.args.judged.now.gone prior e reasons.items) (sym c.in-Apart.is) told) c.apart_reasons.ensures
 
+pub returns-in-Leaves : goal.returns-in-Leaves
+returns-in-Leaves c = IfOk-weaker c.leaves_reasons.result _ _
+    (λ reasons told before prior kept had.
+    let s = c.args.judged.now.plan.now in
+    subst (λ (e : Expectation). AreReasons s.net (outcome_of s) before c.args.judged.now.gone prior e reasons.items) (sym c.in-Leaves.is) told) c.leaves_reasons.ensures
+
 pub returns-in-Together : goal.returns-in-Together
 returns-in-Together c = IfOk-weaker c.together_reasons.result _ _
     (λ reasons told before prior kept had.

@@ -1,8 +1,12 @@
-use Rattle.std.proofs.Common.{◌&&◌, ap, ◌∙◌}
+use Rattle.std.proofs.Common.{◌&&◌, ap, subst, ◌∙◌}
 use Rattle.std.specs.List.{list_any}
 use Rattle.mst_tables.specs.Tables.{port_eq}
+use Rattle.mst_reasons.specs.sweep.vlan.classes.Classes.{AreInSame}
 use Rattle.mst_judged.proofs.NamedIn.{enabled_named}
 use Rattle.mst_judged.proofs.before.Before.new.Goals as goal
+
+pub returns-clause-same : goal.returns-clause-same
+returns-clause-same c = subst (λ sets. AreInSame sets c.in_ok-classes.classes) (c.as_slice.ensures.value ∙ c.in_ok-left.ensures) c.in_ok-classes.ensures.same
 
 pub returns-clause-ports : goal.returns-clause-ports
 returns-clause-ports c port =

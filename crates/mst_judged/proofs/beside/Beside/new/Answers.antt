@@ -1,7 +1,7 @@
-use Rattle.std.proofs.Common.{◌≡◌, ◌<◌, length, sym, ap, subst}
+use Rattle.std.proofs.Common.{◌≡◌, ◌<◌, length, sym, ap, subst, ◌∙◌}
 use Rattle.std.specs.List.{All}
 use Rattle.mst_reasons.specs.sweep.vlan.Carried.{AreFlags}
-use Rattle.mst_reasons.specs.sweep.vlan.classes.Classes.{AreClasses}
+use Rattle.mst_reasons.specs.sweep.vlan.classes.Classes.{AreClasses, AreInSame}
 use Rattle.mst_judged.specs.Islands.{AreMade}
 use Rattle.mst_judged.proofs.ClassesOfBoth.{of_new, of_old}
 use Rattle.mst_judged.proofs.StillMade.{all_alike}
@@ -22,8 +22,11 @@ made_at-requires-clause-vids c = subst (All (λ place. place < 4094)) (sym c.as_
 pub made_at-requires-2-clause-vids : goal.made_at-requires-2-clause-vids
 made_at-requires-2-clause-vids c = subst (All (λ place. place < 4094)) (sym c.as_slice-places.ensures.value) c.in_ok-classes.ensures.vids
 
-pub returns : goal.returns
-returns c =
+pub returns-clause-same : goal.returns-clause-same
+returns-clause-same c = subst (λ sets. AreInSame sets c.in_ok-classes.classes) (c.as_slice.ensures.value ∙ c.in_ok-left.ensures) c.in_ok-classes.ensures.same
+
+pub returns-clause-beside : goal.returns-clause-beside
+returns-clause-beside c =
     let s = c.args.plan.now in
     let classes = c.in_ok-classes.classes in
     let old = c.args.old.now in
