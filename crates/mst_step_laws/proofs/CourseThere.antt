@@ -7,6 +7,7 @@ use Rattle.mst_lang.specs.Ranges.{InRange}
 use Rattle.mst_lang.specs.declared.line.Edit.{Edit}
 use Rattle.mst_net.specs.tables.After.{after}
 use Rattle.mst_net.specs.tables.Tables.{IsNetwork, Net}
+use Rattle.mst_policy.specs.Leaving.{leaving_of}
 use Rattle.mst_policy.specs.declared.policy.PolicyLine.{PolicyLine}
 use Rattle.mst_rows.specs.Rows.{Row}
 use Rattle.mst_forest.specs.Outcome.{IsOutcome, Outcome}
@@ -34,7 +35,7 @@ module _ (stay : (edit : Edit) (net new : Net) → InRange edit → IsNetwork ne
     some_told s before now =
         let o = settled s.before before in
         let p = settled s.now now in
-        let own = has_step s.before s.now o.0 p.0 (islands s.before o.0 before) (islands s.now p.0 now) grouping (deed.Step (numbers_of s.number s.lines)) in
+        let own = has_step s.before s.now o.0 p.0 (islands s.before o.0 before) (islands s.now p.0 now) grouping (leaving_of w.lines) (deed.Step (numbers_of s.number s.lines)) in
         let was = some_judged (s.number - 1) s.before before in
         let is = some_judged s.number s.now now in (
           record { number = s.number; refused = refused_lines s.number s.before s.lines; own = own.0; does = own.1; before = was.0; now = is.0 },

@@ -1,5 +1,6 @@
 -- What the steps of a change do is one thing.
 use Rattle.std.proofs.Common.{◌≡◌, ◌==◌, ℕ, ◌+◌, ◌-◌, Bool, true, false, if◌then◌else◌, List, [], ◌∷◌, ◌++◌, length, Option, Some, None, Result, Ok, Err, refl, sym, subst, ◌∙◌}
+use Rattle.std.specs.Prelude.{MatchOption, ⊤}
 use Rattle.std.specs.List.{AllByRecursion, AllZip, flat_map}
 use Rattle.mst_change.specs.Reading.{IsInRange, LineRead, SaysInRange}
 use Rattle.mst_change.specs.Steps.{all_lines}
@@ -10,6 +11,7 @@ use Rattle.mst_net.specs.tables.After.{after}
 use Rattle.mst_net.specs.tables.Tables.{IsNetwork, Net}
 use Rattle.mst_net.specs.tables.declared.refusal.Refusal.{Refusal}
 use Rattle.mst_forest.specs.Outcome.{IsOutcome, Outcome}
+use Rattle.mst_policy.specs.Leaving.{Leaving, leaving_of}
 use Rattle.mst_policy.specs.declared.policy.PolicyLine.{PolicyLine}
 use Rattle.mst_rows.specs.Rows.{Row}
 use Rattle.mst_verdict.specs.sweeping.StepText.{AreStepRows}
@@ -65,7 +67,7 @@ module _ (stay : (edit : Edit) (net new : Net) → InRange edit → IsNetwork ne
   steps_network net steps fit is = subst IsNetwork (sym (steps_lines net steps)) (lines_network net (all_lines steps) fit is)
 
   -- what is before a network of a change
-  pub if_before : (b : Bool) (prior : Net × Outcome) → IsNetwork prior.0 → IsOutcome prior.0 prior.1 → IsPriorNetwork (if b then None else Some prior)
+  pub if_before : (b : Bool) (prior : Net × Outcome) → IsNetwork prior.0 → IsOutcome prior.0 prior.1 → MatchOption (if b then None else Some prior) ⊤ (λ before. IsNetwork before.0 × IsOutcome before.0 before.1)
   if_before true prior is settled = tt
   if_before false prior is settled = (is, settled)
 
@@ -78,12 +80,12 @@ module _ (stay : (edit : Edit) (net new : Net) → InRange edit → IsNetwork ne
 
       -- ---- what is told of a step
       module _ (one : (a b : Net) (o p q r : Outcome) → IsNetwork a → IsNetwork b → IsOutcome a o → IsOutcome b p → IsOutcome a q → IsOutcome b r
-          → (step : Deed) (rows other : List Row) (told said : Stepped) → AreStepRows a o b p step rows told → AreStepRows a q b r step other said → (rows ≡ other) × (told ≡ said)) where
+          → (leaving : Leaving) (step : Deed) (rows other : List Row) (told said : Stepped) → AreStepRows leaving a o b p step rows told → AreStepRows leaving a q b r step other said → (rows ≡ other) × (told ≡ said)) where
         one_told : (s : StepMade) (t u : StepTold) → IsNetwork s.before → IsNetwork s.now → IsStepTold w s t → IsStepTold w s u → t ≡ u
         one_told s t u before now x y =
             let number : t.number ≡ u.number = x.number ∙ sym y.number in
             let refused : t.refused ≡ u.refused = x.refused ∙ sym y.refused in
-            let same = one s.before s.now x.before x.now y.before y.now before now x.is_before x.is_now y.is_before y.is_now (deed.Step (numbers_of s.number s.lines)) t.own u.own t.does u.does x.own y.own in
+            let same = one s.before s.now x.before x.now y.before y.now before now x.is_before x.is_now y.is_before y.is_now (leaving_of w.lines) (deed.Step (numbers_of s.number s.lines)) t.own u.own t.does u.does x.own y.own in
             let was : t.before ≡ u.before = one_judged (s.number - 1) s.before t.before u.before before x.judged_before y.judged_before in
             let is : t.now ≡ u.now = one_judged s.number s.now t.now u.now now x.judged_now y.judged_now in
             λ i. record { number = number i; refused = refused i; own = same.0 i; does = same.1 i; before = was i; now = is i }
@@ -101,7 +103,7 @@ module _ (stay : (edit : Edit) (net new : Net) → InRange edit → IsNetwork ne
 
     -- ---- and of all of them
     module _ (one : (a b : Net) (o p q r : Outcome) → IsNetwork a → IsNetwork b → IsOutcome a o → IsOutcome b p → IsOutcome a q → IsOutcome b r
-        → (step : Deed) (rows other : List Row) (told said : Stepped) → AreStepRows a o b p step rows told → AreStepRows a q b r step other said → (rows ≡ other) × (told ≡ said))
+        → (leaving : Leaving) (step : Deed) (rows other : List Row) (told said : Stepped) → AreStepRows leaving a o b p step rows told → AreStepRows leaving a q b r step other said → (rows ≡ other) × (told ≡ said))
         (settling : (net : Net) (o p : Outcome) → IsNetwork net → IsOutcome net o → IsOutcome net p → o ≡ p) where
       one_watched : (net : Net) (steps : List (List LineRead)) (lines : List PolicyLine) (unread : ℕ) (c d : Course) (rows other : List Row) → IsNetwork net → AllByRecursion IsInRange (all_lines steps)
           → AreWatched net steps lines unread c rows → AreWatched net steps lines unread d other → (c ≡ d) × (rows ≡ other)

@@ -13,7 +13,6 @@ use Rattle.mst_view.specs.Aggregation.{same_name}
 use Rattle.mst_rows.specs.Rows.{Row}
 use Rattle.mst_diff.specs.vlan.Reach.{AreIslandsOf, bridges_on, lans_up}
 use Rattle.mst_forest.specs.Outcome.{Outcome, IsOutcome}
-use Rattle.mst_view.specs.View.{bridge_names}
 use Rattle.mst_diff.specs.vlan.classes.AllVids.{all_vids}
 use Rattle.mst_diff.specs.DiffText.{AreDiffRowsOf, diff_row}
 use Rattle.mst_diff.specs.Ports.{port_rows}
@@ -27,7 +26,8 @@ use Rattle.mst_diff.proofs.SameSides.{names_decide}
 use Rattle.mst_diff.proofs.vlan_lemmas.classes_lemmas.VidPlaces.{is_vid_there}
 use Rattle.mst_forest.proofs.Lists.{kept_from, some_is}
 use Rattle.mst_verdict.specs.sweep.Cuts.{runs_of}
-use Rattle.mst_verdict.specs.sweep.Parts.{AreParts, all_parts, home, staying, stays_at}
+use Rattle.mst_verdict.specs.sweep.Parts.{ArePartsOf, all_parts, home, staying, stays_at}
+use Rattle.mst_verdict.specs.sweeping.MovedVids.{ArePartsBut, remaining}
 use Rattle.mst_verdict.proofs.sweep_lemmas.CutApart.{both_true, not_true, stays_is, two_apart}
 use Rattle.mst_verdict.proofs.sweep_lemmas.Joined.{home_on, joined_home}
 use Rattle.mst_verdict.proofs.sweep_lemmas.Positions.{both_pass}
@@ -87,11 +87,11 @@ module _ (a b : Net) (o p : Outcome) (vid : ℕ) (olds news : List Named) (after
       let node = Contains-append_left (map bridge_at (bridges_on b)) (map lan_at (lans_up b)) (bridge_at y) (in_map bridge_at (bridges_on b) y also) in
       joined_home b p vid news afterwards x y on also ((afterwards.related (members i) (bridge_at x) (bridge_at y) (in_map members news i h) (a_member x i first) node).0 (a_member y i second))
 
-  lost_where_cut : has_any (all_parts (staying olds news (bridge_names a))) ≡ true → has_any (without (island_bridges olds) (island_bridges news)) ≡ true
-  lost_where_cut e =
-      let r = two_apart (staying olds news (bridge_names a)) e in
-      let x = kept_from (stays_at olds news) (bridge_names a) r.0 r.2 in
-      let y = kept_from (stays_at olds news) (bridge_names a) r.1 r.3 in
+  lost_where_cut : (bridges : List (List ℕ)) → has_any (all_parts (staying olds news bridges)) ≡ true → has_any (without (island_bridges olds) (island_bridges news)) ≡ true
+  lost_where_cut bridges e =
+      let r = two_apart (staying olds news bridges) e in
+      let x = kept_from (stays_at olds news) bridges r.0 r.2 in
+      let y = kept_from (stays_at olds news) bridges r.1 r.3 in
       let at_x = stays_is olds news x.0 r.0 x.2 in
       let at_y = stays_is olds news y.0 r.1 y.2 in
       let places = both_true (r.1.before == r.0.before) (not (r.1.after == r.0.after)) r.4 in
@@ -111,17 +111,17 @@ module _ (a b : Net) (o p : Outcome) (vid : ℕ) (olds news : List Named) (after
 
 -- so it is on its side
 module _ (a b : Net) (o p : Outcome) (one : OneList) (vid : ℕ) (sides : Sides) (s : AreSides a o b p vid sides) where
-  old_where_cut : (parts : List (List (List ℕ))) → AreParts a o b p vid parts → has_any parts ≡ true → has_any sides.old ≡ true
-  old_where_cut parts t some =
+  old_where_cut : (bridges : List (List ℕ)) (parts : List (List (List ℕ))) → ArePartsOf bridges a o b p vid parts → has_any parts ≡ true → has_any sides.old ≡ true
+  old_where_cut bridges parts t some =
       let olds = one a o vid s.0 t.0 s.2 t.2 in
       let news = one b p vid s.1 t.1 s.3 t.3 in
-      ap (λ (s : Sides). has_any s.old) s.4 ∙ (λ i. has_any (without (island_bridges (olds i)) (island_bridges (news i)))) ∙ lost_where_cut a b o p vid t.0 t.1 t.3 (sym (ap has_any t.4) ∙ some)
+      ap (λ (s : Sides). has_any s.old) s.4 ∙ (λ i. has_any (without (island_bridges (olds i)) (island_bridges (news i)))) ∙ lost_where_cut a b o p vid t.0 t.1 t.3 bridges (sym (ap has_any t.4) ∙ some)
 
-  new_where_joined : (parts : List (List (List ℕ))) → AreParts b p a o vid parts → has_any parts ≡ true → has_any sides.new ≡ true
-  new_where_joined parts t some =
+  new_where_joined : (bridges : List (List ℕ)) (parts : List (List (List ℕ))) → ArePartsOf bridges b p a o vid parts → has_any parts ≡ true → has_any sides.new ≡ true
+  new_where_joined bridges parts t some =
       let olds = one a o vid s.0 t.1 s.2 t.3 in
       let news = one b p vid s.1 t.0 s.3 t.2 in
-      ap (λ (s : Sides). has_any s.new) s.4 ∙ (λ i. has_any (without (island_bridges (news i)) (island_bridges (olds i)))) ∙ lost_where_cut b a p o vid t.0 t.1 t.3 (sym (ap has_any t.4) ∙ some)
+      ap (λ (s : Sides). has_any s.new) s.4 ∙ (λ i. has_any (without (island_bridges (news i)) (island_bridges (olds i)))) ∙ lost_where_cut b a p o vid t.0 t.1 t.3 bridges (sym (ap has_any t.4) ∙ some)
 
 -- ---- the row of a VID whose sides differ
 told_if : (group : List ℕ) (s : Sides) → differ s ≡ true → Contains (reach_unless group s) (reach_row (runs_of group) s)
@@ -169,8 +169,8 @@ module _ (single : (net : Net) (o p : Outcome) → IsNetwork net → IsOutcome n
   old_lost vid h =
       let own = cut_there vid h in
       let parts = t.step.are_cut.are_parts vid (is_vid_there vid own.0) in
-      old_where_cut a b t.q t.r one vid (diff_sides vid) (sides_of_vid vid own.0) (t.step.are_cut.parts vid)
-      (subst (λ q. AreParts a q b t.r vid (t.step.are_cut.parts vid)) olds (subst (λ r. AreParts a t.o b r vid (t.step.are_cut.parts vid)) news parts)) own.1
+      old_where_cut a b t.q t.r one vid (diff_sides vid) (sides_of_vid vid own.0) (remaining t.leaving vid a) (t.step.are_cut.parts vid)
+      (subst (λ q. ArePartsBut t.leaving a q b t.r vid (t.step.are_cut.parts vid)) olds (subst (λ r. ArePartsBut t.leaving a t.o b r vid (t.step.are_cut.parts vid)) news parts)) own.1
 
   joined_there : (vid : ℕ) → Contains t.step.joined vid → Contains all_vids vid × (t.step.are_joined.flags vid ≡ true)
   joined_there vid h = from_filter t.step.are_joined.flags all_vids vid (subst (λ vids. Contains vids vid) t.step.are_joined.are h)
@@ -179,8 +179,8 @@ module _ (single : (net : Net) (o p : Outcome) → IsNetwork net → IsOutcome n
   new_made vid h =
       let own = joined_there vid h in
       let j = t.step.are_joined.each vid (is_vid_there vid own.0) in
-      new_where_joined a b t.q t.r one vid (diff_sides vid) (sides_of_vid vid own.0) j.0
-      (subst (λ q. AreParts b t.r a q vid j.0) olds (subst (λ r. AreParts b r a t.o vid j.0) news j.1)) (sym j.2 ∙ own.1)
+      new_where_joined a b t.q t.r one vid (diff_sides vid) (sides_of_vid vid own.0) (remaining t.leaving vid b) j.0
+      (subst (λ q. ArePartsBut t.leaving b t.r a q vid j.0) olds (subst (λ r. ArePartsBut t.leaving b r a t.o vid j.0) news j.1)) (sym j.2 ∙ own.1)
 
   pub cut_in_reach : (vid : ℕ) → Contains t.step.cut vid → (row : IsInDiff a b t vid) × (has_any row.sides.old ≡ true)
   cut_in_reach vid h =

@@ -7,6 +7,7 @@ use Rattle.mst_forest.specs.Outcome.{Outcome, IsOutcome}
 use Rattle.mst_diff.specs.DiffText.{AreDiffRowsOf}
 use Rattle.mst_diff.specs.Reach.{AreSides, Sides, reach_row}
 use Rattle.mst_diff.specs.declared.diff.Differing.{Differing}
+use Rattle.mst_policy.specs.Leaving.{Leaving}
 use Rattle.mst_verdict.specs.sweep.Cuts.{runs_of}
 use Rattle.mst_verdict.specs.sweeping.StepText.{AreStepRows}
 use Rattle.mst_verdict.specs.sweeping.declared.step.Deed.{Deed}
@@ -24,10 +25,11 @@ pub record StepAndDiff (a b : Net) : Type 0 where
   pub o : Outcome
   pub p : Outcome
   pub stepped : AreSettled a o b p
+  pub leaving : Leaving
   pub deed : Deed
   pub rows : List Row
   pub told : Stepped
-  pub step : AreStepRows a o b p deed rows told
+  pub step : AreStepRows leaving a o b p deed rows told
   pub q : Outcome
   pub r : Outcome
   pub diffed : AreSettled a q b r

@@ -1,18 +1,19 @@
 //! Laws of the steps of a change. Their functions do nothing: a caller has their clauses.
-ghost use Rattle.std.specs.Prelude.{◌≡◌, ◌+◌, ◌++◌, ℕ, Bool, true, List, None, Option, Some};
+ghost use Rattle.std.specs.Prelude.{◌≡◌, ◌+◌, ◌++◌, ℕ, Bool, true, List, None, Option};
 ghost use Rattle.std.specs.List.{AllByRecursion, Contains, flat_map, sum_by};
 ghost use Rattle.mst_change.specs.Reading.{IsInRange, LineRead};
 ghost use Rattle.mst_change.specs.Steps.{all_lines, change_of, lines_from};
 ghost use Rattle.mst_graph.specs.Lists.{has_any};
 ghost use Rattle.mst_lang.specs.declared.line.Version.TheVariants.{V1};
 ghost use Rattle.mst_net.specs.tables.Tables.{Net, IsNetwork};
+ghost use Rattle.mst_policy.specs.Leaving.{Leaving as LeavingOf};
 ghost use Rattle.mst_policy.specs.declared.policy.PolicyLine.{PolicyLine as LineOf};
 ghost use Rattle.mst_verdict.specs.Setting.{after_lines, after_steps};
 ghost use Rattle.mst_verdict.specs.Stepping.{AreWatched, Steps};
 ghost use Rattle.mst_forest.specs.Outcome.{IsOutcome, Outcome};
-ghost use Rattle.mst_step_laws.specs.Together.{AreAllVids, as_cut, together_all};
+ghost use Rattle.mst_step_laws.specs.Together.{AreAllVids, as_cut, prior_but, together_all};
 ghost use Rattle.mst_verdict.specs.sweep.Cuts.{AreCutsBy};
-ghost use Rattle.mst_verdict.specs.sweep.Parts.{AreParts};
+ghost use Rattle.mst_verdict.specs.sweeping.MovedVids.{ArePartsBut};
 ghost use Rattle.mst_verdict.specs.sweep.declared.cuts.CutBy.TheVariants.{Step};
 ghost use Rattle.mst_verdict.specs.reasons.Reasons.{AreReasons};
 ghost use Rattle.mst_verdict.specs.reasons.declared.reason.Reason.{Reason as ReasonOf};
@@ -75,10 +76,10 @@ pub fn unkept_to_unkept()
 }
 
 /// Behind the first step of a change a promise that all bridges stay together, in all VIDs, is broken for the reasons that the step's `cut`
-/// lines tell: for the same VIDs, and the same parts.
+/// lines tell: for the same VIDs, and the same parts. What is meant to leave is left out of both.
 pub fn together_is_uncut()
-    ensures { (a b : Net) (o p : Outcome) (step : ℕ) (vids : List Bool) (cut : List ℕ) (rows : List Row) (reasons : List ReasonOf) → IsNetwork b → IsOutcome b p → AreAllVids vids
-        → AreCutsBy (AreParts a o b p) (Step step) cut rows → AreReasons b p b None (Some (a, o)) (together_all vids) reasons → flat_map (as_cut step) reasons ≡ rows }
+    ensures { (leaving : LeavingOf) (a b : Net) (o p : Outcome) (step : ℕ) (vids : List Bool) (cut : List ℕ) (rows : List Row) (reasons : List ReasonOf) → IsNetwork b → IsOutcome b p → AreAllVids vids
+        → AreCutsBy (ArePartsBut leaving a o b p) (Step step) cut rows → AreReasons b p b None (prior_but leaving a o) (together_all vids) reasons → flat_map (as_cut step) reasons ≡ rows }
 {
     reason_lists();
 }

@@ -16,7 +16,7 @@ use Rattle.mst_reasons.specs.sweep.Failures.{failures}
 use Rattle.mst_reasons.specs.sweep.declared.failure.Failure.{Failure}
 use Rattle.mst_reasons.specs.Judged.{asks_at, places}
 use Rattle.mst_reasons.specs.Missing.{missing}
-use Rattle.mst_reasons.specs.Named.{Prior}
+use Rattle.mst_reasons.specs.Named.{Prior, nothing_before}
 use Rattle.mst_reasons.specs.Placed.{AreReasonsAt}
 use Rattle.mst_reasons.specs.declared.missing.Missing.{Missing}
 use Rattle.mst_reasons.specs.declared.reason.Reason.{Reason}
@@ -123,7 +123,7 @@ module _ (net : Net) (o : Outcome) (prior : Prior) (line : PolicyLine) where
 
   no_reasons : judged net line ≡ None → (place : Option Failure) → AreLineReasons net o prior line place nothing
   no_reasons e place =
-      let none : expected_at net (is_some prior) line place ≡ None = ap (option_and_then (λ promise. cond (looks_at (is_some prior) promise place) (Some promise.expectation) None)) e in
+      let none : expected_at net (is_some prior.before) line place ≡ None = ap (option_and_then (λ promise. cond (looks_at (is_some prior.before) promise place) (Some promise.expectation) None)) e in
       let same : nothing ≡ nothing = refl in
       subst (λ (expected : Option Expectation). MatchOption expected (nothing ≡ nothing) (λ expectation. AreReasonsAt net o prior place expectation nothing)) (sym none) same
 
@@ -144,17 +144,17 @@ module _ (net : Net) (o : Outcome) (prior : Prior) (line : PolicyLine) where
 
 module _ (net : Net) (o : Outcome) (judgement : Judgement) where
   abbrev IsThere : ℕ → PolicyLine → Result Promise Fault → Type 0
-  IsThere n line read = MatchBool (is_due true read) (IsKeptOf net o None n line judgement) (NoneIsKeptOf n judgement)
+  IsThere n line read = MatchBool (is_due true read) (IsKeptOf net o nothing_before n line judgement) (NoneIsKeptOf n judgement)
 
   line_verdict : (n : ℕ) (line : PolicyLine) (read : Result Promise Fault) → line.read ≡ read → IsThere n line read → IsVerdict net o line (rows_of_read line.number line.read (line_found n judgement.found.items))
   line_verdict n line (Ok promise) e k = record { found = line_found n judgement.found.items; are_found = k.found; are = refl }
   line_verdict n line (Err fault) e k = record {
     found = [];
-    are_found = unjudged net o None line (ap (judged_of net) e) (places net);
+    are_found = unjudged net o nothing_before line (ap (judged_of net) e) (places net);
     are = ap (λ read. rows_of_read line.number read (line_found n judgement.found.items)) e ∙ ap (λ read. rows_of_read line.number read []) (sym e);
   }
 
-  pub verdicts_there : (lines : List PolicyLine) → AreLinesJudged net o None true lines judgement → AllZip (IsVerdict net o) lines (verdicts_by lines judgement)
+  pub verdicts_there : (lines : List PolicyLine) → AreLinesJudged net o nothing_before true lines judgement → AllZip (IsVerdict net o) lines (verdicts_by lines judgement)
   verdicts_there lines are =
       zip_each (IsVerdict net o) (λ n line. rows_of_read line.number line.read (line_found n judgement.found.items)) lines (λ n line below is. line_verdict n line line.read refl (are n line (record { below = below; is = is })))
 
@@ -167,7 +167,7 @@ module _ (net : Net) (o : Outcome) (judgement : Judgement) where
   line_refused n (Err fault) what e = refl
   line_refused n (Ok promise) what e = ap (missing_rows n) e
 
-  pub refused_there : (lines : List PolicyLine) → AreLinesJudged net o None true lines judgement → refused_by lines judgement ≡ flat_map (refused_rows net) lines
+  pub refused_there : (lines : List PolicyLine) → AreLinesJudged net o nothing_before true lines judgement → refused_by lines judgement ≡ flat_map (refused_rows net) lines
   refused_there lines are =
       ap joined (each_same (λ n line. refused_at line.number line.read (line_lacks n judgement)) (refused_rows net) lines
       (λ n line below is. line_refused line.number line.read (line_lacks n judgement) (line_lacked n line line.read refl (are n line (record { below = below; is = is }))))) ∙ joined_mapped (refused_rows net) lines
@@ -182,7 +182,7 @@ module _ (net : Net) (o : Outcome) (judgement : Judgement) where
       go None = refl
       go (Some w) = refl
 
-  pub counts_there : (lines : List PolicyLine) (all : List Failure) → all ≡ failures net → AreLinesJudged net o None true lines judgement → network_counts lines all judgement ≡ map (network_count net) lines
+  pub counts_there : (lines : List PolicyLine) (all : List Failure) → all ≡ failures net → AreLinesJudged net o nothing_before true lines judgement → network_counts lines all judgement ≡ map (network_count net) lines
   counts_there lines all e are =
       ap (λ all. network_counts lines all judgement) e
       ∙ each_same (λ n line. count_by_read line.read (is_none (line_lacks n judgement)) (failures net)) (network_count net) lines

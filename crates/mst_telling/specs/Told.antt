@@ -92,7 +92,7 @@ expected_at net has_prior line place = option_and_then (λ promise. if looks_at 
 -- why it doesn't hold there: for no reason, where the place isn't looked at
 abbrev pub AreLineReasons : Net → Outcome → Prior → PolicyLine → Option Failure → List Reason → Type 0
 AreLineReasons net o prior line place reasons =
-    MatchOption (expected_at net (is_some prior) line place) (reasons ≡ []) (λ expectation. AreReasonsAt net o prior place expectation reasons)
+    MatchOption (expected_at net (is_some prior.before) line place) (reasons ≡ []) (λ expectation. AreReasonsAt net o prior place expectation reasons)
 
 -- a place, and why a line isn't kept there
 pub record Found : Type 0 where

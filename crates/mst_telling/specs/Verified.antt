@@ -15,6 +15,7 @@ use Rattle.mst_policy.specs.declared.expectation.Scope.{Scope}
 use Rattle.mst_policy.specs.declared.expectation.Scope.TheVariants as scope
 use Rattle.mst_policy.specs.declared.policy.PolicyLine.{PolicyLine}
 use Rattle.mst_reasons.specs.Judged.{IsKept, asks_at, has_now, places}
+use Rattle.mst_reasons.specs.Named.{nothing_before}
 use Rattle.mst_telling.specs.Once.{once_rows, rows_now}
 use Rattle.mst_telling.specs.Rows.{nothing_row, verified_row}
 use Rattle.mst_telling.specs.Told.{AreFound, Found, found_rows, has_reason, is_now, judged, lacking_rows, tells_once, unread_rows}
@@ -35,12 +36,12 @@ rows_of_read n (Ok promise) found = verdict_rows n promise found
 -- these rows tell why a line isn't kept
 pub record IsVerdict (net : Net) (o : Outcome) (line : PolicyLine) (rows : List Row) : Type 0 where
   pub found : List Found
-  pub are_found : AreFound net o None line found
+  pub are_found : AreFound net o nothing_before line found
   pub are : rows ≡ rows_of_read line.number line.read found
 
 -- a line that is judged has no rows just where its promise is kept. One that isn't has none
 abbrev pub IsToldWhereBroken : Net → Outcome → PolicyLine → List Row → Type 0
-IsToldWhereBroken net o line rows = MatchOption (judged net line) (rows ≡ []) (λ promise. (rows ≡ []) ↔ IsKept net o None promise)
+IsToldWhereBroken net o line rows = MatchOption (judged net line) (rows ≡ []) (λ promise. (rows ≡ []) ↔ IsKept net o nothing_before promise)
 
 -- ---- the promises
 -- in how many networks a line is judged: in none, where it is refused

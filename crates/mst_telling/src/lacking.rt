@@ -151,6 +151,7 @@ fn are_bridges(bridges: &[BridgeInView], expectation: &Expectation) -> bool
         Expectation::Apart { names, others, .. } => {
             have_both(bridges, names.as_slice(), others.as_slice())
         }
+        Expectation::Leaves { names, .. } => have_bridges(bridges, names.as_slice()),
         Expectation::Together { names, .. } => have_bridges(bridges, names.as_slice()),
         Expectation::Leaf { names, .. } => have_bridges(bridges, names.as_slice()),
         _ => true,

@@ -69,6 +69,7 @@ fn line_of(reason: &Reason) -> VerifyLine
         Reason::Role { .. } => VerifyLine::Role,
         Reason::Reach { .. } => VerifyLine::Reach,
         Reason::Apart { .. } => VerifyLine::Apart,
+        Reason::Leaves { .. } => VerifyLine::Leaves,
         Reason::Together { .. } => VerifyLine::Together,
         Reason::Leaf { .. } => VerifyLine::Leaf,
         Reason::Depth { .. } => VerifyLine::Depth,
@@ -105,6 +106,7 @@ fn push_values<'a>(reason: &'a Reason, values: &mut Vec<Value<'a>>) -> Result<()
         ]),
         Reason::Reach { vids, parts } => push_parts(vids, parts, values),
         Reason::Apart { vids, parts } => push_parts(vids, parts, values),
+        Reason::Leaves { vids, parts } => push_parts(vids, parts, values),
         Reason::Together { vids, parts } => push_parts(vids, parts, values),
         Reason::Leaf {
             tree,

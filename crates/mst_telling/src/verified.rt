@@ -1,4 +1,5 @@
 ghost use Rattle.std.specs.Prelude.{◌≡◌, ◌+◌, ◌≤◌, ◌++◌, List, None, true, IfOk, OnOk, count_by, length, map};
+ghost use Rattle.mst_reasons.specs.Named.{nothing_before};
 ghost use Rattle.mst_rows.specs.Rows.{Row, said};
 ghost use Rattle.mst_graph.specs.Lists.{has_any};
 ghost use Rattle.mst_tables.specs.Tables.{Net};
@@ -169,7 +170,7 @@ pub fn put_verdict<R: Rows>(
     judgement: &Judgement,
     out: &mut R,
 ) -> Result<Verdict, AllocError>
-    ensures told { IfOk result (λ verdict. (net : Net) (o : Outcome) → failures.now ≡ failures_of net → AreLinesJudged net o None true lines.now judgement.now
+    ensures told { IfOk result (λ verdict. (net : Net) (o : Outcome) → failures.now ≡ failures_of net → AreLinesJudged net o nothing_before true lines.now judgement.now
         → (rows : List Row) × IsVerified net o lines.now (counts_of verdict) rows × Puts R.grew out.old out.new rows) }
     ensures few { IfOk result (λ verdict. verdict.refused ≤ length lines.now + 1) }
 {

@@ -110,14 +110,14 @@ module _ (s : Sitting) where
   judged_there line e place f x = record {
     at = x.at;
     are = subst
-        (λ b. MatchOption (cond b (expected_at s.net (is_some s.prior) line place) None) (f.reasons ≡ []) (λ expectation. AreReasonsAt s.net s.outcome s.prior place expectation f.reasons)) e
+        (λ b. MatchOption (cond b (expected_at s.net (is_some s.prior.before) line place) None) (f.reasons ≡ []) (λ expectation. AreReasonsAt s.net s.outcome s.prior place expectation f.reasons)) e
         x.are;
   }
 
   -- and nothing of one that isn't
   not_there : (line : PolicyLine) → is_judged_at s.is_last line ≡ false → (place : Option Failure) (f : Found) → IsFoundOf s line place f → f.reasons ≡ []
   not_there line e place f x =
-      subst (λ b. MatchOption (cond b (expected_at s.net (is_some s.prior) line place) None) (f.reasons ≡ []) (λ expectation. AreReasonsAt s.net s.outcome s.prior place expectation f.reasons)) e
+      subst (λ b. MatchOption (cond b (expected_at s.net (is_some s.prior.before) line place) None) (f.reasons ≡ []) (λ expectation. AreReasonsAt s.net s.outcome s.prior place expectation f.reasons)) e
       x.are
 
   none_found : (line : PolicyLine) → is_judged_at s.is_last line ≡ false → (some : List (Option Failure)) (all : List Found) → AllZip (IsFoundOf s line) some all → filter has_reason all ≡ []

@@ -24,6 +24,7 @@ use Rattle.mst_view.specs.Viewed.{Viewed, IsView, named_bridge, named_port}
 use Rattle.mst_view.specs.declared.in_view.BridgeInView.{BridgeInView}
 use Rattle.mst_view.specs.declared.in_view.PortInView.{PortInView}
 use Rattle.mst_policy.specs.Items.{item_has}
+use Rattle.mst_policy.specs.Leaving.{Leaving}
 use Rattle.mst_policy.specs.declared.expectation.Expectation.{Expectation}
 use Rattle.mst_policy.specs.declared.expectation.Expectation.TheVariants as expect
 use Rattle.mst_policy.specs.declared.expectation.Promise.{Promise}
@@ -43,16 +44,16 @@ use Rattle.mst_sweeping.proofs.sweep_lemmas.Failed.{are_left}
 use Rattle.mst_sweeping.proofs.sweep_lemmas.SweptParts.{zip_joined}
 use Rattle.mst_verify.specs.tree_judges.judged.reasons.Missing.{has_one, lans_of, missing, scope_lans}
 use Rattle.mst_verify.specs.tree_judges.judged.reasons.Over.{HasItsLan, is_lan}
-use Rattle.mst_verify.specs.tree_judges.judged.Islands.{IsKeptOf, IsOneOf}
+use Rattle.mst_verify.specs.tree_judges.judged.Islands.{IsKeptBefore, IsKeptOf, IsOneOf}
 use Rattle.mst_verify.specs.tree_judges.judged.reasons.Judged.{gone_of}
-use Rattle.mst_verify.specs.tree_judges.judged.reasons.Named.{Prior}
+use Rattle.mst_verify.specs.tree_judges.judged.reasons.Named.{Prior, with_before}
 use Rattle.mst_verify.specs.tree_judges.judged.reasons.Placed.{AreReasonsAfter}
 use Rattle.mst_verify.specs.tree_judges.judged.reasons.declared.missing.Missing.{Missing}
 use Rattle.mst_verify.specs.tree_judges.judged.declared.prior.Prior.{Prior as KeptPrior}
 use Rattle.mst_verify.specs.tree_judges.judged.reasons.declared.reason.Reason.{Reason}
 use Rattle.mst_verify.proofs.JudgedSomewhere.{whole}
 use Rattle.mst_telling.specs.Told.{expected_at, is_due, is_judged_at, judged_of, lacked, looks_at, where_whole}
-use Rattle.mst_verdict.specs.Verifying.{AreLacking, AreReasonsEach, AreReasonsIf, AreReasonsOf, HaveLans, IsCarriage, IsPrior, IsPriorOf, Sitting, asked_by, expected_by, expected_in, expected_of, lacks_in, plan_outcome, sitting_of}
+use Rattle.mst_verdict.specs.Verifying.{AreLacking, AreReasonsEach, AreReasonsIf, AreReasonsOf, HaveLans, IsBeforeOf, IsCarriage, IsPrior, IsPriorOf, Sitting, asked_by, expected_by, expected_in, expected_of, lacks_in, plan_outcome, sitting_of}
 use Rattle.mst_verdict.specs.declared.judging.Judging.{Judging}
 use Rattle.mst_sweeping.specs.sweep.vlan.Carried.{ViewWithTrees}
 use Rattle.mst_sweeping.specs.plan.Plan.{IsPlan}
@@ -129,6 +130,7 @@ has_lan net (expect.Region bridges) h = tt
 has_lan net (expect.Role tree ports roles) h = tt
 has_lan net (expect.Reach vids bridges) h = tt
 has_lan net (expect.Apart vids bridges others) h = tt
+has_lan net (expect.Leaves vids bridges) h = tt
 has_lan net (expect.Together vids bridges) h = tt
 has_lan net (expect.Leaf tree bridges) h = tt
 has_lan net (expect.Depth tree steps) h = tt
@@ -178,6 +180,7 @@ its_lan_kept failure net (expect.Region bridges) h = tt
 its_lan_kept failure net (expect.Role tree ports roles) h = tt
 its_lan_kept failure net (expect.Reach vids bridges) h = tt
 its_lan_kept failure net (expect.Apart vids bridges others) h = tt
+its_lan_kept failure net (expect.Leaves vids bridges) h = tt
 its_lan_kept failure net (expect.Together vids bridges) h = tt
 its_lan_kept failure net (expect.Leaf tree bridges) h = tt
 its_lan_kept failure net (expect.Depth tree steps) h = tt
@@ -244,26 +247,27 @@ pub failed_plan : (failure : Failure) (edit : Edit) (c : Contents) → edit ≡ 
 failed_plan failure edit c is v forest s e = e ∙ ap (λ t. settled_net t v forest) (failed_ahead failure edit c is)
 
 -- ---- the network before
-prior_there : (kept : Option (Bor ViewWithTrees)) (prior : Prior) → IsPrior (option_map (λ c. c.now) kept) prior → is_some kept ≡ is_some prior
+prior_there : (kept : Option (Bor ViewWithTrees)) (before : Option (Net × Outcome)) → IsBeforeOf (option_map (λ c. c.now) kept) before → is_some kept ≡ is_some before
 prior_there None None h = refl
 prior_there None (Some p) h = absurd h
 prior_there (Some c) None h = absurd h
 prior_there (Some c) (Some p) h = refl
 
 -- it is the one of which something is kept
-none_kept : (prior : Prior) → IsPrior None prior → IsKeptOf prior None
+none_kept : (before : Option (Net × Outcome)) → IsBeforeOf None before → IsKeptBefore before None
 none_kept None h = tt
 none_kept (Some p) h = absurd h
 
-pub not_kept : (kept : Option (Bor ViewWithTrees)) (prior : Prior) → kept ≡ None → IsPrior (option_map (λ c. c.now) kept) prior → IsKeptOf prior None
-not_kept kept prior e h = none_kept prior (subst (λ (k : Option (Bor ViewWithTrees)). IsPrior (option_map (λ c. c.now) k) prior) e h)
+pub not_kept : (kept : Option (Bor ViewWithTrees)) (leaving : Leaving) (prior : Prior) → kept ≡ None → IsPrior (option_map (λ c. c.now) kept) leaving prior → IsKeptOf prior None leaving
+not_kept kept leaving prior e h = (none_kept prior.before (subst (λ (k : Option (Bor ViewWithTrees)). IsBeforeOf (option_map (λ c. c.now) k) prior.before) e h.0), h.1)
 
-some_kept_of : (c : ViewWithTrees) (own : KeptPrior) (prior : Prior) → own.old.now ≡ c → IsPrior (Some c) prior → IsKeptOf prior (Some own)
+some_kept_of : (c : ViewWithTrees) (own : KeptPrior) (before : Option (Net × Outcome)) → own.old.now ≡ c → IsBeforeOf (Some c) before → IsKeptBefore before (Some own)
 some_kept_of c own None e h = absurd h
 some_kept_of c own (Some p) e h = subst (IsOneOf p.0 p.1) (sym e) h
 
-pub kept_of : (kept : Option (Bor ViewWithTrees)) (c : Bor ViewWithTrees) (own : KeptPrior) (prior : Prior) → kept ≡ Some c → own.old.now ≡ c.now → IsPrior (option_map (λ c. c.now) kept) prior → IsKeptOf prior (Some own)
-kept_of kept c own prior is e h = some_kept_of c.now own prior e (subst (λ (k : Option (Bor ViewWithTrees)). IsPrior (option_map (λ c. c.now) k) prior) is h)
+pub kept_of : (kept : Option (Bor ViewWithTrees)) (c : Bor ViewWithTrees) (own : KeptPrior) (leaving : Leaving) (prior : Prior) → kept ≡ Some c → own.old.now ≡ c.now
+    → IsPrior (option_map (λ c. c.now) kept) leaving prior → IsKeptOf prior (Some own) leaving
+kept_of kept c own leaving prior is e h = (some_kept_of c.now own prior.before e (subst (λ (k : Option (Bor ViewWithTrees)). IsBeforeOf (option_map (λ c. c.now) k) prior.before) is h.0), h.1)
 
 -- a network is one of what carries its VIDs
 pub prior_of : (net : Net) (numbers : Numbers) (p : Plan) (c : ViewWithTrees) → IsPlan net numbers p → IsCarriage p c → IsPriorOf c (net, plan_outcome net numbers p)
@@ -280,12 +284,12 @@ pub plan_settled : (net : Net) (numbers : Numbers) (p : Plan) → IsPlan net num
 plan_settled net numbers p plan = (is_settled_net net numbers p.view p.forest plan.of plan.forest).is_outcome
 
 -- ---- reasons
-module _ (j : Judging) (net : Net) (numbers : Numbers) (prior : Prior) (is : IsPrior (option_map (λ c. c.now) j.prior) prior) where
+module _ (j : Judging) (net : Net) (numbers : Numbers) (prior : Prior) (is : IsPrior (option_map (λ c. c.now) j.prior) j.leaving.now prior) where
   abbrev s : Sitting
   s = sitting_of net numbers j prior
 
   same_expected : (line : PolicyLine) (place : Option Failure) → expected_in j net line place ≡ expected_of s line place
-  same_expected line place = ap (λ b. cond (is_judged_at j.is_last line) (expected_at net b line place) None) (prior_there j.prior prior is)
+  same_expected line place = ap (λ b. cond (is_judged_at j.is_last line) (expected_at net b line place) None) (prior_there j.prior prior.before is.0)
 
   pub none_of : (place : Option Failure) (lines : List PolicyLine) → AllByRecursion (λ line. expected_in j net line place ≡ None) lines → AllByRecursion (λ line. expected_of s line place ≡ None) lines
   none_of place [] h = tt
@@ -301,15 +305,15 @@ module _ (j : Judging) (net : Net) (numbers : Numbers) (prior : Prior) (is : IsP
   -- and those in the network that a failure makes are those of the line in its place
   module _ (there : Net) (p : Outcome) (failure : Failure) (e : after (edit_of failure) net ≡ Ok there) (settled : IsOutcome there p) where
     abbrev Then : PolicyLine → List Reason → Type 0
-    Then line those = AreReasonsIf there p net (gone_of failure) (Some (net, s.outcome)) (expected_in j net line (Some failure)) those
+    Then line those = AreReasonsIf there p net (gone_of failure) (with_before net s.outcome prior) (expected_in j net line (Some failure)) those
 
     line_after : (line : PolicyLine) (those : List Reason) → Then line those → AreReasonsOf s line (Some failure) those
     line_after line those h =
         by (expected_of s line (Some failure))
-        (subst (λ (expected : Option Expectation). AreReasonsIf there p net (gone_of failure) (Some (net, s.outcome)) expected those) (same_expected line (Some failure)) h)
+        (subst (λ (expected : Option Expectation). AreReasonsIf there p net (gone_of failure) (with_before net s.outcome prior) expected those) (same_expected line (Some failure)) h)
       where
-        by : (expected : Option Expectation) → AreReasonsIf there p net (gone_of failure) (Some (net, s.outcome)) expected those
-            → MatchOption expected (those ≡ []) (λ expectation. AreReasonsAfter net s.outcome failure expectation those)
+        by : (expected : Option Expectation) → AreReasonsIf there p net (gone_of failure) (with_before net s.outcome prior) expected those
+            → MatchOption expected (those ≡ []) (λ expectation. AreReasonsAfter net s.outcome prior failure expectation those)
         by None h = h
         by (Some expectation) h = record { failed = there; made = e; outcome = p; is_outcome = settled; are = h }
 

@@ -1,8 +1,8 @@
 -- Each line of a policy has one list of rows in one of several networks.
-use Rattle.std.proofs.Common.{◌≡◌, Bool, true, false, List, [], Some, None, refl, sym, subst, ◌∙◌}
-use Rattle.std.specs.Prelude.{MatchBool}
+use Rattle.std.proofs.Common.{◌≡◌, Bool, true, false, List, [], Option, Some, None, refl, sym, subst, ◌∙◌}
+use Rattle.std.specs.Prelude.{MatchBool, MatchOption, ⊤}
 use Rattle.std.specs.List.{AllZip}
-use Rattle.mst_net.specs.tables.Tables.{Net}
+use Rattle.mst_net.specs.tables.Tables.{Net, IsNetwork}
 use Rattle.mst_policy.specs.declared.policy.PolicyLine.{PolicyLine}
 use Rattle.mst_rows.specs.Rows.{Row}
 use Rattle.mst_forest.specs.Outcome.{Outcome, IsOutcome}
@@ -14,8 +14,11 @@ use Rattle.mst_verdict.specs.Verifying.{IsPriorNetwork, IsToldWhereDue, Judges}
 use Rattle.mst_verdict.proofs.Judgements.{zip_weaker}
 
 pub of_network : (prior : Prior) → IsPriorNetwork prior → OfNetwork prior
-of_network None h = tt
-of_network (Some p) h = h.0
+of_network prior = by prior.before
+  where
+    by : (before : Option (Net × Outcome)) → MatchOption before ⊤ (λ b. IsNetwork b.0 × IsOutcome b.0 b.1) → MatchOption before ⊤ (λ b. IsNetwork b.0)
+    by None h = tt
+    by (Some b) h = h.0
 
 -- what is told of the lines that are judged is told just where they aren't kept
 module _ (is_last : Bool) (net : Net) (o : Outcome) (prior : Prior) (unkept : (line : PolicyLine) (rows : List Row) → IsLineTold net o prior line rows → IsToldWhereUnkept net o prior line rows) where

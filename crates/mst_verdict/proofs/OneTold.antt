@@ -12,7 +12,7 @@ use Rattle.mst_forest.specs.Outcome.{Outcome, IsOutcome}
 use Rattle.mst_sweeping.specs.sweep.Failures.{edit_of, failures}
 use Rattle.mst_sweeping.specs.sweep.declared.failure.Failure.{Failure}
 use Rattle.mst_verify.specs.tree_judges.judged.reasons.Judged.{gone_of, places}
-use Rattle.mst_verify.specs.tree_judges.judged.reasons.Named.{Gone, OfNetwork, Prior}
+use Rattle.mst_verify.specs.tree_judges.judged.reasons.Named.{Gone, OfNetwork, Prior, nothing_before, with_before}
 use Rattle.mst_verify.specs.tree_judges.judged.reasons.Placed.{AreReasonsAfter, AreReasonsAt}
 use Rattle.mst_verify.specs.tree_judges.judged.reasons.Reasons.{AreReasons, HasOneList}
 use Rattle.mst_verify.specs.tree_judges.judged.reasons.declared.reason.Reason.{Reason}
@@ -63,7 +63,7 @@ module _ (net : Net) (o : Outcome) (is : IsNetwork net) (are : IsOutcome net o) 
   -- ---- at most one
   module _ (single : (net : Net) (o p : Outcome) → IsNetwork net → IsOutcome net o → IsOutcome net p → o ≡ p)
       (one : (net : Net) (o : Outcome) (before : Net) (gone : Gone) (prior : Prior) (e : Expectation) → IsNetwork net → IsOutcome net o → HasOneList net o before gone prior e) where
-    after_same : (failure : Failure) → Contains (failures net) failure → (e : Expectation) (reasons others : List Reason) → AreReasonsAfter net o failure e reasons → AreReasonsAfter net o failure e others → reasons ≡ others
+    after_same : (failure : Failure) → Contains (failures net) failure → (e : Expectation) (reasons others : List Reason) → AreReasonsAfter net o prior failure e reasons → AreReasonsAfter net o prior failure e others → reasons ≡ others
     after_same failure h e reasons others x y =
         let m = makes failure h in
         let first = x.made in
@@ -73,9 +73,9 @@ module _ (net : Net) (o : Outcome) (is : IsNetwork net) (are : IsOutcome net o) 
         let its : m.failed ≡ x.failed = cc in
         let ok : IsNetwork x.failed = subst IsNetwork its m.is_network in
         let outcome : y.outcome ≡ x.outcome = single x.failed y.outcome x.outcome ok (subst (λ n. IsOutcome n y.outcome) made y.is_outcome) x.is_outcome in
-        let other : AreReasons x.failed x.outcome net (gone_of failure) (Some (net, o)) e others =
-        subst (λ p. AreReasons x.failed p net (gone_of failure) (Some (net, o)) e others) outcome (subst (λ n. AreReasons n y.outcome net (gone_of failure) (Some (net, o)) e others) made y.are) in
-        one x.failed x.outcome net (gone_of failure) (Some (net, o)) e ok x.is_outcome reasons others x.are other
+        let other : AreReasons x.failed x.outcome net (gone_of failure) (with_before net o prior) e others =
+        subst (λ p. AreReasons x.failed p net (gone_of failure) (with_before net o prior) e others) outcome (subst (λ n. AreReasons n y.outcome net (gone_of failure) (with_before net o prior) e others) made y.are) in
+        one x.failed x.outcome net (gone_of failure) (with_before net o prior) e ok x.is_outcome reasons others x.are other
 
     at_same : (place : Option Failure) → Contains (places net) place → (e : Expectation) (reasons others : List Reason) → AreReasonsAt net o prior place e reasons → AreReasonsAt net o prior place e others → reasons ≡ others
     at_same None h e reasons others x y = one net o net None prior e is are reasons others x y
@@ -83,7 +83,7 @@ module _ (net : Net) (o : Outcome) (is : IsNetwork net) (are : IsOutcome net o) 
 
     module _ (line : PolicyLine) where
       reasons_same : (place : Option Failure) → Contains (places net) place → (reasons others : List Reason) → AreLineReasons net o prior line place reasons → AreLineReasons net o prior line place others → reasons ≡ others
-      reasons_same place h reasons others = go (expected_at net (is_some prior) line place)
+      reasons_same place h reasons others = go (expected_at net (is_some prior.before) line place)
         where
           go : (expected : Option Expectation) → MatchOption expected (reasons ≡ []) (λ e. AreReasonsAt net o prior place e reasons) → MatchOption expected (others ≡ []) (λ e. AreReasonsAt net o prior place e others) → reasons ≡ others
           go None x y = x ∙ sym y
@@ -103,11 +103,11 @@ module _ (net : Net) (o : Outcome) (is : IsNetwork net) (are : IsOutcome net o) 
   -- ---- and one at least
   module _ (of : OfNetwork prior) (outcomes : (net : Net) → IsNetwork net → (o : Outcome) × IsOutcome net o)
       (some : (net : Net) (o : Outcome) (before : Net) (gone : Gone) (prior : Prior) (e : Expectation) → IsNetwork net → IsOutcome net o → OfNetwork prior → (reasons : List Reason) × AreReasons net o before gone prior e reasons) where
-    some_after : (failure : Failure) → Contains (failures net) failure → (e : Expectation) → (reasons : List Reason) × AreReasonsAfter net o failure e reasons
+    some_after : (failure : Failure) → Contains (failures net) failure → (e : Expectation) → (reasons : List Reason) × AreReasonsAfter net o prior failure e reasons
     some_after failure h e =
         let m = makes failure h in
         let p = outcomes m.failed m.is_network in
-        let r = some m.failed p.0 net (gone_of failure) (Some (net, o)) e m.is_network p.1 is in
+        let r = some m.failed p.0 net (gone_of failure) (with_before net o prior) e m.is_network p.1 is in
         (r.0, record { failed = m.failed; made = m.made; outcome = p.0; is_outcome = p.1; are = r.1 })
 
     some_at : (place : Option Failure) → Contains (places net) place → (e : Expectation) → (reasons : List Reason) × AreReasonsAt net o prior place e reasons
@@ -116,7 +116,7 @@ module _ (net : Net) (o : Outcome) (is : IsNetwork net) (are : IsOutcome net o) 
 
     module _ (line : PolicyLine) where
       some_reasons : (place : Option Failure) → Contains (places net) place → (reasons : List Reason) × AreLineReasons net o prior line place reasons
-      some_reasons place h = go (expected_at net (is_some prior) line place)
+      some_reasons place h = go (expected_at net (is_some prior.before) line place)
         where
           go : (expected : Option Expectation) → (reasons : List Reason) × MatchOption expected (reasons ≡ []) (λ e. AreReasonsAt net o prior place e reasons)
           go None = ([], refl)
@@ -133,7 +133,7 @@ module _ (net : Net) (o : Outcome) (is : IsNetwork net) (are : IsOutcome net o) 
 
 -- ---- the whole of a network
 module _ (net : Net) (o : Outcome) (lines : List PolicyLine) where
-  pub verified_same : ((line : PolicyLine) (found other : List Found) → AreFound net o None line found → AreFound net o None line other → found ≡ other)
+  pub verified_same : ((line : PolicyLine) (found other : List Found) → AreFound net o nothing_before line found → AreFound net o nothing_before line other → found ≡ other)
       → (c d : Counts) (rows other : List Row) → IsVerified net o lines c rows → IsVerified net o lines d other → (c ≡ d) × (rows ≡ other)
   verified_same one c d rows other x y =
       let told : x.told ≡ y.told =
@@ -143,7 +143,7 @@ module _ (net : Net) (o : Outcome) (lines : List PolicyLine) where
         x.are ∙ (λ i. all_refused net lines ++ joined (told i) ++ last_row (judged_in net lines) (promises_in net lines (told i)) ∷ []) ∙ sym y.are,
       )
 
-  pub verified_some : ((line : PolicyLine) → (found : List Found) × AreFound net o None line found) → (counts : Counts) × (rows : List Row) × IsVerified net o lines counts rows
+  pub verified_some : ((line : PolicyLine) → (found : List Found) × AreFound net o nothing_before line found) → (counts : Counts) × (rows : List Row) × IsVerified net o lines counts rows
   verified_some some =
       let z = zip_some (IsVerdict net o) lines (λ line _. let f = some line in (rows_of_read line.number line.read f.0, record { found = f.0; are_found = f.1; are = refl })) in (
         counts_in net lines z.0,

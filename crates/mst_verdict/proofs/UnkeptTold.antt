@@ -5,6 +5,7 @@ use Rattle.std.specs.List.{AllZip, Contains, filter, list_any}
 use Rattle.std.specs.Option.{option_and_then}
 use Rattle.mst_graph.proofs.Members.{cases, here, in_map, in_none, there}
 use Rattle.mst_lang.specs.declared.line.Fault.{Fault}
+use Rattle.mst_policy.specs.Leaving.{Leaving}
 use Rattle.mst_policy.specs.declared.expectation.Expectation.{Expectation}
 use Rattle.mst_policy.specs.declared.expectation.Expectation.TheVariants as expect
 use Rattle.mst_policy.specs.declared.expectation.Promise.{Promise}
@@ -19,7 +20,7 @@ use Rattle.mst_sweeping.specs.sweep.declared.failure.Failure.{Failure}
 use Rattle.mst_verify.specs.tree_judges.judged.reasons.Holds.{Holds}
 use Rattle.mst_verify.specs.tree_judges.judged.reasons.Judged.{HoldsAfter, IsKept, asks, asks_at, asks_now, gone_of, has_now, looks_back, places}
 use Rattle.mst_verify.specs.tree_judges.judged.reasons.Missing.{missing}
-use Rattle.mst_verify.specs.tree_judges.judged.reasons.Named.{Gone, Prior}
+use Rattle.mst_verify.specs.tree_judges.judged.reasons.Named.{Gone, Prior, nothing_before, with_before}
 use Rattle.mst_verify.specs.tree_judges.judged.reasons.Placed.{AreReasonsAfter, AreReasonsAt}
 use Rattle.mst_verify.specs.tree_judges.judged.reasons.Reasons.{AreReasons}
 use Rattle.mst_verify.specs.tree_judges.judged.reasons.declared.missing.Missing.{Missing}
@@ -90,54 +91,54 @@ first_false a b e = ap (λ a. a && b) e
 module _ (net : Net) (o : Outcome) (is : IsNetwork net) (are : IsOutcome net o) (makes : (failure : Failure) → Contains (failures net) failure → MakesNet net failure)
     (single : (net : Net) (o p : Outcome) → IsNetwork net → IsOutcome net o → IsOutcome net p → o ≡ p)
     (broken : (net : Net) (o : Outcome) (before : Net) (gone : Gone) (prior : Prior) (e : Expectation) (reasons : List Reason) → IsNetwork net → IsOutcome net o → AreReasons net o before gone prior e reasons → (reasons ≡ []) ↔ Holds net o before gone prior e)
-    (nothing_back : (e : Expectation) (reasons : List Reason) → looks_back e ≡ true → AreReasons net o net None None e reasons → reasons ≡ []) where
+    (nothing_back : (leaving : Leaving) (e : Expectation) (reasons : List Reason) → looks_back e ≡ true → AreReasons net o net None (record { before = None; leaving = leaving }) e reasons → reasons ≡ []) where
   -- ---- one place
   abbrev HoldsAt : Prior → Option Failure → Expectation → Type 0
   HoldsAt prior None e = Holds net o net None prior e
-  HoldsAt prior (Some failure) e = HoldsAfter net o failure e
+  HoldsAt prior (Some failure) e = HoldsAfter net o prior failure e
 
-  module _ (failure : Failure) (h : Contains (failures net) failure) (e : Expectation) (reasons : List Reason) (x : AreReasonsAfter net o failure e reasons) where
+  module _ (prior : Prior) (failure : Failure) (h : Contains (failures net) failure) (e : Expectation) (reasons : List Reason) (x : AreReasonsAfter net o prior failure e reasons) where
     ok : IsNetwork x.failed
     ok = let m = makes failure h in let own = m.made in let other = x.made in let same : m.failed ≡ x.failed = cc in subst IsNetwork same m.is_network
 
-    told_after : (reasons ≡ []) ↔ Holds x.failed x.outcome net (gone_of failure) (Some (net, o)) e
-    told_after = broken x.failed x.outcome net (gone_of failure) (Some (net, o)) e reasons ok x.is_outcome x.are
+    told_after : (reasons ≡ []) ↔ Holds x.failed x.outcome net (gone_of failure) (with_before net o prior) e
+    told_after = broken x.failed x.outcome net (gone_of failure) (with_before net o prior) e reasons ok x.is_outcome x.are
 
-    holds_after : reasons ≡ [] → HoldsAfter net o failure e
+    holds_after : reasons ≡ [] → HoldsAfter net o prior failure e
     holds_after none other p made its =
         let first = x.made in
         let same : other ≡ x.failed = cc in
         let outcome : p ≡ x.outcome = single x.failed p x.outcome ok (subst (λ n. IsOutcome n p) same its) x.is_outcome in
-        subst (λ n. Holds n p net (gone_of failure) (Some (net, o)) e) (sym same) (subst (λ q. Holds x.failed q net (gone_of failure) (Some (net, o)) e) (sym outcome) (told_after.0 none))
+        subst (λ n. Holds n p net (gone_of failure) (with_before net o prior) e) (sym same) (subst (λ q. Holds x.failed q net (gone_of failure) (with_before net o prior) e) (sym outcome) (told_after.0 none))
 
-    after_told : HoldsAfter net o failure e → reasons ≡ []
+    after_told : HoldsAfter net o prior failure e → reasons ≡ []
     after_told holds = told_after.1 (holds x.failed x.outcome x.made x.is_outcome)
 
   told_at : (prior : Prior) (place : Option Failure) → Contains (places net) place → (e : Expectation) (reasons : List Reason) → AreReasonsAt net o prior place e reasons → (reasons ≡ []) ↔ HoldsAt prior place e
   told_at prior None h e reasons r = broken net o net None prior e reasons is are r
-  told_at prior (Some failure) h e reasons r = (holds_after failure (of_place net failure h) e reasons r, after_told failure (of_place net failure h) e reasons r)
+  told_at prior (Some failure) h e reasons r = (holds_after prior failure (of_place net failure h) e reasons r, after_told prior failure (of_place net failure h) e reasons r)
 
   -- ---- one line
   module _ (prior : Prior) (line : PolicyLine) (promise : Promise) (its : judged net line ≡ Some promise) where
-    looked : (place : Option Failure) (b : Bool) → looks_at (is_some prior) promise place ≡ b → expected_at net (is_some prior) line place ≡ cond b (Some promise.expectation) None
-    looked place b e = ap (option_and_then (λ promise. cond (looks_at (is_some prior) promise place) (Some promise.expectation) None)) its ∙ ap (λ b. cond b (Some promise.expectation) None) e
+    looked : (place : Option Failure) (b : Bool) → looks_at (is_some prior.before) promise place ≡ b → expected_at net (is_some prior.before) line place ≡ cond b (Some promise.expectation) None
+    looked place b e = ap (option_and_then (λ promise. cond (looks_at (is_some prior.before) promise place) (Some promise.expectation) None)) its ∙ ap (λ b. cond b (Some promise.expectation) None) e
 
-    reasons_there : (place : Option Failure) (b : Bool) → looks_at (is_some prior) promise place ≡ b → (reasons : List Reason) → AreLineReasons net o prior line place reasons
+    reasons_there : (place : Option Failure) (b : Bool) → looks_at (is_some prior.before) promise place ≡ b → (reasons : List Reason) → AreLineReasons net o prior line place reasons
         → MatchOption (cond b (Some promise.expectation) None) (reasons ≡ []) (λ e. AreReasonsAt net o prior place e reasons)
     reasons_there place b e reasons r = subst (λ expected. MatchOption expected (reasons ≡ []) (λ e. AreReasonsAt net o prior place e reasons)) (looked place b e) r
 
     -- where it is judged, the place is looked at, and it is one that counts
-    asked_looked : (place : Option Failure) → asks_at (is_some prior) promise place ≡ true → looks_at (is_some prior) promise place ≡ true
+    asked_looked : (place : Option Failure) → asks_at (is_some prior.before) promise place ≡ true → looks_at (is_some prior.before) promise place ≡ true
     asked_looked place e = ap (λ b. (tells_once promise.scope && is_now place) || b) e ∙ or_true (tells_once promise.scope && is_now place)
       where
         or_true : (b : Bool) → (b || true) ≡ true
         or_true true = refl
         or_true false = refl
 
-    asked_counts : (place : Option Failure) → asks_at (is_some prior) promise place ≡ true → ((not (tells_once promise.scope) || has_now promise.scope) || not (is_now place)) ≡ true
+    asked_counts : (place : Option Failure) → asks_at (is_some prior.before) promise place ≡ true → ((not (tells_once promise.scope) || has_now promise.scope) || not (is_now place)) ≡ true
     asked_counts None e = go (not (tells_once promise.scope)) (has_now promise.scope) e
       where
-        go : (a b : Bool) → (b && (is_some prior || not (looks_back promise.expectation))) ≡ true → ((a || b) || false) ≡ true
+        go : (a b : Bool) → (b && (is_some prior.before || not (looks_back promise.expectation))) ≡ true → ((a || b) || false) ≡ true
         go true b e = refl
         go false true e = refl
         go false false e = e
@@ -147,39 +148,39 @@ module _ (net : Net) (o : Outcome) (is : IsNetwork net) (are : IsOutcome net o) 
         go true = refl
         go false = refl
 
-    holds_where : (place : Option Failure) → Contains (places net) place → asks_at (is_some prior) promise place ≡ true → (f : Found) → IsFoundAt net o prior line place f → (f.reasons ≡ []) ↔ HoldsAt prior place promise.expectation
+    holds_where : (place : Option Failure) → Contains (places net) place → asks_at (is_some prior.before) promise place ≡ true → (f : Found) → IsFoundAt net o prior line place f → (f.reasons ≡ []) ↔ HoldsAt prior place promise.expectation
     holds_where place h asked f x = told_at prior place h promise.expectation f.reasons (reasons_there place true (asked_looked place asked) f.reasons x.are)
 
     -- a place where it isn't judged tells nothing that counts
     module _ (f : Found) where
-      unlooked : (place : Option Failure) → IsFoundAt net o prior line place f → looks_at (is_some prior) promise place ≡ false → has_reason f ≡ false
+      unlooked : (place : Option Failure) → IsFoundAt net o prior line place f → looks_at (is_some prior.before) promise place ≡ false → has_reason f ≡ false
       unlooked place x e = none_there f.reasons (reasons_there place false e f.reasons x.are)
 
       -- what looks back at no network has no reason
-      back : (p : Prior) → prior ≡ p → is_some p ≡ false → looks_back promise.expectation ≡ true → AreReasonsAt net o prior None promise.expectation f.reasons → f.reasons ≡ []
-      back None q n r are = nothing_back promise.expectation f.reasons r (subst (λ p. AreReasonsAt net o p None promise.expectation f.reasons) q are)
+      back : (p : Option (Net × Outcome)) → prior.before ≡ p → is_some p ≡ false → looks_back promise.expectation ≡ true → AreReasonsAt net o prior None promise.expectation f.reasons → f.reasons ≡ []
+      back None q n r are = nothing_back prior.leaving promise.expectation f.reasons r (subst (λ (p : Option (Net × Outcome)). AreReasonsAt net o (record { before = p; leaving = prior.leaving }) None promise.expectation f.reasons) q are)
       back (Some p) q n r are = absurd (true≢false n)
 
-      looked_now : IsFoundAt net o prior line None f → looks_at (is_some prior) promise None ≡ true → asks_now (is_some prior) promise ≡ false
+      looked_now : IsFoundAt net o prior line None f → looks_at (is_some prior.before) promise None ≡ true → asks_now (is_some prior.before) promise ≡ false
           → (has_reason f && ((not (tells_once promise.scope) || has_now promise.scope) || false)) ≡ false
-      looked_now x e unasked = go (tells_once promise.scope) (has_now promise.scope) (is_some prior) (looks_back promise.expectation) refl refl refl refl
+      looked_now x e unasked = go (tells_once promise.scope) (has_now promise.scope) (is_some prior.before) (looks_back promise.expectation) refl refl refl refl
         where
-          go : (t n p b : Bool) → tells_once promise.scope ≡ t → has_now promise.scope ≡ n → is_some prior ≡ p → looks_back promise.expectation ≡ b → (has_reason f && ((not t || n) || false)) ≡ false
+          go : (t n p b : Bool) → tells_once promise.scope ≡ t → has_now promise.scope ≡ n → is_some prior.before ≡ p → looks_back promise.expectation ≡ b → (has_reason f && ((not t || n) || false)) ≡ false
           go true false p b u v w r = and_false (has_reason f)
-          go true true false true u v w r = ap (λ b. b && true) (none_there f.reasons (back prior refl w r (reasons_there None true e f.reasons x.are)))
+          go true true false true u v w r = ap (λ b. b && true) (none_there f.reasons (back prior.before refl w r (reasons_there None true e f.reasons x.are)))
           go true true false false u v w r = absurd (true≢false (sym (λ i. v i && (w i || not (r i))) ∙ unasked))
           go true true true b u v w r = absurd (true≢false (sym (λ i. v i && (w i || not (looks_back promise.expectation))) ∙ unasked))
           go false n p b u v w r = absurd (true≢false (sym e ∙ (λ i. (u i && true) || unasked i)))
 
-      uncounted : (place : Option Failure) → IsFoundAt net o prior line place f → asks_at (is_some prior) promise place ≡ false → (has_reason f && ((not (tells_once promise.scope) || has_now promise.scope) || not (is_now place))) ≡ false
-      uncounted place x unasked = go (looks_at (is_some prior) promise place) refl
+      uncounted : (place : Option Failure) → IsFoundAt net o prior line place f → asks_at (is_some prior.before) promise place ≡ false → (has_reason f && ((not (tells_once promise.scope) || has_now promise.scope) || not (is_now place))) ≡ false
+      uncounted place x unasked = go (looks_at (is_some prior.before) promise place) refl
         where
-          at : (place : Option Failure) → IsFoundAt net o prior line place f → asks_at (is_some prior) promise place ≡ false → looks_at (is_some prior) promise place ≡ true
+          at : (place : Option Failure) → IsFoundAt net o prior line place f → asks_at (is_some prior.before) promise place ≡ false → looks_at (is_some prior.before) promise place ≡ true
               → (has_reason f && ((not (tells_once promise.scope) || has_now promise.scope) || not (is_now place))) ≡ false
           at None x unasked e = looked_now x e unasked
           at (Some failure) x unasked e = absurd (true≢false (sym e ∙ (λ i. and_false (tells_once promise.scope) i || unasked i)))
 
-          go : (b : Bool) → looks_at (is_some prior) promise place ≡ b → (has_reason f && ((not (tells_once promise.scope) || has_now promise.scope) || not (is_now place))) ≡ false
+          go : (b : Bool) → looks_at (is_some prior.before) promise place ≡ b → (has_reason f && ((not (tells_once promise.scope) || has_now promise.scope) || not (is_now place))) ≡ false
           go true e = at place x unasked e
           go false e = first_false (has_reason f) ((not (tells_once promise.scope) || has_now promise.scope) || not (is_now place)) (unlooked place x e)
 
@@ -188,7 +189,7 @@ module _ (net : Net) (o : Outcome) (is : IsNetwork net) (are : IsOutcome net o) 
       any_is = ap (list_any (is_broken_by promise.scope)) x.are
           ∙ any_kept has_reason (is_broken_by promise.scope) (λ f e. first_false (has_reason f) ((not (tells_once promise.scope) || has_now promise.scope) || not (is_now f.place)) e) x.all
 
-      holds_at : list_any (is_broken_by promise.scope) found ≡ false → (place : Option Failure) → Contains (places net) place → asks_at (is_some prior) promise place ≡ true → HoldsAt prior place promise.expectation
+      holds_at : list_any (is_broken_by promise.scope) found ≡ false → (place : Option Failure) → Contains (places net) place → asks_at (is_some prior.before) promise place ≡ true → HoldsAt prior place promise.expectation
       holds_at e place h asked =
           let r = zip_at (IsFoundAt net o prior line) (places net) x.all x.each place h in
           let f = r.0 in
@@ -203,16 +204,16 @@ module _ (net : Net) (o : Outcome) (is : IsNetwork net) (are : IsOutcome net o) 
         failed = λ failure h asked. holds_at e (Some failure) (there None (Some failure) (map Some (failures net)) (in_map Some (failures net) failure h)) asked;
       }
 
-      asked_holds : IsKept net o prior promise → (place : Option Failure) → Contains (places net) place → asks_at (is_some prior) promise place ≡ true → HoldsAt prior place promise.expectation
+      asked_holds : IsKept net o prior promise → (place : Option Failure) → Contains (places net) place → asks_at (is_some prior.before) promise place ≡ true → HoldsAt prior place promise.expectation
       asked_holds keeps None h asked = keeps.now asked
       asked_holds keeps (Some failure) h asked = keeps.failed failure (of_place net failure h) asked
 
       unbroken_at : IsKept net o prior promise → (f : Found) → Contains x.all f → is_broken_by promise.scope f ≡ false
       unbroken_at keeps f h =
           let r = at_zip (IsFoundAt net o prior line) (places net) x.all x.each f h in
-          ap (λ p. has_reason f && ((not (tells_once promise.scope) || has_now promise.scope) || not (is_now p))) r.2.at ∙ go r.0 r.1 r.2 (asks_at (is_some prior) promise r.0) refl
+          ap (λ p. has_reason f && ((not (tells_once promise.scope) || has_now promise.scope) || not (is_now p))) r.2.at ∙ go r.0 r.1 r.2 (asks_at (is_some prior.before) promise r.0) refl
         where
-          go : (place : Option Failure) → Contains (places net) place → IsFoundAt net o prior line place f → (b : Bool) → asks_at (is_some prior) promise place ≡ b
+          go : (place : Option Failure) → Contains (places net) place → IsFoundAt net o prior line place f → (b : Bool) → asks_at (is_some prior.before) promise place ≡ b
               → (has_reason f && ((not (tells_once promise.scope) || has_now promise.scope) || not (is_now place))) ≡ false
           go place there at true e =
               first_false (has_reason f) ((not (tells_once promise.scope) || has_now promise.scope) || not (is_now place)) (none_there f.reasons ((holds_where place there e f at).1 (asked_holds keeps place there e)))
@@ -242,20 +243,20 @@ module _ (net : Net) (o : Outcome) (is : IsNetwork net) (are : IsOutcome net o) 
       where
         silent : judged net line ≡ None → (f : Found) → Contains x.are_found.all f → has_reason f ≡ false
         silent e f h =
-            let r = at_zip (IsFoundAt net o None line) (places net) x.are_found.all x.are_found.each f h in
+            let r = at_zip (IsFoundAt net o nothing_before line) (places net) x.are_found.all x.are_found.each f h in
             let none : expected_at net false line r.0 ≡ None = ap (option_and_then (λ promise. cond (looks_at false promise r.0) (Some promise.expectation) None)) e in
-            none_there f.reasons (subst (λ expected. MatchOption expected (f.reasons ≡ []) (λ e. AreReasonsAt net o None r.0 e f.reasons)) none r.2.are)
+            none_there f.reasons (subst (λ expected. MatchOption expected (f.reasons ≡ []) (λ e. AreReasonsAt net o nothing_before r.0 e f.reasons)) none r.2.are)
 
         nothing_read : (read : Result Promise Fault) → rows_of_read line.number read [] ≡ []
         nothing_read (Err fault) = refl
         nothing_read (Ok promise) = no_more (verdict_rows line.number promise []) (verdict_some line.number promise [])
 
-        go : (promise : Option Promise) → judged net line ≡ promise → MatchOption promise (rows ≡ []) (λ promise. (rows ≡ []) ↔ IsKept net o None promise)
+        go : (promise : Option Promise) → judged net line ≡ promise → MatchOption promise (rows ≡ []) (λ promise. (rows ≡ []) ↔ IsKept net o nothing_before promise)
         go None e = x.are ∙ ap (rows_of_read line.number line.read) (x.are_found.are ∙ filter_none has_reason x.are_found.all (silent e)) ∙ nothing_read line.read
         go (Some promise) e =
             let read = read_judged line.read promise e in (
-              λ none. kept None line promise e x.found x.are_found (sym (rows_any promise read) ∙ none_there rows none),
-              λ keeps. no_more rows (rows_any promise read ∙ none_broken None line promise e x.found x.are_found keeps),
+              λ none. kept nothing_before line promise e x.found x.are_found (sym (rows_any promise read) ∙ none_there rows none),
+              λ keeps. no_more rows (rows_any promise read ∙ none_broken nothing_before line promise e x.found x.are_found keeps),
             )
 
   -- ---- a line in one of several networks
@@ -280,7 +281,7 @@ module _ (net : Net) (o : Outcome) (is : IsNetwork net) (are : IsOutcome net o) 
         none : (f : Found) → Contains x.are_found.all f → has_reason f ≡ false
         none f h =
             let r = at_zip (IsFoundAt net o prior line) (places net) x.are_found.all x.are_found.each f h in
-            let expected : expected_at net (is_some prior) line r.0 ≡ None = ap (option_and_then (λ promise. cond (looks_at (is_some prior) promise r.0) (Some promise.expectation) None)) e in
+            let expected : expected_at net (is_some prior.before) line r.0 ≡ None = ap (option_and_then (λ promise. cond (looks_at (is_some prior.before) promise r.0) (Some promise.expectation) None)) e in
             none_there f.reasons (subst (λ expected. MatchOption expected (f.reasons ≡ []) (λ e. AreReasonsAt net o prior r.0 e f.reasons)) expected r.2.are)
 
     pub line_where_unkept : IsToldWhereUnkept net o prior line rows

@@ -3,6 +3,7 @@ use Rattle.std.proofs.Common.{◌≡◌, ◌==◌, ℕ, Bool, true, false, List,
 use Rattle.std.specs.Prelude.{if◌then◌else◌}
 use Rattle.std.proofs.lemmas.Bool.{eqb-true, eq-eqb}
 use Rattle.mst_net.specs.tables.Tables.{Net}
+use Rattle.mst_policy.specs.Leaving.{leaving_of}
 use Rattle.mst_policy.specs.declared.policy.PolicyLine.{PolicyLine}
 use Rattle.mst_sweeping.specs.sweep.vlan.Carried.{ViewWithTrees}
 use Rattle.mst_forest.specs.Outcome.{IsOutcome, Outcome}
@@ -36,8 +37,11 @@ module _ (j : Watching) (w : Watch) (is : IsWatching j w) (net : Net) (n : ℕ) 
       (subst (λ (prior : Prior). Judges net prior (n == j.last) j.lines.now (told_in j.lines.now judgement)) e h))
 
   -- network 0, and another one
-  pub judged_first : n ≡ 0 → Judges net None (n == j.last) j.lines.now (told_in j.lines.now judgement) → AreRowsIn w n net (told_in w.lines judgement)
-  judged_first e h = judged_by None (sym (ap (λ b. if b then None else Some (w.first, w.outcome)) (eq-eqb n 0 e))) h
+  abbrev prior_by : Bool → Prior
+  prior_by b = record { before = if b then None else Some (w.first, w.outcome); leaving = leaving_of w.lines }
 
-  pub judged_later : (n ≡ 0 → ⊥) → Judges net (Some (w.first, w.outcome)) (n == j.last) j.lines.now (told_in j.lines.now judgement) → AreRowsIn w n net (told_in w.lines judgement)
-  judged_later later h = judged_by (Some (w.first, w.outcome)) (sym (ap (λ b. if b then None else Some (w.first, w.outcome)) (not_first n later))) h
+  pub judged_first : n ≡ 0 → Judges net (record { before = None; leaving = leaving_of w.lines }) (n == j.last) j.lines.now (told_in j.lines.now judgement) → AreRowsIn w n net (told_in w.lines judgement)
+  judged_first e h = judged_by (prior_by true) (sym (ap prior_by (eq-eqb n 0 e))) h
+
+  pub judged_later : (n ≡ 0 → ⊥) → Judges net (record { before = Some (w.first, w.outcome); leaving = leaving_of w.lines }) (n == j.last) j.lines.now (told_in j.lines.now judgement) → AreRowsIn w n net (told_in w.lines judgement)
+  judged_later later h = judged_by (prior_by false) (sym (ap prior_by (not_first n later))) h

@@ -7,6 +7,7 @@ use Rattle.mst_rows.specs.Rows.{Row}
 use Rattle.mst_change.specs.Reading.{LineRead}
 use Rattle.mst_change.specs.Steps.{all_lines}
 use Rattle.mst_forest.specs.Outcome.{Outcome, IsOutcome}
+use Rattle.mst_policy.specs.Leaving.{leaving_of}
 use Rattle.mst_policy.specs.declared.policy.PolicyLine.{PolicyLine}
 use Rattle.mst_sweeping.specs.StepText.{AreStepRows, last_row}
 use Rattle.mst_sweeping.specs.declared.step.Deed.TheVariants as deed
@@ -63,9 +64,9 @@ pub record Watch : Type 0 where
   pub last : ℕ
   pub lines : List PolicyLine
 
--- nothing is before network 0, and that is before each other one
+-- nothing is before network 0, and that is before each other one; what the lines mean to leave is left out
 abbrev pub prior_at : Watch → ℕ → Prior
-prior_at w n = if n == 0 then None else Some (w.first, w.outcome)
+prior_at w n = record { before = if n == 0 then None else Some (w.first, w.outcome); leaving = leaving_of w.lines }
 
 -- these are the rows of each line in network n. A line is unkept there where it has some
 abbrev pub AreRowsIn : Watch → ℕ → Net → List (List Row) → Type 0
@@ -97,7 +98,7 @@ pub record IsStepTold (w : Watch) (s : StepMade) (t : StepTold) : Type 0 where
   pub is_now : IsOutcome s.now now
   pub number : t.number ≡ s.number
   pub refused : t.refused ≡ refused_lines s.number s.before s.lines
-  pub own : AreStepRows s.before before s.now now (deed.Step (numbers_of s.number s.lines)) t.own t.does
+  pub own : AreStepRows (leaving_of w.lines) s.before before s.now now (deed.Step (numbers_of s.number s.lines)) t.own t.does
   pub judged_before : AreRowsIn w (s.number - 1) s.before t.before
   pub judged_now : AreRowsIn w s.number s.now t.now
 

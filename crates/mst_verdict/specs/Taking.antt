@@ -4,6 +4,7 @@ use Rattle.std.specs.List.{AllZip, flat_map}
 use Rattle.mst_net.specs.tables.Tables.{Net}
 use Rattle.mst_rows.specs.Rows.{Row}
 use Rattle.mst_change.specs.Reading.{LineRead}
+use Rattle.mst_policy.specs.Leaving.{leaving_of}
 use Rattle.mst_policy.specs.declared.policy.PolicyLine.{PolicyLine}
 use Rattle.mst_telling.specs.Steps.{breaks}
 use Rattle.mst_verdict.specs.Verifying.{IsPriorOf}
@@ -37,11 +38,12 @@ course_with course taken = record {
 abbrev pub course_for : Course → ℕ → ℕ → Course
 course_for course unread unkept = record course { unread = unread; unkept = unkept }
 
--- the plan, what carries its VIDs, the number and the lines are those by which networks are judged
+-- the plan, what carries its VIDs, the number, the lines and what these mean to leave are those by which networks are judged
 pub record IsWatching (j : Watching) (w : Watch) : Type 0 where
   pub prior : IsPriorOf j.first.now (w.first, w.outcome)
   pub last : w.last ≡ j.last
   pub lines : w.lines ≡ j.lines.now
+  pub leaving : j.leaving.now ≡ leaving_of w.lines
 
 -- a step was taken of a network for which a policy has these rows, and behind it it has those: this is told of the step and counted, and its rows were put so
 pub record TakesStep (w : Watch) (number : ℕ) (net : Net) (lines : List LineRead) (before now : List (List Row)) (taken : Taken) (Put : List Row → Type 0) : Type 0 where

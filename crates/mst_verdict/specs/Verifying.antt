@@ -9,10 +9,11 @@ use Rattle.mst_net.specs.tables.Tables.{Net, Numbers, IsNetwork}
 use Rattle.mst_rows.specs.Rows.{Row}
 use Rattle.mst_policy.specs.declared.expectation.Expectation.{Expectation}
 use Rattle.mst_policy.specs.declared.expectation.Promise.{Promise}
+use Rattle.mst_policy.specs.Leaving.{Leaving, sets_of}
 use Rattle.mst_policy.specs.declared.policy.PolicyLine.{PolicyLine}
 use Rattle.mst_forest.specs.Outcome.{Outcome, IsOutcome}
 use Rattle.mst_forest.specs.Settled.{SettledNet, outcome_of}
-use Rattle.mst_sweeping.specs.sweep.vlan.classes.Classes.{AreClasses}
+use Rattle.mst_sweeping.specs.sweep.vlan.classes.Classes.{AreClasses, AreInSame}
 use Rattle.mst_sweeping.specs.sweep.declared.failure.Failure.{Failure}
 use Rattle.mst_verify.specs.tree_judges.judged.Islands.{HasIslandsOf, IsOneOf}
 use Rattle.mst_verify.specs.tree_judges.judged.reasons.Named.{Gone, Prior}
@@ -52,8 +53,7 @@ pub record Judges (net : Net) (prior : Prior) (is_last : Bool) (lines : List Pol
 
 -- what is before a network is one with a settled outcome
 abbrev pub IsPriorNetwork : Prior → Type 0
-IsPriorNetwork None = ⊤
-IsPriorNetwork (Some prior) = IsNetwork prior.0 × IsOutcome prior.0 prior.1
+IsPriorNetwork prior = MatchOption prior.before ⊤ (λ before. IsNetwork before.0 × IsOutcome before.0 before.1)
 
 -- the outcome that a plan of these tables has
 abbrev pub plan_outcome : Net → Numbers → Plan → Outcome
@@ -69,10 +69,14 @@ abbrev pub IsPriorOf : ViewWithTrees → Net × Outcome → Type 0
 IsPriorOf c prior = IsOneOf prior.0 prior.1 c
 
 -- there is one before just where there is a view with trees, and it is one of these
-abbrev pub IsPrior : Option ViewWithTrees → Prior → Type 0
-IsPrior None None = ⊤
-IsPrior (Some c) (Some prior) = IsPriorOf c prior
-IsPrior _ _ = ⊥
+abbrev pub IsBeforeOf : Option ViewWithTrees → Option (Net × Outcome) → Type 0
+IsBeforeOf None None = ⊤
+IsBeforeOf (Some c) (Some before) = IsPriorOf c before
+IsBeforeOf _ _ = ⊥
+
+-- and these bridges are meant to leave
+abbrev pub IsPrior : Option ViewWithTrees → Leaving → Prior → Type 0
+IsPrior c leaving prior = IsBeforeOf c prior.before × (prior.leaving ≡ leaving)
 
 -- ---- lines
 -- what a line lacks in one of several networks, if it is judged there
@@ -111,6 +115,7 @@ pub record IsJudging (net : Net) (numbers : Numbers) (j : Judging) : Type 0 wher
   pub classes : AreClasses j.plan.now.view j.before.now.classes
   pub before : IsBefore net j.before.now
   pub islands : HasIslandsOf j.carriage.now numbers j.before.now
+  pub same : AreInSame (sets_of j.leaving.now) j.before.now.classes
 
 -- ---- reasons
 -- why what is expected doesn't hold in a network: for no reason, where nothing is
@@ -135,11 +140,11 @@ sitting_of net numbers j prior = record { net = net; outcome = plan_outcome net 
 
 -- so for whatever is before, of which that is known by which lines are judged
 abbrev pub OfSittings : Net → Numbers → Judging → (Sitting → Type 0) → Type 0
-OfSittings net numbers j Says = (prior : Prior) → IsPrior (option_map (λ c. c.now) j.prior) prior → Says (sitting_of net numbers j prior)
+OfSittings net numbers j Says = (prior : Prior) → IsPrior (option_map (λ c. c.now) j.prior) j.leaving.now prior → Says (sitting_of net numbers j prior)
 
 -- what a line expects there in a place
 abbrev pub expected_of : Sitting → PolicyLine → Option Failure → Option Expectation
-expected_of s line place = if is_judged_at s.is_last line then expected_at s.net (is_some s.prior) line place else None
+expected_of s line place = if is_judged_at s.is_last line then expected_at s.net (is_some s.prior.before) line place else None
 
 -- why it doesn't hold
 abbrev pub AreReasonsOf : Sitting → PolicyLine → Option Failure → List Reason → Type 0

@@ -6,6 +6,7 @@ ghost use Rattle.mst_net.specs.tables.Tables.{Net};
 ghost use Rattle.mst_graph.specs.Lists.{has_any};
 ghost use Rattle.mst_forest.specs.Outcome.{IsOutcome};
 ghost use Rattle.mst_forest.specs.Settled.{outcome_of};
+ghost use Rattle.mst_policy.specs.Leaving.{sets_of};
 ghost use Rattle.mst_policy.specs.declared.expectation.Expectation.{Expectation as ExpectationOf};
 ghost use Rattle.mst_sweeping.specs.plan.Plan.{IsPlan};
 ghost use Rattle.mst_verdict.specs.Verifying.{AreLacking, AreReasonsEach, AreReasonsIf, AreReasonsThere, FindsAt, FoundIn, HaveLans, IsCarriage, IsJudging, IsOpened, IsPrior, Judges, OfSittings, expected_by, expected_in, found_of, is_asked_by, lacks_in, plan_outcome};
@@ -15,6 +16,7 @@ ghost use Rattle.mst_telling.specs.Judged.{AreLinesJudged, line_found, reasons_i
 ghost use Rattle.mst_telling.specs.Told.{has_reason, is_due as is_due_of};
 ghost use Rattle.mst_verify.specs.tree_judges.judged.Islands.{AreKept, HasIslandsOf, IsBeside, IsKeptOf};
 ghost use Rattle.mst_verify.specs.tree_judges.judged.reasons.Judged.{gone_of, places};
+ghost use Rattle.mst_verify.specs.tree_judges.judged.reasons.sweep.vlan.classes.Classes.{AreInSame};
 ghost use Rattle.mst_verify.specs.tree_judges.judged.reasons.Named.{Prior as PriorOf};
 ghost use Rattle.mst_verify.specs.tree_judges.judged.reasons.Over.{HasItsLan};
 ghost use Rattle.mst_verify.specs.tree_judges.judged.Seen.{IsBefore};
@@ -23,7 +25,7 @@ use crate::laws::line_where_unkept;
 use mst_forest::Settled;
 use mst_ids::{Name, Vid, VidSet};
 use mst_net::Network;
-use mst_policy::{Expectation, PolicyLine, Promise};
+use mst_policy::{Expectation, Leaving, PolicyLine, Promise};
 use mst_sweeping::{Carriage, Failure, Plan, failures, trees_failed, view, without_failure};
 use mst_telling::{Finding, Judgement, is_looked_at, missing_in};
 use mst_verify::{Before, Beside, Homes, Judged, Missing, Prior, Reason, reasons};
@@ -37,8 +39,9 @@ pub(crate) struct Judging<'a> {
     pub(crate) plan: &'a Plan,
     pub(crate) carriage: &'a Carriage<'a>,
     pub(crate) before: &'a Before,
-    /// What carries the VIDs of the network before, if there is one.
+    /// What carries the VIDs of the network before, if there is one, and which bridges are meant to leave which VIDs.
     pub(crate) prior: Option<&'a Carriage<'a>>,
+    pub(crate) leaving: &'a Leaving<'a>,
     /// The lines, and of each what it names and the network hasn't.
     pub(crate) lines: &'a [PolicyLine],
     pub(crate) missing: &'a [Option<Missing>],
@@ -124,6 +127,7 @@ fn add_asked(expectation: &Expectation, set: &mut VidSet) {
     match expectation {
         Expectation::Reach { vids, .. } => add_all(vids, set),
         Expectation::Apart { vids, .. } => add_all(vids, set),
+        Expectation::Leaves { vids, .. } => add_all(vids, set),
         Expectation::Together { vids, .. } => add_all(vids, set),
         _ => {}
     }
@@ -191,7 +195,8 @@ fn line_reasons(
     requires kept { AreKept judged.now.plan.now judged.now.before.now judged.now.homes.now }
     requires lan { (e : ExpectationOf) → expected_by judging.now line.now missing.now place.now ≡ Some e → HasItsLan judged.now.plan.now.net e }
     requires prior { MatchOption judged.now.prior ⊤ (IsBeside judged.now.plan.now) }
-    ensures { IfOk result (λ reasons. (before : Net) (prior : PriorOf) → IsBefore before judged.now.before.now → IsKeptOf prior judged.now.prior
+    requires same { MatchOption judged.now.prior ⊤ (λ prior. AreInSame (sets_of judged.now.leaving.now) prior.classes.now) }
+    ensures { IfOk result (λ reasons. (before : Net) (prior : PriorOf) → IsBefore before judged.now.before.now → IsKeptOf prior judged.now.prior judged.now.leaving.now
         → AreReasonsIf judged.now.plan.now.net (outcome_of judged.now.plan.now) before judged.now.gone prior (expected_by judging.now line.now missing.now place.now) reasons.items) }
 {
     match expected(judging, line, missing, place) {
@@ -211,8 +216,9 @@ fn judge_place(
     requires missing { length judging.now.missing.now ≡ length judging.now.lines.now }
     requires lans { (net : Net) × AreLacking net judging.now.is_last judging.now.lines.now judging.now.missing.now × HaveLans judging.now net judged.now.plan.now.net place.now }
     requires prior { MatchOption judged.now.prior ⊤ (IsBeside judged.now.plan.now) }
+    requires same { MatchOption judged.now.prior ⊤ (λ prior. AreInSame (sets_of judged.now.leaving.now) prior.classes.now) }
     ensures { IfOk result (λ all. (net before : Net) (prior : PriorOf) → AreLacking net judging.now.is_last judging.now.lines.now judging.now.missing.now → IsBefore before judged.now.before.now
-        → IsKeptOf prior judged.now.prior → AreReasonsThere judging.now net judged.now.plan.now before judged.now.gone prior place.now (reasons_in all)) }
+        → IsKeptOf prior judged.now.prior judged.now.leaving.now → AreReasonsThere judging.now net judged.now.plan.now before judged.now.gone prior place.now (reasons_in all)) }
 {
     let mut all = Vec::new(alloc);
     for n in 0..judging.lines.len() {
@@ -263,7 +269,8 @@ fn judge_now(
     requires lacking { AreLacking plan.now.net judging.now.is_last judging.now.lines.now judging.now.missing.now }
     requires before { IsBefore plan.now.net judging.now.before.now }
     requires prior { MatchOption prior ⊤ (IsBeside plan.now) }
-    ensures { IfOk result (λ all. (before : PriorOf) → IsKeptOf before prior.entry → AreReasonsThere judging.now plan.now.net plan.now plan.now.net None before None (reasons_in all)) }
+    requires same { MatchOption prior ⊤ (λ kept. AreInSame (sets_of judging.now.leaving.now) kept.classes.now) }
+    ensures { IfOk result (λ all. (before : PriorOf) → IsKeptOf before prior.entry judging.now.leaving.now → AreReasonsThere judging.now plan.now.net plan.now plan.now.net None before None (reasons_in all)) }
 {
     let judged = Judged {
         plan,
@@ -271,6 +278,7 @@ fn judge_now(
         homes,
         gone: None,
         prior,
+        leaving: judging.leaving,
     };
     judge_place(alloc, judging, &judged, &None)
 }
@@ -292,7 +300,7 @@ fn reasons_now(
         None => judge_now(alloc, judging, &plan, &homes, None),
         Some(old) => {
             let back = looking_back(judging);
-            let beside = Beside::new(alloc, old, judging.carriage, &plan, &back)?;
+            let beside = Beside::new(alloc, old, judging.carriage, &plan, &back, judging.leaving)?;
             let prior = Prior::beside(old, &plan, &beside);
             judge_now(alloc, judging, &plan, &homes, Some(prior))
         }
@@ -358,6 +366,7 @@ fn reasons_failed(
         homes: &homes,
         gone: gone(failure),
         prior: Some(prior),
+        leaving: judging.leaving,
     };
     judge_place(alloc, judging, &judged, &Some(*failure))
 }
@@ -426,25 +435,27 @@ fn opening(
     plan: &Plan,
     carriage: &Carriage,
     lines: &[PolicyLine],
-    is_last: bool,
+    asking: &Asking,
 ) -> Result<Opened, AllocError>
     requires of { IsPlan network.now.net network.now.numbers plan.now }
     requires carriage { IsCarriage plan.now carriage.now }
-    ensures opened { IfOk result (IsOpened network.now.net plan.now is_last lines.now) }
+    ensures opened { IfOk result (IsOpened network.now.net plan.now asking.now.is_last lines.now) }
+    ensures same { IfOk result (λ opened. AreInSame (sets_of asking.now.leaving.now) opened.before.classes) }
     ensures islands { IfOk result (λ opened. HasIslandsOf carriage.now network.now.numbers opened.before) }
 {
     let settled = Settled::new(network, &plan.view, &plan.forest);
-    let missing = all_lacking(alloc, &settled, lines, is_last)?;
-    let asked = every_asked(lines, missing.as_slice(), is_last);
-    let before = Before::with_islands(alloc, &settled, carriage, &asked)?;
+    let missing = all_lacking(alloc, &settled, lines, asking.is_last)?;
+    let asked = every_asked(lines, missing.as_slice(), asking.is_last);
+    let before = Before::with_islands(alloc, &settled, carriage, &asked, asking.leaving)?;
     Ok(Opened { before, missing })
 }
 
 /// How lines are judged in a network.
 #[derive(Clone, Copy)]
-pub(crate) struct Asking<'a> {
-    /// What carries the VIDs of the network before, if there is one.
+pub(crate) struct Asking<'a, 'b> {
+    /// What carries the VIDs of the network before, if there is one, and which bridges are meant to leave which VIDs.
     pub(crate) prior: Option<&'a Carriage<'a>>,
+    pub(crate) leaving: &'a Leaving<'b>,
     /// Promises of the last of several networks are judged.
     pub(crate) is_last: bool,
 }
@@ -460,16 +471,17 @@ pub(crate) fn judge_lines(
 ) -> Result<Judgement, AllocError>
     requires of { IsPlan network.now.net network.now.numbers plan.now }
     requires failures { failures.now ≡ failures_of network.now.net }
-    ensures { IfOk result (λ judgement. (prior : PriorOf) → IsPrior (option_map (λ c. c.now) asking.now.prior) prior
+    ensures { IfOk result (λ judgement. (prior : PriorOf) → IsPrior (option_map (λ c. c.now) asking.now.prior) asking.now.leaving.now prior
         → AreLinesJudged network.now.net (plan_outcome network.now.net network.now.numbers plan.now) prior asking.now.is_last lines.now judgement) }
 {
     let carriage = Carriage::new(alloc, &plan.view, &plan.forest)?;
-    let opened = opening(alloc, network, plan, &carriage, lines, asking.is_last)?;
+    let opened = opening(alloc, network, plan, &carriage, lines, asking)?;
     let judging = Judging {
         plan,
         carriage: &carriage,
         before: &opened.before,
         prior: asking.prior,
+        leaving: asking.leaving,
         lines,
         missing: opened.missing.as_slice(),
         is_last: asking.is_last,
@@ -481,9 +493,9 @@ pub(crate) fn judge_lines(
     })
 }
 
-/// Judges the lines of a policy in one of several networks, by its plan, and by what carries VIDs in the network before, if there is
-/// one: of each line what it lacks there, or why it isn't kept in the network itself, and in that of each failure for which it asks.
-/// `AllocError`: memory was wanted and refused.
+/// Judges the lines of a policy in one of several networks, by its plan, by what carries VIDs in the network before, if there is one, and by
+/// which bridges are meant to leave which VIDs: of each line what it lacks there, or why it isn't kept in the network itself, and in that of each
+/// failure for which it asks. `AllocError`: memory was wanted and refused.
 pub fn judge(
     alloc: Global,
     network: &Network,
@@ -491,15 +503,20 @@ pub fn judge(
     lines: &[PolicyLine],
     is_last: bool,
     prior: Option<&Carriage>,
+    leaving: &Leaving,
 ) -> Result<Judgement, AllocError>
     requires { IsPlan network.now.net network.now.numbers plan.now }
-    ensures { IfOk result (λ judgement. (before : PriorOf) → IsPrior (option_map (λ c. c.now) prior.entry) before → Judges network.now.net before is_last lines.now (told_in lines.now judgement)) }
+    ensures { IfOk result (λ judgement. (before : PriorOf) → IsPrior (option_map (λ c. c.now) prior.entry) leaving.now before → Judges network.now.net before is_last lines.now (told_in lines.now judgement)) }
 {
     line_where_unkept();
     if lines.is_empty() {
         return Ok(Judgement::none(alloc));
     }
     let failures = failures(alloc, &plan.view)?;
-    let asking = Asking { prior, is_last };
+    let asking = Asking {
+        prior,
+        leaving,
+        is_last,
+    };
     judge_lines(alloc, network, plan, lines, failures.as_slice(), &asking)
 }

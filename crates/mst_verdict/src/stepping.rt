@@ -14,7 +14,7 @@ use crate::judging::judge;
 use crate::setting::make_lines;
 use mst_change::{ChangeStep, StepLine};
 use mst_net::Network;
-use mst_policy::{Policy, PolicyLine};
+use mst_policy::{Leaving, Policy, PolicyLine};
 use mst_rows::Rows;
 use mst_sweeping::{
     Carriage, Deed, Plan, Plugs, PolicyCounts, Step, Stepped, Walked, plan_beside, put_between,
@@ -50,12 +50,14 @@ pub(crate) struct Taken {
     pub(crate) breaks: bool,
 }
 
-/// By what the networks of a change are judged: what carries VIDs in the first, the number of the last, and the lines of the policy.
+/// By what the networks of a change are judged: what carries VIDs in the first, the number of the last, the lines of the policy, and which
+/// bridges these mean to leave which VIDs.
 #[derive(Clone, Copy)]
-pub(crate) struct Watching<'a> {
+pub(crate) struct Watching<'a, 'b> {
     pub(crate) first: &'a Carriage<'a>,
     pub(crate) last: u64,
     pub(crate) lines: &'a [PolicyLine],
+    pub(crate) leaving: &'a Leaving<'b>,
 }
 
 /// How things stand behind a step: the plan of the network, what the policy tells of it, and what is counted of the step.
@@ -150,10 +152,26 @@ fn judge_at(
 {
     let is_last = number == watching.last;
     if number == 0 {
-        judge(alloc, network, plan, watching.lines, is_last, None)
+        judge(
+            alloc,
+            network,
+            plan,
+            watching.lines,
+            is_last,
+            None,
+            watching.leaving,
+        )
     } else {
         let prior = Some(watching.first);
-        judge(alloc, network, plan, watching.lines, is_last, prior)
+        judge(
+            alloc,
+            network,
+            plan,
+            watching.lines,
+            is_last,
+            prior,
+            watching.leaving,
+        )
     }
 }
 
@@ -181,7 +199,7 @@ fn take_step<R: Rows>(
     let next = plan_beside(alloc, network, plan, made.regions_stand)?;
     let replugged = plugs.replugged(alloc, network)?;
     let deed = Deed::Step(step_of_lines(number, lines));
-    let does = put_between(alloc, &deed, plan, &next, &replugged, out)?;
+    let does = put_between(alloc, &deed, plan, &next, &replugged, watching.leaving, out)?;
     let now = judge_at(alloc, network, &next, number, watching)?;
     put_judged(alloc, number, watching.lines, before, &now, out)?;
     let taken = Taken {
@@ -290,10 +308,12 @@ fn watch_steps<R: Rows>(
     ensures plan { IfOk result (λ behind. IsPlan network.new.net network.new.numbers (unwrap_or behind.0 first.now)) }
 {
     let carriage = Carriage::new(alloc, &first.view, &first.forest)?;
+    let leaving = Leaving::of(alloc, lines)?;
     let watching = Watching {
         first: &carriage,
         last: steps.len() as u64,
         lines,
+        leaving: &leaving,
     };
     let start = judge_at(alloc, network, first, 0, &watching)?;
     put_start(alloc, lines, &start, out)?;

@@ -7,7 +7,7 @@ ghost use Rattle.mst_telling.specs.Judged.{Puts, counts_of};
 use crate::judging::{Asking, judge_lines};
 use crate::laws::told_where_unkept;
 use mst_net::Network;
-use mst_policy::PolicyLine;
+use mst_policy::{Leaving, PolicyLine};
 use mst_rows::Rows;
 use mst_sweeping::{Plan, failures};
 use mst_telling::{Verdict, put_verdict};
@@ -28,8 +28,10 @@ pub fn verify_network<R: Rows>(
 {
     told_where_unkept();
     let failures = failures(alloc, &plan.view)?;
+    let leaving = Leaving::none(alloc);
     let asking = Asking {
         prior: None,
+        leaving: &leaving,
         is_last: true,
     };
     let judgement = judge_lines(alloc, network, plan, lines, failures.as_slice(), &asking)?;

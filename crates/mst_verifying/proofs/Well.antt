@@ -18,6 +18,7 @@ use Rattle.mst_tool.specs.engine.Steps.{left_by}
 use Rattle.mst_tool.specs.engine.print.declared.form.Form.{Form}
 use Rattle.mst_tool.specs.engine.report.State.{empty_state}
 use Rattle.mst_verdict.specs.reasons.Judged.{IsKept}
+use Rattle.mst_verdict.specs.reasons.Named.{nothing_before}
 use Rattle.mst_verdict.specs.telling.Told.{judged}
 use Rattle.mst_verdict.specs.telling.Verified.{IsToldWhereBroken}
 use Rattle.mst_verifying.specs.Verify.{Verifies}
@@ -37,11 +38,11 @@ count_none rows told none rest =
     ap (λ (rows : List Row). count_by has_any (rows ∷ told)) none ∙ here
 
 module _ (net : Net) (o : Outcome) where
-  kept_one : (rows : List Row) (promise : Option Promise) → MatchOption promise (rows ≡ []) (λ p. (rows ≡ []) ↔ IsKept net o None p) → rows ≡ [] → MatchOption promise ⊤ (IsKept net o None)
+  kept_one : (rows : List Row) (promise : Option Promise) → MatchOption promise (rows ≡ []) (λ p. (rows ≡ []) ↔ IsKept net o nothing_before p) → rows ≡ [] → MatchOption promise ⊤ (IsKept net o nothing_before)
   kept_one rows None told none = tt
   kept_one rows (Some promise) told none = told.0 none
 
-  none_of : (rows : List Row) (promise : Option Promise) → MatchOption promise (rows ≡ []) (λ p. (rows ≡ []) ↔ IsKept net o None p) → MatchOption promise ⊤ (IsKept net o None) → rows ≡ []
+  none_of : (rows : List Row) (promise : Option Promise) → MatchOption promise (rows ≡ []) (λ p. (rows ≡ []) ↔ IsKept net o nothing_before p) → MatchOption promise ⊤ (IsKept net o nothing_before) → rows ≡ []
   none_of rows None told kept = told
   none_of rows (Some promise) told kept = told.1 kept
 

@@ -6,12 +6,13 @@ use Rattle.mst_tables.specs.Tables.{Net}
 use Rattle.mst_forest.specs.Outcome.{Outcome}
 use Rattle.mst_tool.specs.engine.Steps.{Step, refusals_of, lacks_of}
 use Rattle.mst_verdict.specs.reasons.Judged.{IsKept}
+use Rattle.mst_verdict.specs.reasons.Named.{nothing_before}
 use Rattle.mst_verdict.specs.telling.Told.{judged}
 use Rattle.mst_verdict.specs.telling.Verified.{Counts}
 
 -- the promise of a line is kept, if the line is judged
 abbrev pub IsLineKept : Net → Outcome → PolicyLine → Type 0
-IsLineKept net o line = MatchOption (judged net line) ⊤ (IsKept net o None)
+IsLineKept net o line = MatchOption (judged net line) ⊤ (IsKept net o nothing_before)
 
 -- No line of the script is refused, be it for want of memory, no line of the policy is, and a network with this outcome keeps each promise
 pub record IsWell (net : Net) (o : Outcome) (steps : List Step) (lines : List PolicyLine) (counts : Counts) : Type 0 where

@@ -16,6 +16,7 @@ find_all-requires-clause-judging c =
       classes = opened.classes;
       before = opened.before;
       islands = c.in_ok-opened.ensures.islands;
+      same = c.in_ok-opened.ensures.same;
     }
 
 pub returns : goal.returns

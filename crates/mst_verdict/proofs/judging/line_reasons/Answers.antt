@@ -14,7 +14,7 @@ returns-in-Some c =
     let is : Some c.in-Some.expectation.now ≡ expected_by c.args.judging.now c.args.line.now c.args.missing.now c.args.place.now =
     ap (option_map (λ (e : Bor ExpectationOf). e.now)) (sym c.in-Some.is) ∙ c.expected.ensures in
     subst
-    (λ expected. IfOk c.reasons.result (λ reasons. (before : Net) (prior : Prior) → IsBefore before judged.before.now → IsKeptOf prior judged.prior
+    (λ expected. IfOk c.reasons.result (λ reasons. (before : Net) (prior : Prior) → IsBefore before judged.before.now → IsKeptOf prior judged.prior judged.leaving.now
     → AreReasonsIf judged.plan.now.net (outcome_of judged.plan.now) before judged.gone prior expected reasons.items))
     is
     c.reasons.ensures

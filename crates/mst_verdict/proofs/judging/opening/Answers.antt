@@ -8,7 +8,7 @@ use Rattle.mst_verdict.proofs.Judgements.{as_many}
 use Rattle.mst_verdict.proofs.judging.opening.Goals as goal
 
 pub every_asked-asked-requires : goal.every_asked-asked-requires
-every_asked-asked-requires c = ap length c.as_slice.ensures.value ∙ as_many c.new-settled.result.net c.args.is_last c.args.lines.now c.in_ok-missing.missing.items c.in_ok-missing.ensures
+every_asked-asked-requires c = ap length c.as_slice.ensures.value ∙ as_many c.new-settled.result.net c.args.asking.now.is_last c.args.lines.now c.in_ok-missing.missing.items c.in_ok-missing.ensures
 
 pub with_islands-requires : goal.with_islands-requires
 with_islands-requires c = subst (λ (s : SettledNet). IsOfPlan s c.args.carriage.now) (sym c.new-settled.ensures) c.requires.carriage
@@ -20,7 +20,7 @@ pub returns-clause-opened : goal.returns-clause-opened
 returns-clause-opened c =
     let e = c.new-settled.ensures in
     record {
-      lacking = subst (λ (s : SettledNet). AreLacking s.net c.args.is_last c.args.lines.now c.in_ok-missing.missing.items) e c.in_ok-missing.ensures;
+      lacking = subst (λ (s : SettledNet). AreLacking s.net c.args.asking.now.is_last c.args.lines.now c.in_ok-missing.missing.items) e c.in_ok-missing.ensures;
       classes = subst (λ (s : SettledNet). AreClasses s.view c.in_ok-before.before.classes) e c.in_ok-before.ensures.classes;
       before = subst (λ (s : SettledNet). IsBefore s.net c.in_ok-before.before) e c.in_ok-before.ensures.ports;
     }

@@ -2,7 +2,8 @@ use Rattle.std.proofs.Common.{◌≡◌, ◌∷◌, [], Ok, Some, subst, sym}
 use Rattle.std.specs.List.{AllZip}
 use Rattle.std.proofs.lemmas.Result.{IfOk-weaker}
 use Rattle.mst_sweeping.specs.sweep.vlan.Carried.{ViewWithTrees}
-use Rattle.mst_sweeping.specs.sweep.vlan.classes.Classes.{AreClasses}
+use Rattle.mst_policy.specs.Leaving.{sets_of}
+use Rattle.mst_sweeping.specs.sweep.vlan.classes.Classes.{AreClasses, AreInSame}
 use Rattle.mst_net.specs.tables.After.{after}
 use Rattle.mst_net.specs.tables.Contents.{Tables}
 use Rattle.mst_sweeping.specs.sweep.Failures.{edit_of}
@@ -12,6 +13,7 @@ use Rattle.mst_forest.specs.Forest.{IsForest}
 use Rattle.mst_forest.specs.Settled.{SettledNet, outcome_of}
 use Rattle.mst_telling.specs.Judged.{reasons_in}
 use Rattle.mst_verify.specs.tree_judges.judged.Islands.{HasIslandsOf, IsOneOf}
+use Rattle.mst_verify.specs.tree_judges.judged.reasons.Named.{with_before}
 use Rattle.mst_verdict.specs.Verifying.{AreReasonsIf, HaveLans, expected_in, plan_outcome}
 use Rattle.mst_verdict.proofs.Judgements.{as_many, classes_stay, failed_ahead, failed_plan, have_lans_failed, lines_after, prior_of}
 use Rattle.mst_verdict.proofs.judging.reasons_failed.Goals as goal
@@ -66,6 +68,9 @@ judge_place-requires-clause-lans c =
           (sym (failed_plan f c.edit-edit.result c.args.network.now c.edit-edit.ensures c.trees_failed.new.seen c.in_ok-trees.trees c.ahead-plan.result c.ahead-plan.ensures)) (have_lans_failed j net f (Some f)),
     )
 
+pub judge_place-requires-clause-same : goal.judge_place-requires-clause-same
+judge_place-requires-clause-same c = subst (AreInSame (sets_of c.args.judging.now.leaving.now)) (sym c.failed-prior.ensures.classes) c.requires.judging.same
+
 pub returns-clause-reasons : goal.returns-clause-reasons
 returns-clause-reasons c =
     let old = c.args.network.now in
@@ -80,6 +85,6 @@ returns-clause-reasons c =
     subst (λ (v : ViewWithTrees). IsOneOf old.net o v) (sym c.failed-prior.ensures.old) (prior_of old.net old.numbers j.plan.now j.carriage.now c.requires.of c.requires.judging.carriage) in
     IfOk-weaker c.judge_place.result _ _
     (λ all said prior is. lines_after j old.net old.numbers prior is s.net (outcome_of s) f made c.known.ensures.is_outcome j.lines.now (reasons_in all)
-    (subst (λ lost. AllZip (λ line those. AreReasonsIf s.net (outcome_of s) old.net lost (Some (old.net, o)) (expected_in j old.net line (Some f)) those) j.lines.now (reasons_in all)) c.gone.ensures
-    (said old.net old.net (Some (old.net, o)) c.requires.judging.lacking c.requires.judging.before one)))
+    (subst (λ lost. AllZip (λ line those. AreReasonsIf s.net (outcome_of s) old.net lost (with_before old.net o prior) (expected_in j old.net line (Some f)) those) j.lines.now (reasons_in all)) c.gone.ensures
+    (said old.net old.net (with_before old.net o prior) c.requires.judging.lacking c.requires.judging.before (one, is.1))))
     c.judge_place.ensures

@@ -1,6 +1,7 @@
 use Rattle.std.proofs.Common.{None, subst, sym}
 use Rattle.std.proofs.lemmas.Result.{IfOk-weaker}
-use Rattle.mst_sweeping.specs.sweep.vlan.classes.Classes.{AreClasses}
+use Rattle.mst_policy.specs.Leaving.{sets_of}
+use Rattle.mst_sweeping.specs.sweep.vlan.classes.Classes.{AreClasses, AreInSame}
 use Rattle.mst_forest.specs.Settled.{SettledNet}
 use Rattle.mst_telling.specs.Judged.{reasons_in}
 use Rattle.mst_verify.specs.tree_judges.judged.Islands.{HasIslandsOf, IsOfPlan}
@@ -41,13 +42,19 @@ judge_now-requires-in-Some-clause-before c = subst (λ (s : SettledNet). IsBefor
 pub judge_now-requires-in-Some-clause-prior : goal.judge_now-requires-in-Some-clause-prior
 judge_now-requires-in-Some-clause-prior c = c.beside-prior.ensures.beside
 
+pub judge_now-requires-clause-same : goal.judge_now-requires-clause-same
+judge_now-requires-clause-same c = tt
+
+pub judge_now-requires-in-Some-clause-same : goal.judge_now-requires-in-Some-clause-same
+judge_now-requires-in-Some-clause-same c = subst (AreInSame (sets_of c.args.judging.now.leaving.now)) (sym c.beside-prior.ensures.classes) c.in_ok-beside-in-Some.ensures.same
+
 pub returns-in-None : goal.returns-in-None
 returns-in-None c =
     let t = c.args.network.now in
     let j = c.args.judging.now in
     IfOk-weaker c.judge_now.result _ _
     (λ all said prior is. lines_now j t.net t.numbers prior is j.lines.now (reasons_in all)
-    (subst (λ (s : SettledNet). AreReasonsThere j s.net s s.net None prior None (reasons_in all)) c.new-plan.ensures (said prior (not_kept j.prior prior c.in-None.is is))))
+    (subst (λ (s : SettledNet). AreReasonsThere j s.net s s.net None prior None (reasons_in all)) c.new-plan.ensures (said prior (not_kept j.prior j.leaving.now prior c.in-None.is is))))
     c.judge_now.ensures
 
 pub returns : goal.returns
@@ -57,5 +64,5 @@ returns c =
     IfOk-weaker c.judge_now-in-Some.result _ _
     (λ all said prior is. lines_now j t.net t.numbers prior is j.lines.now (reasons_in all)
     (subst (λ (s : SettledNet). AreReasonsThere j s.net s s.net None prior None (reasons_in all)) c.new-plan.ensures
-    (said prior (kept_of j.prior c.in-Some.old c.beside-prior.result prior c.in-Some.is c.beside-prior.ensures.old is))))
+    (said prior (kept_of j.prior c.in-Some.old c.beside-prior.result j.leaving.now prior c.in-Some.is c.beside-prior.ensures.old is))))
     c.judge_now-in-Some.ensures

@@ -1,5 +1,6 @@
-use Rattle.std.proofs.Common.{◌≡◌, None, true, subst, sym}
+use Rattle.std.proofs.Common.{◌≡◌, true, subst, sym}
 use Rattle.mst_verdict.proofs.MadeNets.{makes_net}
+use Rattle.mst_verify.specs.tree_judges.judged.reasons.Named.{nothing_before}
 use Rattle.mst_telling.specs.Verified.{IsVerified}
 use Rattle.mst_verdict.proofs.OneTold.{found_same, some_found, verified_same, verified_some}
 use Rattle.mst_verdict.proofs.laws.one_verified.Goals as goal
@@ -9,7 +10,7 @@ returns-clause-some c net o lines is are =
     verified_some net o lines
     (λ line. some_found net o is are
     (makes_net net is c.networks.ensures.after)
-    None tt c.has_outcome.ensures c.reason_lists.ensures.some line)
+    nothing_before tt c.has_outcome.ensures c.reason_lists.ensures.some line)
 
 pub returns-clause-one : goal.returns-clause-one
 returns-clause-one c net o p lines n m rows other is are too x y =
@@ -17,4 +18,4 @@ returns-clause-one c net o p lines n m rows other is are too x y =
     verified_same net o lines
     (λ line. found_same net o is are
     (makes_net net is c.networks.ensures.after)
-    None c.one_outcome.ensures c.reason_lists.ensures.one line) n m rows other x (subst (λ q. IsVerified net q lines m other) (sym same) y)
+    nothing_before c.one_outcome.ensures c.reason_lists.ensures.one line) n m rows other x (subst (λ q. IsVerified net q lines m other) (sym same) y)

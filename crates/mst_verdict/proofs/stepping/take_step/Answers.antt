@@ -7,6 +7,7 @@ use Rattle.mst_sweeping.proofs.Swept.{put_then}
 use Rattle.mst_sweeping.specs.StepText.{AreStepRows}
 use Rattle.mst_sweeping.specs.declared.step.Deed.TheVariants as deed
 use Rattle.mst_sweeping.specs.declared.step.Step.{Step}
+use Rattle.mst_policy.specs.Leaving.{Leaving, leaving_of}
 use Rattle.mst_policy.specs.declared.policy.PolicyLine.{PolicyLine}
 use Rattle.mst_sweeping.specs.Sweeping.{Puts}
 use Rattle.mst_telling.specs.Judged.{told_in}
@@ -46,7 +47,8 @@ returns-clause-told g c w watching judged_before =
             is_now = after.is_outcome;
             number = refl;
             refused = refl;
-            own = subst (λ (step : Step). AreStepRows old.net before.outcome now.net after.outcome (deed.Step step) said.0 c.in_ok-does.does) c.step_of_lines.ensures said.1;
+            own = subst (λ (step : Step). AreStepRows (leaving_of w.lines) old.net before.outcome now.net after.outcome (deed.Step step) said.0 c.in_ok-does.does) c.step_of_lines.ensures
+                (subst (λ (leaving : Leaving). AreStepRows leaving old.net before.outcome now.net after.outcome (deed.Step c.step_of_lines.result) said.0 c.in_ok-does.does) watching.leaving said.1);
             judged_before = judged_before;
             judged_now = c.in_ok-now.ensures w watching;
           });

@@ -20,8 +20,8 @@ returns-clause-told g c =
     let last = told_in lines c.in_ok-behind.behind.judgement in
     let prior = prior_of old.net old.numbers c.args.first.now c.in_ok-carriage.carriage c.requires.plan c.in_ok-carriage.ensures in
     let w : Watch = watch_of old.net (plan_outcome old.net old.numbers c.args.first.now) steps lines in
-    let judged = c.in_ok-start.ensures w (record { prior = prior; last = refl; lines = refl }) in
-    let took = c.in_ok-behind.ensures.told w (record { prior = prior; last = refl; lines = refl }) refl judged in
+    let judged = c.in_ok-start.ensures w (record { prior = prior; last = refl; lines = refl; leaving = c.in_ok-leaving.ensures }) in
+    let took = c.in_ok-behind.ensures.told w (record { prior = prior; last = refl; lines = refl; leaving = c.in_ok-leaving.ensures }) refl judged in
     let first : List Row = start_rows lines start in (
       first ++ took.rows,
       record {
