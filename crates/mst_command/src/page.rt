@@ -1,9 +1,9 @@
 /// The number of this release, which `--version` prints behind the program's name.
-pub(crate) const VERSION: &str = "0.60.0";
+pub(crate) const VERSION: &str = "0.61.0";
 
 /// What `--version --json` prints: the release, the version of the lines of JSON, and the latest version of scripts.
 pub(crate) const VERSION_RECORD: &str =
-    "{\"kind\":\"version\",\"release\":\"0.60.0\",\"json\":2,\"script\":2}\n";
+    "{\"kind\":\"version\",\"release\":\"0.61.0\",\"json\":2,\"script\":2}\n";
 
 /// What stands at the end of the program's help: the commands of scripts, the exit statuses, and where all of it is said.
 pub(crate) const PAGE: &str = "\
@@ -61,13 +61,14 @@ Lines of a policy, whose promises verify looks at in the network of FILE, and in
   role TREE PORTS ROLES           each port has one of the roles
   reach VIDS NAMES                each of the VLANs joins these bridges
   apart VIDS NAMES NAMES          none of the VLANs joins a bridge of the first list with one of the second
+  leaves VIDS NAMES               none of the VLANs joins these bridges with others, and steps counts that as no cut
   together VIDS NAMES             what was joined before the failure, or before the change, stays joined
   leaf TREE NAMES                 none of them is the parent of a bridge
   depth TREE N                    no bridge has more than N parents above it
   carries L VIDS, avoids L VIDS   all of the VLANs go over the LAN, or none
   fits                            no limit binds
 Before it stands nothing, 'after lan NAMES', 'after bridge NAMES', or 'always': in the network itself and after each failure. In front
-of all may stand 'finally': steps looks at the network behind the last step alone.
+of all may stand 'finally': steps looks at the network behind the last step alone. So it does for leaves, before which nothing stands.
 NAMES are like core1,acc*, PORTS like acc1:2,dist*:*, ROLES like Root,Designated.
 
 A change, of which steps tells what it does, is a script of edits: a step is made of the lines between two blank ones, and the network
