@@ -101,6 +101,7 @@ TOO_SHORT = b"capture 2 B02 too short\n"
 # What a check prints of captures without a message.
 UNCHECKED = b"check captures 0 agree 0\n"
 # Lines of a policy that aren't read, each with its hint; and a change with two such lines, each of which is a step.
+ALONE = "leaves stands by itself, without a scope or finally; it is judged in the last network"
 PROMISES = {
     "rot 0 A": ("E01 no such expectation", "no expectation rot; root?"),
     "root 0 A B": ("E01 no such expectation", "root takes TREE B, or TREE B next C; 3 words stand here"),
@@ -116,6 +117,10 @@ PROMISES = {
     "always finally fits": ("E01 no such expectation", "no expectation finally; finally comes first"),
     "finally": ("E01 no such expectation", "finally has an expectation behind it"),
     "Finally fits": ("E01 no such expectation", "no expectation Finally; finally?"),
+    "always leaves 1 A": ("E01 no such expectation", ALONE), "finally leaves 1 A": ("E01 no such expectation", ALONE),
+    "after lan # leaves 1 A": ("E01 no such expectation", ALONE),
+    "leaves 1": ("E01 no such expectation", "leaves takes VIDS NAMES; 1 word stands here"),
+    "leaves 0 A": ("E03 bad VID or tree", "leaves VIDS NAMES: VIDS is VIDs of 1 to 4094 as in 1-9,20"),
     "finally together 1": ("E01 no such expectation", "together takes VIDS NAMES; 1 word stands here"),
 }
 POLICY = "".join(f"{line}\n" for line in PROMISES).encode()

@@ -58,6 +58,7 @@ role 0 *:* Disabled
 role 1 *:* Root
 always reach 1-4094 *
 apart 10,20 * *
+leaves 10 A*
 leaf 0 *
 depth 0 0
 always carries X 1-10

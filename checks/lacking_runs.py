@@ -140,7 +140,7 @@ def drawn_line(draws, bridges, lans):
     naming = [(f"after bridge {bridge[:4]}* ", f"root {tree} {bridge}"), (f"after lan {lan[:2]}*,{lan} ", f"carries {lan} 1"), (f"after lan {lan[:4]}* ", f"avoids {lan} 1")]
     expectation = draws.one_of([
         f"root {tree} {bridge}", f"root {tree} {bridge} next {bridges.name()}", f"region {bridges.list()}", *[f"role {tree} {bridges.ports()} Root"] * 3,
-        f"reach 1-9 {bridges.list()}", f"apart 1 {bridges.list()} {bridges.list()}", f"together 1 {bridges.list()}", f"leaf {tree} {bridges.list()}",
+        f"reach 1-9 {bridges.list()}", f"apart 1 {bridges.list()} {bridges.list()}", f"leaves 1 {bridges.list()}", f"together 1 {bridges.list()}", f"leaf {tree} {bridges.list()}",
         f"depth {tree} 9", f"carries {lan} 1", f"avoids {lan} 1", "fits", "rot 0 b1",
     ])
     return draws.one_of(["", "", "", "finally "]) + "".join(draws.one_of(naming) if draws.below(5) == 0 else (scope, expectation))

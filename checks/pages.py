@@ -805,6 +805,8 @@ def check_steps_data(program, folder, expect):
     for step, record in itertools.zip_longest(data["change"]["steps"], steps):
         expect.equal("steps: a step", {key: step[key] for key in names}, {key: record[name] for key, name in names.items()})
         expect.equal("steps: lines of a step", step["lines"].split("-"), [str(it) for it in record["lines"]])
+        expect.equal("steps: what turns", step["turns"], [[",".join(map(str, it["trees"])), ",".join(it["bridges"])] for it in records
+                                                          if (it["kind"], it.get("step")) == ("turns", record["step"])])
         expect.equal("steps: what begins anew", step["restarts"], [f"{port['bridge']}:{port['port']}" for it in records
                                                                    if (it["kind"], it.get("step")) == ("restarts", record["step"]) for port in it["ports"]])
         for word in ("moved", "cut", "joined"):

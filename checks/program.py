@@ -819,9 +819,11 @@ def steps_cases(folder):
 fails 2 now root 0 A of 2
 step 1 lines 1-1 roots 0 ports 0 moved 1-4094 cut 1-4094 joined -
 cut 1-4094 parts A B
+turns 0 B
 fails 2 now root 0 A of 1
 fails 3 now together 1 parts A B
 step 2 lines 3-3 roots 0 ports 0 moved 1-4094 cut - joined 1-4094
+turns 0 B
 fails 2 now root 0 A of 2
 mends 3
 steps 2 moving 2 cutting 1 failing 1 unkept 1
@@ -831,7 +833,7 @@ steps 2 moving 2 cutting 1 failing 1 unkept 1
     return [
         ("steps, what isn't kept before", ["steps", script, parted, "-"], b"# of both\nroot 0 B\ntogether 1 *\n", 1, told, b""),
         ("steps, of the end alone", ["steps", script, parted, "-"], b"finally root 0 A\nfinally together 1 *\n", 1,
-         b"".join(line for line in told.splitlines(keepends=True) if line[:4] in (b"step", b"cut ")).replace(b"failing 1 unkept 1", b"failing 0 unkept 0"), b""),
+         b"".join(line for line in told.splitlines(keepends=True) if line[:4] in (b"step", b"cut ", b"turn")).replace(b"failing 1 unkept 1", b"failing 0 unkept 0"), b""),
         ("steps with an empty policy", ["steps", script, os.devnull, "-"], b"", 1,
          b"policy 0 E17 nothing to judge\nsteps 0 moving 0 cutting 0 failing 0 unkept 0\n", b""),
         ("steps with an empty policy in JSON", ["steps", "--json", script, os.devnull, "-"], b"", 1, Json({"query": "steps", "records": records}), b""),

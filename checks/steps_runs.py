@@ -123,6 +123,26 @@ def restarts_told(old, new):
     return [f"restarts {','.join(names)}"] if names else []
 
 
+def ways_out(text, tree):
+    """Of each bridge that is on and has a tree the ports that lead out of it there, each with its LAN."""
+    ways = {bridge: set() for bridge, entry in text.trees[tree].bridges.items() if entry}
+    for (bridge, number), port in text.trees[tree].ports.items():
+        if port["role"] in ("Root", "Master"):
+            ways[bridge].add((number, port["lan"]))
+    return ways
+
+
+def turns_told(old, new):
+    """The bridges whose way out of a tree is another one, each list of them with its trees, by the least."""
+    told = {}
+    for tree in sorted(old.trees.keys() & new.trees.keys()):
+        before, after = ways_out(old, tree), ways_out(new, tree)
+        turned = ",".join(sorted(it for it in before.keys() & after.keys() if before[it] != after[it]))
+        if turned:
+            told.setdefault(turned, []).append(str(tree))
+    return [f"turns {','.join(trees)} {bridges}" for bridges, trees in told.items()]
+
+
 # ---- a policy
 
 
@@ -186,7 +206,7 @@ def wanted_of(program, script, change, policy):
         new = sketch.text_of(program, made)
         lines += [f"change {it} {refused[it][0]}" for it in numbers if it in refused]
         told, moves, cuts = step_lines(number, numbers, old, new)
-        lines += [*told, *restarts_told(old, new)]
+        lines += [*told, *turns_told(old, new), *restarts_told(old, new)]
         is_broken = False
         if policy is not None:
             now = unkept(program, sketch.edits_of(made), new, first, number == len(steps))
@@ -288,15 +308,19 @@ CABLES = [
 ]
 
 DRAIN = """step 1 lines 2-2 roots - ports 4 moved 1-4094 cut - joined -
+turns 0,1 acc1
 step 2 lines 4-4 roots - ports 4 moved 1-4094 cut - joined -
+turns 0,1 acc2
 step 3 lines 7-8 roots - ports 0 moved - cut - joined -
 step 4 lines 10-10 roots - ports 0 moved - cut - joined -
 """
 WORSE = """step 1 lines 2-2 roots - ports 0 moved 1-9,11-19,21-4094 cut 1-9,11-19,21-4094 joined -
 cut 1-9,11-19,21-4094 parts acc1 acc2,core1,core2,dist1,dist2
 step 2 lines 4-4 roots - ports 4 moved 1-4094 cut - joined 1-9,11-19,21-4094
+turns 0,1 acc1
 change 8 E04 no such bridge
 step 3 lines 6-8 roots 0 ports 6 moved 1-9,11-19,21-29,31-39,41-4094 cut - joined -
+turns 0 core1,core2,dist1,dist2
 fails 2 now root 0 core2 of 6
 steps 3 moving 3 cutting 1 failing 1 unkept 1
 """

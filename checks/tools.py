@@ -1,11 +1,12 @@
 #!/usr/bin/env python3
-"""Tries the tools that search and translate beside the program, on drawn networks: order.py against all orders of small changes, promises.py
+"""Tries the tools that search and translate beside the program, on drawn networks: order.py against all orders of small changes, night.py by other words of the
+program, promises.py
 by `verify`, export.py by what importers read again, ci.py by what `verify` prints, lacking.py by what it says of single items, parallel.py by
 what one process prints, colour.py by the same without colours; and what each prints of the samples and of wrong words.
 
 usage: tools.py PROGRAM
 
-Each of order_runs.py, promises_runs.py, export_runs.py, ci_runs.py, lacking_runs.py, parallel_runs.py and colour_runs.py can be called alone
+Each of order_runs.py, night_runs.py, promises_runs.py, export_runs.py, ci_runs.py, lacking_runs.py, parallel_runs.py and colour_runs.py can be called alone
 for more networks. It takes about a minute and a half of a processor. The exit status is 1 where something differs.
 """
 
@@ -25,6 +26,7 @@ import colour_runs  # noqa: E402
 import export_runs  # noqa: E402
 import lacking_runs  # noqa: E402
 import mstplan  # noqa: E402
+import night_runs  # noqa: E402
 import order_runs  # noqa: E402
 import parallel_runs  # noqa: E402
 import promises_runs  # noqa: E402
@@ -50,6 +52,15 @@ CASES = [
     ("order.py", [CAMPUS, CHANGE], 2, ""),
     ("order.py", [CAMPUS, CHANGE, ABSENT], 3, ""),
     ("order.py", ["-", "-", KEEP], 3, ""),
+    ("night.py", [CAMPUS, CHANGE], 0, "  risk bridge dist2 cuts 1-4094 off acc1 acc2"),
+    ("night.py", [CAMPUS, CHANGE], 0, "  turns 0,1 acc1"),
+    ("night.py", [CAMPUS, WORSE, KEEP], 1, "  breaks 2 now root 0 core2 of 6"),
+    ("night.py", [CAMPUS, CHANGE, "--to", "cisco", "--interface", "Gi1/0/{port}"], 0, "  type  spanning-tree mst 0 cost 200000"),
+    ("night.py", [CAMPUS, CHANGE, "--to", "junos"], 2, ""),
+    ("night.py", [CAMPUS, NONE], 0, ""),
+    ("night.py", [CAMPUS], 2, ""),
+    ("night.py", [CAMPUS, ABSENT], 3, ""),
+    ("night.py", ["-", "-"], 3, ""),
     ("promises.py", [CAMPUS], 0, "always reach 1-4094 *"),
     ("promises.py", [CAMPUS, "--trees", "1"], 0, "# 2 more trees have no lines of their own: --trees 3 has them"),
     ("promises.py", [CHANGE], 1, ""),
@@ -97,11 +108,11 @@ def faults_of_case(program, tool, words, status, line):
 
 def faults_of_cases(program):
     """What is wrong with all of them, with a program that isn't there, and with the pages."""
-    absent = [("order.py", [CAMPUS, CHANGE, KEEP]), ("promises.py", [CAMPUS]), ("export.py", [CAMPUS, CHANGED, "--to", "ovs"])]
+    absent = [("order.py", [CAMPUS, CHANGE, KEEP]), ("night.py", [CAMPUS, CHANGE]), ("promises.py", [CAMPUS]), ("export.py", [CAMPUS, CHANGED, "--to", "ovs"])]
     absent += [("lacking.py", ["verify", CAMPUS, KEEP]), ("lacking.py", ["summary", CAMPUS])]
     absent += [("parallel.py", ["verify", CAMPUS, KEEP]), ("parallel.py", ["sweep", CAMPUS]), ("parallel.py", ["summary", CAMPUS])]
     calls = [(program, *it) for it in CASES] + [(ABSENT, tool, words, 3, "") for tool, words in absent]
-    calls += [(program, tool, ["--help"], 0, "") for tool in ("order.py", "promises.py", "export.py", "ci.py", "lacking.py", "parallel.py", "colour.py")]
+    calls += [(program, tool, ["--help"], 0, "") for tool in ("order.py", "night.py", "promises.py", "export.py", "ci.py", "lacking.py", "parallel.py", "colour.py")]
     with concurrent.futures.ThreadPoolExecutor(os.cpu_count()) as pool:
         return list(itertools.chain.from_iterable(pool.map(lambda it: faults_of_case(*it), calls)))
 
@@ -169,7 +180,7 @@ def main():
         ("words", faults_of_cases),
         ("names of ports", faults_of_names),
         *((f"{its.IN_THE_GATE} networks: {name}", lambda program, its=its: its.check(program, its.IN_THE_GATE))
-          for name, its in (("order.py", order_runs), ("promises.py", promises_runs), ("export.py", export_runs), ("ci.py", ci_runs), ("lacking.py", lacking_runs),
+          for name, its in (("order.py", order_runs), ("night.py", night_runs), ("promises.py", promises_runs), ("export.py", export_runs), ("ci.py", ci_runs), ("lacking.py", lacking_runs),
                              ("parallel.py", parallel_runs), ("colour.py", colour_runs))),
         ("a campus of 50 switches: promises.py", promises_runs.faults_of_campus),
         ("samples and no answers: ci.py", ci_runs.faults_of_words),

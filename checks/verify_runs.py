@@ -154,6 +154,16 @@ def apart_reasons(judged, vids, names, others):
     return [f"apart {those} joined {told}" for those, told in judged.grouped(vids, joined_of)]
 
 
+def leaves_reasons(judged, vids, names):
+    first = judged.named(names)
+    others = {it for it in judged.bridges if not any(has(item, it) for item in names.split(","))}
+
+    def joined_of(islands):
+        return listed(sorted(sorted(it) for it in islands if set(it) & set(first) and set(it) & others))
+
+    return [f"leaves {those} joined {told}" for those, told in judged.grouped(vids, joined_of)]
+
+
 def carries_reasons(judged, lan, vids):
     without = [vid for vid in sketch.numbers_in(vids) if vid not in judged.over(lan)]
     return [f"carries {lan} without {sketch.list_of(without)}"] if without else []
@@ -170,7 +180,7 @@ def reasons(judged, line):
         return root_reasons(judged, words[0], words[1], words[2:])
     forms = {
         "region": region_reasons, "role": role_reasons, "reach": reach_reasons, "apart": apart_reasons,
-        "carries": carries_reasons, "avoids": avoids_reasons, "together": together_reasons,
+        "carries": carries_reasons, "avoids": avoids_reasons, "together": together_reasons, "leaves": leaves_reasons,
     }
     return forms[word](judged, *words)
 
@@ -217,6 +227,7 @@ def of_islands(judged):
         yield from [f"apart {vids} {','.join(one)} {','.join(other)}" for one, other in itertools.combinations(islands, 2)]
         yield from [f"reach {vids} {one[0]},{other[-1]}" for one, other in itertools.combinations(islands, 2)]
         yield from [f"apart {vids} {island[0]} {island[-1]}" for island in islands]
+        yield from [f"leaves {vids} {it}" for island in islands for it in (",".join(island), island[0])]
     yield "reach 1-4094 *"
 
 
@@ -338,6 +349,8 @@ def faults_of(program, number):
     judged = Judged(text, text)
     all_lines = lines_of(judged)
     told = {line: reasons(judged, line) for line in all_lines}
+    # what is meant to be cut stands without a scope
+    scoped = [it for it in all_lines if not it.startswith("leaves ")]
     kept, broken = [it for it in all_lines if not told[it]], [it for it in all_lines if told[it]]
     status = 1 if refused or not kept else 0
     faults = differing(program, script, kept, answer(kept, [[] for _ in kept], refused), status)
@@ -346,12 +359,12 @@ def faults_of(program, number):
     faults += differing(program, script, broken, answer(broken, now, refused), 1)
     policy, later = [], []
     for place, after in failed(program, script, text, draws):
-        for line in all_lines[draws.below(3) :: 3]:
+        for line in scoped[draws.below(3) :: 3]:
             policy.append(f"after {place} {line}")
             later.append([f"fails {len(policy)} {place} {it}" for it in reasons(after, line)])
     faults += differing(program, script, policy, answer(policy, later, refused), 1 if refused or any(later) or not policy else 0)
     if number % 4 == 0:
-        some = [it for it in all_lines[draws.below(7) :: 7] if len(it) < 200][:12]
+        some = [it for it in scoped[draws.below(7) :: 7] if len(it) < 200][:12]
         some += ["together 1-4094 *", *["together 1-20 A,B,C"] * ({"A", "B", "C"} <= set(judged.bridges))]
         faults += folded(program, script, judged, some, refused)
     return faults

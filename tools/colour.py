@@ -40,7 +40,7 @@ RULES = [(re.compile(front), re.compile(part), style) for front, part, style in 
     (rb"start unkept ", rb"^.+", BAD),
     (rb"(?:path \d+ \S+ \S+|lan \S+|bridge \S+) none$", rb"none$", BAD),
     (rb"path failures ", rb"(?<= )none [1-9]\d*$", BAD),
-    (rb"(?:note|look|restarts|because) |advise none$", rb"^[a-z]+(?: none)?", LOOK),
+    (rb"(?:note|look|turns|restarts|because) |advise none$", rb"^[a-z]+(?: none)?", LOOK),
     (rb"blocked \d+ ", rb"^blocked", LOOK),
     (rb"port ", rb"(?<= )%b(?= -> |$)" % ROLE, None),
     (rb"explain \d+ ", rb"(?<= )%b$" % ROLE, None),

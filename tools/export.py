@@ -97,12 +97,22 @@ def words_of():
     parser.add_argument("script", metavar="FILE", help="the script of what stands (/dev/null is nothing); one of the files may be - for standard input")
     parser.add_argument("new", metavar="NEW", nargs="?", help="the script of what is wanted")
     parser.add_argument("--change", metavar="CHANGE", help="in place of NEW: the steps, with blank lines between")
-    parser.add_argument("--to", metavar="FORM", required=True, help=f"one or some of {', '.join(FORMS)}, with commas between")
-    parser.add_argument("--interface", metavar="NAME", default="", help="what a port is called, with {bridge} and {port} in it")
-    parser.add_argument("--names", metavar="NAMES", help="a file of lines BRIDGE PORT INTERFACE [BUNDLE], which go before all else")
+    add_forms(parser, True)
     words = parser.parse_intermixed_args()
     if (words.new is None) == (words.change is None):
         parser.error("FILE NEW, or FILE --change CHANGE")
+    return with_forms(parser, words)
+
+
+def add_forms(parser, is_required):
+    """The options that say in which forms commands are, and what ports are called there."""
+    parser.add_argument("--to", metavar="FORM", required=is_required, help=f"one or some of {', '.join(FORMS)}, with commas between")
+    parser.add_argument("--interface", metavar="NAME", default="", help="what a port is called, with {bridge} and {port} in it")
+    parser.add_argument("--names", metavar="NAMES", help="a file of lines BRIDGE PORT INTERFACE [BUNDLE], which go before all else")
+
+
+def with_forms(parser, words):
+    """Words whose forms are a list, if these options are right; else the command ends with what is wrong."""
     words.to = words.to.split(",")
     if not all(it in FORMS for it in words.to) or len({FORMS[it].comment for it in words.to}) > 1:
         parser.error(f"--to takes one of {', '.join(FORMS)}, or some for one shell")

@@ -58,7 +58,7 @@ HINT = re.compile(rb"(line|policy|change) (?:line )?([0-9]+) ")
 # What the words behind an expectation are of, where their items may not be there.
 ARGUMENTS = {
     "root": ("tree", "bridge", None, "bridge"), "region": ("bridge",), "role": ("tree", "port"), "reach": (None, "bridge"),
-    "apart": (None, "bridge", "bridge"), "together": (None, "bridge"), "leaf": ("tree", "bridge"), "depth": ("tree",),
+    "apart": (None, "bridge", "bridge"), "leaves": (None, "bridge"), "together": (None, "bridge"), "leaf": ("tree", "bridge"), "depth": ("tree",),
     "carries": ("LAN",), "avoids": ("LAN",), "fits": (),
 }
 SCOPES = {"bridge": "bridge", "lan": "LAN"}

@@ -216,7 +216,8 @@ def reason_in(record, names=None):
         return note_in(it)
     return {
         "region": "region parts {parts}", "role": "role {tree} {ports} {role}", "reach": "reach {vids} parts {parts}",
-        "together": "together {vids} parts {parts}", "apart": "apart {vids} joined {joined}", "leaf": "leaf {tree} {bridge} parent of {bridges}", "depth": "depth {tree} {depth} {bridges}",
+        "together": "together {vids} parts {parts}", "apart": "apart {vids} joined {joined}",
+        "leaves": "leaves {vids} joined {joined}", "leaf": "leaf {tree} {bridge} parent of {bridges}", "depth": "depth {tree} {depth} {bridges}",
         "carries": "carries {lan} without {vids}", "avoids": "avoids {lan} with {vids}",
     }[word].format(**it)
 
@@ -254,6 +255,17 @@ def port_of(record, names=None):
 def list_of(runs):
     """VIDs by their runs: a list of these, of which the empty one is an empty text."""
     return ",".join(f"{first}-{last}" if first < last else str(first) for first, last in runs)
+
+
+def listed(vids):
+    """VIDs as a list of their longest runs, of which the empty one is an empty text."""
+    runs = []
+    for vid in sorted(vids):
+        if runs and runs[-1][1] == vid - 1:
+            runs[-1][1] = vid
+        else:
+            runs.append([vid, vid])
+    return list_of(runs)
 
 
 def line_of(record):

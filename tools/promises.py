@@ -29,17 +29,6 @@ def expanded(runs):
     return {vid for first, last in runs for vid in range(first, last + 1)}
 
 
-def listed(vids):
-    """VIDs as a list of their longest runs."""
-    found = []
-    for vid in sorted(vids):
-        if found and found[-1][1] == vid - 1:
-            found[-1][1] = vid
-        else:
-            found.append([vid, vid])
-    return mstplan.list_of(found)
-
-
 class Names:
     """Sets of bridges as short lists of names: by beginnings that all of some and no others have, the largest of these first."""
 
@@ -181,7 +170,7 @@ class Guesser:
         self.together(weak, always)
         for scope, sets in (("always ", always), ("", now)):
             for bridges, vids in self.joined(sets):
-                self.guesses.add(f"{scope}reach {listed(vids)} {self.names.list(bridges)}")
+                self.guesses.add(f"{scope}reach {mstplan.listed(vids)} {self.names.list(bridges)}")
         self.apart(sorted(apart.items(), key=lambda it: -len(it[1])))
 
     def together(self, weak, always):
@@ -192,7 +181,7 @@ class Guesser:
         if not joined or always.get(every) == joined:
             return
         strong, whole = every - set().union(*weak.values()), joined - weak.keys()
-        self.guesses.add(f"always together 1-{HIGHEST_VID} *", *[f"always together {listed(whole)} *"] * bool(whole))
+        self.guesses.add(f"always together 1-{HIGHEST_VID} *", *[f"always together {mstplan.listed(whole)} *"] * bool(whole))
         if any(len(island & strong) > 1 for vid in weak for island in self.asked.islands.get(vid, ())):
             self.guesses.add(f"always together 1-{HIGHEST_VID} {self.names.list(strong)}")
 
@@ -208,7 +197,7 @@ class Guesser:
 
     def apart(self, sets):
         for inside, vids in self.guesses.first(sets, self.words.vlans, "sets of VLANs that are apart from others", "--vlans"):
-            line = f"apart {listed(vids)} {self.names.list(inside)} {self.names.list(set(self.asked.every) - inside)}"
+            line = f"apart {mstplan.listed(vids)} {self.names.list(inside)} {self.names.list(set(self.asked.every) - inside)}"
             self.guesses.add(*([f"always {line}", line] if len(line) <= LONGEST else []))
 
     def ways(self):
@@ -248,7 +237,7 @@ class Guesser:
         some = [it for it in self.asked.of("carries") if it.get("vids") and ends[it["lan"]] & roots]
         some.sort(key=lambda it: (-len(ends[it["lan"]] & roots), it["lan"]))
         for it in self.guesses.first(some, self.words.links, "links of roots carry some VLANs and not all", "--links"):
-            others = listed(set(range(1, HIGHEST_VID + 1)) - expanded(it["vids"]))
+            others = mstplan.listed(set(range(1, HIGHEST_VID + 1)) - expanded(it["vids"]))
             carries, avoids = f"carries {it['lan']} {mstplan.list_of(it['vids'])}", f"avoids {it['lan']} {others}"
             self.guesses.add(avoids if others and len(avoids) + 40 < len(carries) else carries)
 

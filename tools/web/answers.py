@@ -40,6 +40,8 @@ class Program(mstplan.Program):
                 step["refused"].append(kept_of(record, "line", "error", "text"))
             elif kind == "cut":
                 step["parts"].append(parts_in(record))
+            elif kind == "turns":
+                step["turns"].append([",".join(map(str, record["trees"])), ",".join(record["bridges"])])
             elif kind == "restarts":
                 step["restarts"] = [port_of(it) for it in record["ports"]]
             elif kind in TOLD_OF_POLICIES:
@@ -57,7 +59,7 @@ def step_of(record, lines):
     typed = [[number, lines[number - 1].decode(errors="replace")] for number in range(first, last + 1)]
     vids = {word: list_of(record[f"{word}_vids"]) for word in ("moved", "cut", "joined")}
     told = {"lines": lines_of_step(record), "typed": typed, "trees": record["trees"], "changed": record["port_count"]}
-    return {**told, **vids, "parts": [], "restarts": [], "refused": []}
+    return {**told, **vids, "parts": [], "turns": [], "restarts": [], "refused": []}
 
 
 def edits_in(step, script, change):

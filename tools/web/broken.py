@@ -90,6 +90,11 @@ def apart_said(record):
     return f"{told} {'join' if several else 'joins'} {' | '.join(named(it) for it in record['joined'])}, which are to stay apart."
 
 
+def leaves_said(record):
+    told, several = vlans(record["vids"])
+    return f"{told} still {'join' if several else 'joins'} {' | '.join(named(it) for it in record['joined'])}, of which some are to leave."
+
+
 def leaf_said(record):
     return f"In {tree_named(record)} {record['bridge']} is the parent of {named(record['bridges'])}."
 
@@ -119,7 +124,7 @@ def fits_said(record):
 
 SAID = {
     "root": root_said, "region": region_said, "role": role_said, "reach": reach_said, "together": together_said,
-    "apart": apart_said, "leaf": leaf_said, "depth": depth_said, "carries": carries_said, "avoids": avoids_said, "fits": fits_said,
+    "apart": apart_said, "leaves": leaves_said, "leaf": leaf_said, "depth": depth_said, "carries": carries_said, "avoids": avoids_said, "fits": fits_said,
 }
 
 

@@ -79,6 +79,7 @@ class Step {
       ...this.refused.map(it => `change ${it.line} ${it.error} ${it.text}`),
       `step ${number} lines ${lines} ${told.join(" ")}`,
       ...this.parts.map(([those, parts]) => `cut ${those} parts ${parts.join(" ")}`),
+      ...this.turns.map(([trees, bridges]) => `turns ${trees} ${bridges}`),
       ...(this.restarts.length ? [`restarts ${this.restarts.join(",")}`] : []),
       ...printedPromises(this.news ?? [], this.mends ?? []),
     ];
@@ -126,12 +127,14 @@ class Change {
   }
 
   does(step) {
-    const { moved, joined: together, changed, refused, restarts } = step;
+    const { moved, joined: together, changed, refused, turns, restarts } = step;
     const roots = [...step.roots()].flatMap(([tree, pairs]) => pairs.map(([old, now]) =>
       line(markup`Root of ${treeName(tree)}: ${old} → <b>${now}</b>${old === now ? " with another priority" : ""}`)));
     return [
       refused.map(it => markup`<div class="warning">Line ${it.line} is refused: ${it.error} ${it.text}</div>`),
       moved ? markup`<div>It moves VLANs ${listed(moved)}.</div>` : markup`<div class="fine">It moves no VLAN to other links.</div>`,
+      turns.map(([trees, bridges]) => line(markup`In ${trees === "0" ? "tree" : "trees"} ${listed(trees)} the way out is another one of
+        ${some(bridges.split(","), MOST_NAMES)}.`)),
       restarts.length ? markup`<div class="warning">${counted(restarts.length, "port begins", "ports begin")} anew and may discard for a while:
         ${some(restarts, MOST_NAMES)}.</div>` : "",
       step.parts.map(([those, parts]) => markup`<div class="warning">VLANs ${listed(those)} come apart:
