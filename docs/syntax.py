@@ -50,6 +50,8 @@ OF_POLICIES = {
     "Next": (A_WORD, "next"), "Vids": (A_NUMBER, VIDS), "Names": (A_NAME, listed(ITEM)),
     "Ports": (A_NAME, listed(rf"{ITEM}:(?:{NUMBER}|\*)")), "Roles": (A_WORD, listed(f"(?:{'|'.join(ROLES)})")),
 }
+# An expectation that neither a scope nor `finally` stands in front of.
+ALONE = "leaves"
 SCOPE = [("scope", "finally"), ("scope", rf"always|after[ \t]+(?:lan|bridge)[ \t]+{listed(ITEM)}")]
 QUERIES = re.compile("show|mark$|changes$|save$|digest$")
 SCOPES = {"edit": "keyword.other", "query": "support.function", A_NAME: "variable.other", A_NUMBER: "constant.numeric", A_WORD: "constant.language",
@@ -90,7 +92,7 @@ def grammar(name, scope, rows, front, version):
     begun = rf"^[ \t]*({scopes}(?:{words}))(?![^ \t])(.*)$"
     patterns = [{"match": r"^[ \t]*#.*$", "name": "comment.line.number-sign.mstplan"}]
     patterns += [{"match": r"\A[ \t]*mstplan[ \t]+2[ \t]*$", "name": "keyword.control.mstplan"}] * version
-    patterns += [line_of(front, [kind, *(it for it, _ in arguments)], [word, *(form for _, form in arguments)]) for kind, word, arguments in rows]
+    patterns += [line_of([] if word == ALONE else front, [kind, *(it for it, _ in arguments)], [word, *(form for _, form in arguments)]) for kind, word, arguments in rows]
     patterns += [{"match": begun, "captures": {"1": {"name": "keyword.other.mstplan"}, "2": {"name": "invalid.illegal.mstplan"}}},
                  {"match": r"^[ \t]*([^ \t].*)$", "captures": {"1": {"name": "invalid.illegal.mstplan"}}}]
     return json.dumps({"name": name, "scopeName": scope, "comment": "Made by docs/syntax.py", "patterns": patterns}, indent=1) + "\n"
@@ -113,7 +115,7 @@ def vim(prefix, rows, front, version):
     yield f"syn match {prefix}Edit /\\v^\\s*{scopes}%({words})\\ze%(\\s|$)/ nextgroup={prefix}Rest"
     for kind, word, arguments in rows:
         behind = "".join(f"\\s+{in_vim(form)}" for _, form in arguments)
-        yield f"syn match {prefix}{kind.capitalize()} /\\v^\\s*{scopes}{word}\\ze{behind}\\s*$/ contains={prefix}Scope nextgroup=@{prefix}Argument skipwhite"
+        yield f"syn match {prefix}{kind.capitalize()} /\\v^\\s*{'' if word == ALONE else scopes}{word}\\ze{behind}\\s*$/ contains={prefix}Scope nextgroup=@{prefix}Argument skipwhite"
     chained = f"contained nextgroup=@{prefix}Argument skipwhite"
     yield f"syn match {prefix}Scope /\\v<%(finally|always|after\\s+%(lan|bridge)\\s+\\S+)\\ze\\s/ contained" if front else ""
     yield f"syn match {prefix}Name /\\S\\+/ {chained}"
