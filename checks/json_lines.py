@@ -89,6 +89,8 @@ kind B rstp
 
 delport A 1
 """
+# Kinds of promises about paths, which stand in the table before anything prints them.
+UNPRINTED = {(enum, name) for enum in ("VerifyLine", "StepVerifyLine") for name in ("TooManyHops", "NotVia")}
 # no script here comes to these: contests in which no component differs, a root port without a rival, an internal cost over its limit that a
 # promise finds, and a port that none of the settings in question lets forward
 RARE = {("VerifyLine", "InternalCost"), ("ContestLine", "DesignatedOver"), ("ContestLine", "RootAlone"), ("ContestLine", "RootOver"), ("AdviseLine", "BecauseTried")}
@@ -942,8 +944,9 @@ def user_answers(program):
 
 
 def unmet():
-    """The kinds that no script of these comes to. What is refused says no kind, and each record of `check` stands alone."""
-    return {kind[:2] for kind in KINDS if kind.enum != "RefusalLine" and kind[:2] != ("Query", "Check")} - MET - RARE
+    """The kinds that no script of these comes to, but those that nothing prints yet. What is refused says no kind, and each record of `check` stands
+    alone."""
+    return {kind[:2] for kind in KINDS if kind.enum != "RefusalLine" and kind[:2] != ("Query", "Check")} - MET - RARE - UNPRINTED
 
 
 def main():
