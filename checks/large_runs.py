@@ -207,6 +207,15 @@ def step_lines():
         yield from (f"lan L{i:04}-{number // 2 % load.LANS_EACH} {'up' if number % 2 else 'down'}", f"setportpathcost B{i:04} {1 + number % 16} {19_000 + number}", "")
 
 
+def are_steps(told):
+    """So many steps and the line of counts; bridges turn behind a step alone that moves VLANs, in one line."""
+    lines = [line.split() for line in told.decode().splitlines()]
+    counts = collections.Counter(words[0] for words in lines)
+    turns = [before for before, words in zip(lines, lines[1:]) if words[0] == "turns"]
+    moving = all(words[0] == "step" and words[words.index("moved") + 1] != "-" for words in turns)
+    return moving and counts == {"step": STEPS, "turns": len(turns), "steps": 1}
+
+
 def change_cases(folder):
     """All of a mesh goes, or comes, or is replaced; and steps of it, each of which leaves all bridges joined."""
     mesh = [*load.load(load.BRIDGES)]
@@ -218,7 +227,7 @@ def change_cases(folder):
         Large("all of a mesh goes", ["edits", first, nothing], b"", 1, first_words({"mstplan": 1, **ports, "dellan": ALL_LANS})),
         Large("all of a mesh comes", ["edits", nothing, first], b"", 1, first_words({"mstplan": 1, **come, "addlan": ALL_LANS})),
         Large("each bridge of a mesh replaced", ["edits", first, replaced], b"", 1, first_words({"mstplan": 1, **ports, **come})),
-        Large("steps of a mesh", ["steps", first, "-"], as_bytes(step_lines()), 0, first_words({"step": STEPS, "steps": 1})),
+        Large("steps of a mesh", ["steps", first, "-"], as_bytes(step_lines()), 0, are_steps),
     ]
 
 
