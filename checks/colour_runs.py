@@ -35,7 +35,8 @@ CASES = [
     (["explain", "campus.script", "none", "2"], [b"explain E04 no such bridge"]),
     (["diff", "campus.script", "campus-changed.script"], None),
     (["steps", "campus.script", "worse.change", "keep.policy"],
-     [b"cut 1-9,11-19,21-4094"] * 2 + [b"joined 1-9,11-19,21-4094", b"change 8 E04 no such bridge", b"fails 2", b"cutting 1", b"failing 1", b"unkept 1"]),
+     [b"cut 1-9,11-19,21-4094"] * 2
+     + [b"joined 1-9,11-19,21-4094", b"turns", b"change 8 E04 no such bridge", b"turns", b"fails 2", b"cutting 1", b"failing 1", b"unkept 1"]),
     (["summary", "campus.script"], [b"blocked"] * 3),
     (["summary", "--json", "campus.script"], []),
     (["dot", "campus.script", "0"], []),
