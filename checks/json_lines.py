@@ -98,6 +98,7 @@ RARE = {("VerifyLine", "InternalCost"), ("ContestLine", "DesignatedOver"), ("Con
 # the network itself as a place where a promise of what stays together isn't kept: nothing is before it
 RARE_NULLS = {
     ("failure", "VerifyLineTogether"),
+    *(("failure", "".join(it)) for it in UNPRINTED),
     *itertools.product(("root", "regional", "designated_bridge"), ("TreeLineBridgeInCist", "TreeLineBridgeInMsti")),
     *itertools.product(("winner", "loser"), ("ContestLineRootAlone", "ContestLineRootOver", "ContestLineRootByCost", "ContestLineRootById")),
 }
