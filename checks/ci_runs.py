@@ -167,7 +167,9 @@ def faults_of_base(program, number):
     """What differs of a script beside the one before."""
     old, draws = sketch.drawn(number), sketch.Draws(number + 4 * 10**6)
     text = sketch.text_of(program, old)
-    policy = "\n".join(["root 0 none", *verify_runs.lines_of(verify_runs.Judged(text, text)), ""]).encode()
+    # `steps` judges what is meant to leave in the last network alone, so it doesn't say which edit broke that
+    promises = [it for it in verify_runs.lines_of(verify_runs.Judged(text, text)) if not it.startswith("leaves ")]
+    policy = "\n".join(["root 0 none", *promises, ""]).encode()
     scripts = ["\n".join([*it, ""]).encode() for it in (old, changed(draws, old))]
     with tempfile.TemporaryDirectory() as folder:
         paths = [written(folder, *it) for it in (("old", scripts[0]), ("new", scripts[1]), ("policy", policy))]
