@@ -12,6 +12,8 @@ pub mod Putting
 pub mod Searched
 pub mod Ended
 pub mod Chosen
+pub mod Slices
+pub mod Counted
 pub mod Onward
 pub mod Following
 pub mod Named

@@ -43,6 +43,11 @@ place_of ports p h =
     let below : h.0 < length ports = subst (λ n. h.0 < n) (length-map ports named_port) h.1 in
     record { place = h.0; below = below; names = subst (HasNames ports h.0) h.2 (names_at ports h.0 p below) }
 
+-- a port of a list that has a place
+pub some_port : (ports : List PortInView) (i : ℕ) → i < length ports → LogicalPort
+some_port [] i h = absurd (omega arith)
+some_port (p ∷ ports) i h = named_port p
+
 module _ (ports : List PortInView) (bridges lans : List ℕ) (count : ℕ) (n : AreNodesOf ports bridges lans count) where
   abbrev bridge : ℕ → List ℕ
   bridge i = get_or (bridge_names ports) i []
@@ -100,7 +105,7 @@ module _ (ports : List PortInView) (bridges lans : List ℕ) (count : ℕ) (n : 
       two_bridges = λ e. is.two_bridges (bridge_back h.leaving h.arriving is.leaving is.arriving e);
     }
 
-    way_named : (hops : List PlaceHop) (x y i j : ℕ) → i < length bridges → j < length bridges → get_or bridges i 0 ≡ x → get_or bridges j 0 ≡ y → IsPlaceWay bridges lans x y hops
+    pub way_named : (hops : List PlaceHop) (x y i j : ℕ) → i < length bridges → j < length bridges → get_or bridges i 0 ≡ x → get_or bridges j 0 ≡ y → IsPlaceWay bridges lans x y hops
         → IsWay (map named_port ports) (port_at i).name.bridge (port_at j).name.bridge (map hop_at hops)
     way_named [] x y i j h k e f w = one_bridge i j h k (e ∙ w ∙ sym f)
     way_named (p ∷ hops) x y i j h k e f w = (

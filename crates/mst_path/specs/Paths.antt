@@ -44,11 +44,15 @@ ends_of hops = map (λ (h : Hop). h.arriving.name.bridge) hops
 abbrev pub lans_of : List Hop → List (List ℕ)
 lans_of hops = map (λ (h : Hop). h.leaving.lan) hops
 
+-- the bridges that a path from a meets, in its order
+abbrev pub bridges_met : List ℕ → List Hop → List (List ℕ)
+bridges_met a hops = a ∷ ends_of hops
+
 -- a path: a way from a to b that meets no bridge twice, and takes no logical LAN twice. On a logical LAN of three bridges a frame goes
 -- from one to another, and not by way of the third
 pub record IsPath (ports : List LogicalPort) (a b : List ℕ) (hops : List Hop) : Type 0 where
   pub way : IsWay ports a b hops
-  pub bridges_once : StandOnce (a ∷ ends_of hops)
+  pub bridges_once : StandOnce (bridges_met a hops)
   pub lans_once : StandOnce (lans_of hops)
 
 -- ---- the first of several
@@ -69,6 +73,12 @@ pub record IsFirstPath (ports : List LogicalPort) (a b : List ℕ) (hops : List 
 abbrev pub IsPathOver : List LogicalPort → List ℕ → List ℕ → Option (List Hop) → Type 0
 IsPathOver ports a b None = (hops : List Hop) → IsPath ports a b hops → ⊥
 IsPathOver ports a b (Some hops) = IsFirstPath ports a b hops
+
+-- how many hops it has, if there is one
+pub record IsHopCount (ports : List LogicalPort) (a b : List ℕ) (count : Option ℕ) : Type 0 where
+  pub path : Option (List Hop)
+  pub is_path : IsPathOver ports a b path
+  pub are : count ≡ option_map length path
 
 -- ---- the path of a VID
 pub record AreOn (net : Net) (a b : List ℕ) : Type 0 where

@@ -1,5 +1,5 @@
 -- Paths by the places of ports in a list. Each port joins two nodes, those of its bridge and of its logical LAN.
-use Rattle.std.specs.Prelude.{◌≡◌, ◌≢◌, ◌↔◌, ◌⊎◌, ◌+◌, ◌<◌, ◌≤◌, ℕ, List, [], ◌∷◌, Option, Vec, length, map, nat_eq, slice_index, slice_index_or}
+use Rattle.std.specs.Prelude.{◌≡◌, ◌≢◌, ◌↔◌, ◌⊎◌, ◌+◌, ◌<◌, ◌≤◌, ℕ, List, [], ◌∷◌, Option, None, Vec, length, map, nat_eq, slice_index, slice_index_or}
 use Rattle.std.specs.List.{Contains, count_by}
 use Rattle.std.specs.Global.{Global}
 use Rattle.std.specs.Option.{option_map}
@@ -12,7 +12,7 @@ use Rattle.mst_ids.specs.Names.{port_cmp}
 use Rattle.mst_view.specs.View.{LogicalPort}
 use Rattle.mst_view.specs.Viewed.{named_port}
 use Rattle.mst_view.specs.declared.in_view.PortInView.{PortInView}
-use Rattle.mst_path.specs.Paths.{Hop as HopByName}
+use Rattle.mst_path.specs.Paths.{Hop as HopByName, IsHopCount}
 use Rattle.mst_path.specs.declared.hop.Hop.{Hop}
 use Rattle.mst_path.specs.declared.hop.PlaceHop.{PlaceHop}
 
@@ -40,6 +40,11 @@ hop_named_at ports d h = record { leaving = slice_index_or (map named_port ports
 -- ports stand by bridge and number
 abbrev pub IsRising : List PortInView → Type 0
 IsRising ports = (i j : ℕ) → i < j → j < length ports → (d : PortInView) → port_cmp (slice_index_or ports i d).name (slice_index_or ports j d).name ≡ Less
+
+-- for each port, how many hops the path over these ports has from its bridge to bridge b, or none where there is no path
+pub record AreHopCounts (ports : List PortInView) (b : List ℕ) (counts : List (Option ℕ)) : Type 0 where
+  pub as_long : length counts ≡ length ports
+  pub each : (place : ℕ) → place < length ports → IsHopCount (map named_port ports) (bridge_at ports place) b (slice_index_or counts place None)
 
 -- ---- nodes
 -- the nodes of the ports' bridges and of their logical LANs

@@ -29,8 +29,8 @@ fn has_on(bridges: &[BridgeInView], name: &Name) -> bool
         .any(|bridge| bridge.name == *name && bridge.bridge.is_on())
 }
 
-/// Whether a bridge is there and on.
-fn is_on(plan: &Settled, name: &Name) -> bool
+/// Whether a bridge is there and on. It looks at the bridges one by one.
+pub fn is_on(plan: &Settled, name: &Name) -> bool
     ensures { result ≡ true ↔ Contains (bridges_on plan.now.net) name.now }
 {
     plan.known();

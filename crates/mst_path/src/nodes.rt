@@ -9,10 +9,11 @@ use std::alloc::{AllocError, Global};
 
 /// The nodes that ports join: for each port that of its bridge and that of its logical LAN.
 #[derive(Drop)]
-pub(crate) struct Nodes {
-    pub(crate) bridges: Vec<usize>,
-    pub(crate) lans: Vec<usize>,
-    pub(crate) count: usize,
+pub struct Nodes {
+    pub bridges: Vec<usize>,
+    pub lans: Vec<usize>,
+    /// How many nodes there are.
+    pub count: usize,
 }
 
 /// The names of the ports' bridges.
@@ -43,8 +44,8 @@ fn shifted(alloc: Global, numbers: &[usize], by: usize) -> Result<Vec<usize>, Al
 }
 
 impl Nodes {
-    /// A node for each bridge and each logical LAN of these ports.
-    pub(crate) fn new(alloc: Global, ports: &[PortInView]) -> Result<Nodes, AllocError>
+    /// A node for each bridge and each logical LAN of these ports. `AllocError`: memory was wanted and refused.
+    pub fn new(alloc: Global, ports: &[PortInView]) -> Result<Nodes, AllocError>
         ensures { IfOk result (λ n. AreNodesOf ports.now n.bridges.items n.lans.items n.count) }
     {
         let bridge_names = bridges_of(alloc, ports)?;

@@ -31,11 +31,7 @@ fn members(
 
 /// The ports that carry a VID, by bridge and number: those of its active topology that are members of its VLAN. `AllocError`: memory was
 /// wanted and refused.
-pub(crate) fn carrying(
-    alloc: Global,
-    plan: &Settled,
-    vid: Vid,
-) -> Result<Vec<PortInView>, AllocError>
+pub fn carrying(alloc: Global, plan: &Settled, vid: Vid) -> Result<Vec<PortInView>, AllocError>
     ensures named { IfOk result (λ ports. map named_port ports.items ≡ carrying_in plan.now.net (outcome_of plan.now) vid) }
     ensures rising { IfOk result (λ ports. IsRising ports.items) }
 {
@@ -45,8 +41,8 @@ pub(crate) fn carrying(
     members(alloc, view, active.as_slice(), vid)
 }
 
-/// The place of the first of these ports on a bridge.
-pub(crate) fn place_on(ports: &[PortInView], bridge: &Name) -> Option<usize>
+/// The place of the first of these ports on a bridge: none where no port is on it.
+pub fn place_on(ports: &[PortInView], bridge: &Name) -> Option<usize>
     ensures { MatchOption result ((place : ℕ) → place < length ports.now → slice_index_or (bridge_names ports.now) place [] ≢ bridge.now) (λ place. (place < length ports.now) × (slice_index_or (bridge_names ports.now) place [] ≡ bridge.now)) }
 {
     for (place, port) in ports.iter().enumerate() {

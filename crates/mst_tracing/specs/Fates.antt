@@ -6,7 +6,7 @@ use Rattle.mst_kinds.specs.declared.path_line.PathLine.TheVariants as line
 use Rattle.mst_net.specs.tables.After.{after}
 use Rattle.mst_net.specs.tables.Tables.{Net}
 use Rattle.mst_path.specs.PathRows.{trace_cells}
-use Rattle.mst_path.specs.Paths.{Hop, IsPathOf, ends_of, path_told}
+use Rattle.mst_path.specs.Paths.{Hop, IsPathOf, bridges_met, path_told}
 use Rattle.mst_path.specs.declared.trace.Trace.{Trace}
 use Rattle.mst_roles.specs.forest.Outcome.{Outcome, IsOutcome}
 use Rattle.mst_rows.specs.Cells as cell
@@ -21,10 +21,6 @@ use Rattle.mst_tracing.specs.declared.always.Fate.TheVariants as fate
 use Rattle.mst_tracing.specs.declared.always.Fates.{Fates}
 
 -- ---- the rows
--- the bridges that a path meets, in its order
-abbrev pub bridges_met : Trace → List Hop → List (List ℕ)
-bridges_met t hops = t.from ∷ ends_of hops
-
 -- `lan L hops N by A,..,B`, and of a bridge `bridge X ..`
 abbrev pub other_path_row : Trace → Failure → ℕ → List (List ℕ) → Row
 other_path_row t (Lan lan) hops bridges = row_of (kind.Path line.Lan) (trace_cells t ++ failing (Lan lan) ∷ cell.word lan ∷ cell.number hops ∷ cell.names bridges ∷ [])
@@ -47,7 +43,7 @@ fate_of (Some hops) = fate.Other
 
 abbrev pub fate_row : Trace → Failure → Option (List Hop) → Row
 fate_row t failure None = no_path_row t failure
-fate_row t failure (Some hops) = other_path_row t failure (length hops) (bridges_met t hops)
+fate_row t failure (Some hops) = other_path_row t failure (length hops) (bridges_met t.from hops)
 
 -- what becomes of a path, by what it was before a failure and what it is after it: nothing is told of one whose ports and logical LANs are
 -- the same, nor where there was none and is none

@@ -1,27 +1,16 @@
-ghost use Rattle.std.specs.Prelude.{◌≡◌, ◌++◌, ◌∷◌, [], List, IfOk, OnOk, length, map};
+ghost use Rattle.std.specs.Prelude.{◌++◌, ◌∷◌, [], List, OnOk, length, map};
 ghost use Rattle.mst_rows.specs.Rows.{Row};
+ghost use Rattle.mst_path.specs.Paths.{bridges_met as bridges_met_by};
 ghost use Rattle.mst_path.specs.Places.{named_hop};
-ghost use Rattle.mst_tracing.specs.Fates.{bridges_met, counts_row, no_path_row, other_path_row};
+ghost use Rattle.mst_tracing.specs.Fates.{counts_row, no_path_row, other_path_row};
 
 use crate::always::Fates;
 use mst_ids::Name;
 use mst_kinds::{Kind, PathLine};
-use mst_path::{Hop, Trace};
+use mst_path::{Hop, Trace, bridges_met};
 use mst_rows::{Rows, Value, put};
 use mst_sweeping::Failure;
 use std::alloc::{AllocError, Global};
-
-/// The bridges that a path meets, its two ends among them, in its order.
-fn bridges_of(alloc: Global, trace: &Trace, hops: &[Hop]) -> Result<Vec<Name>, AllocError>
-    ensures { IfOk result (λ bridges. bridges.items ≡ bridges_met trace.now (map named_hop hops.now)) }
-{
-    let mut bridges = Vec::new(alloc);
-    bridges.push(trace.from)?;
-    for hop in hops {
-        bridges.push(hop.arriving.name.bridge)?;
-    }
-    Ok(bridges)
-}
 
 /// Puts the row of a LAN after whose failure the path is another one.
 fn put_other_by_lan<'a, R: Rows>(
@@ -76,9 +65,9 @@ pub(crate) fn put_other<R: Rows>(
     hops: &[Hop],
     out: &mut R,
 ) -> Result<(), AllocError>
-    ensures { (first : R) (rows : List Row) → R.grew first out.old rows → OnOk result (R.grew first out.new (rows ++ other_path_row trace.now failure.now (length hops.now) (bridges_met trace.now (map named_hop hops.now)) ∷ [])) }
+    ensures { (first : R) (rows : List Row) → R.grew first out.old rows → OnOk result (R.grew first out.new (rows ++ other_path_row trace.now failure.now (length hops.now) (bridges_met_by trace.now.from (map named_hop hops.now)) ∷ [])) }
 {
-    let bridges = bridges_of(alloc, trace, hops)?;
+    let bridges = bridges_met(alloc, &trace.from, hops)?;
     let count = hops.len() as u64;
     match failure {
         Failure::Lan(lan) => put_other_by_lan(trace, lan, count, bridges.as_slice(), out),

@@ -1,24 +1,18 @@
-use Rattle.std.proofs.Common.{◌≡◌, ◌<◌, ℕ, List, [], ◌∷◌, map, length, get_or, refl, sym, ap, ◌∙◌, subst, arith}
+use Rattle.std.proofs.Common.{◌≡◌, ◌<◌, ℕ, List, map, length, get_or, refl, sym, ap, ◌∙◌, subst}
 use Rattle.std.specs.List.{All}
 use Rattle.std.proofs.lemmas.List.{get_or_read}
 use Rattle.mst_view.specs.View.{LogicalPort}
 use Rattle.mst_view.specs.Viewed.{named_port}
 use Rattle.mst_view.specs.declared.in_view.PortInView.{PortInView}
 use Rattle.mst_path.specs.Paths.{IsFirstPath}
-use Rattle.mst_path.specs.Places.{IsFirstPlacePath, IsTree, bridge_at}
+use Rattle.mst_path.specs.Places.{IsFirstPlacePath, bridge_at}
 use Rattle.mst_path.specs.declared.hop.PlaceHop.{PlaceHop}
-use Rattle.mst_path.proofs.Named.{all_below, hop_at, none_reached}
+use Rattle.mst_path.proofs.Named.{all_below, hop_at, none_reached, some_port}
 use Rattle.mst_path.proofs.NamedFirst.{first_named}
+use Rattle.mst_path.proofs.Slices.{tree_of}
 use Rattle.mst_path.proofs.between.path_between.Goals as goal
 
-port_at : (ports : List PortInView) (i : ℕ) → i < length ports → LogicalPort
-port_at [] i h = absurd (omega arith)
-port_at (p ∷ ports) i h = named_port p
-
 -- what was found by slices holds of the lists that they show
-tree_of : (bridges lans b l depths : List ℕ) (root : ℕ) → b ≡ bridges → l ≡ lans → IsTree b l (get_or b root 0) depths → IsTree bridges lans (get_or bridges root 0) depths
-tree_of bridges lans b l depths root e f t = subst (λ b. IsTree b lans (get_or b root 0) depths) e (subst (λ l. IsTree b l (get_or b root 0) depths) f t)
-
 path_of : (bridges lans b l : List ℕ) (first last : ℕ) (hops : List PlaceHop) → b ≡ bridges → l ≡ lans → IsFirstPlacePath b l (get_or b first 0) (get_or b last 0) hops → IsFirstPlacePath bridges lans (get_or bridges first 0) (get_or bridges last 0) hops
 path_of bridges lans b l first last hops e f p = subst (λ b. IsFirstPlacePath b lans (get_or b first 0) (get_or b last 0) hops) e (subst (λ l. IsFirstPlacePath b l (get_or b first 0) (get_or b last 0) hops) f p)
 
@@ -61,6 +55,6 @@ returns c =
     let last : ℕ = c.args.last in
     let hops : List PlaceHop = c.in_ok-places.places.items in
     let path = path_of bridges lans c.as_slice-bridges.result.now c.as_slice-lans.result.now first last hops c.as_slice-bridges.ensures.value c.as_slice-lans.ensures.value c.in_ok-places.ensures in
-    let d : LogicalPort = port_at ports first c.requires.first in
+    let d : LogicalPort = some_port ports first c.requires.first in
     let by_name = first_named ports bridges lans count n c.requires.rising d hops first last (bridge_at ports first) (bridge_at ports last) c.requires.first c.requires.last refl refl path in
     subst (IsFirstPath (map named_port ports) (bridge_at ports first) (bridge_at ports last)) (sym (c.in_ok-hops.ensures d ∙ ap (map (hop_at ports bridges lans count n d)) c.as_slice.ensures.value)) by_name
