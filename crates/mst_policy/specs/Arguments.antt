@@ -4,7 +4,7 @@ use Rattle.std.specs.Prelude.{ℕ, ◌+◌, ◌-◌, ◌==◌, Bool, List, [], �
 use Rattle.std.specs.List.{list_all, list_any, slice_split, ends_with}
 use Rattle.std.specs.Option.{option_map, option_map_or, option_and_then, option_zip, ok_or}
 use Rattle.std.specs.Result.{result_ok}
-use Rattle.mst_lang.specs.Words.{one_of, two_of, three_of}
+use Rattle.mst_lang.specs.Words.{one_of, two_of, three_of, four_of}
 use Rattle.mst_lang.specs.Arguments.{is_text, number_of, name, port_number}
 use Rattle.mst_lang.specs.declared.line.Fault.{Fault}
 use Rattle.mst_lang.specs.declared.line.Fault.TheVariants.{E01, E02}
@@ -107,11 +107,11 @@ roles_value word = if list_all (is_among role_names) (items_of word) then Some (
 abbrev pub roles : List ℕ → Result Roles Fault
 roles word = ok_or (roles_value word) E02
 
--- ---- N: a number of steps
+-- ---- N: a number of steps or of hops
 abbrev pub steps : List ℕ → Result ℕ Fault
 steps = number_of 0 1024 E02
 
--- ---- an expectation with no, one, two or three arguments: E01 where it has another number of words, else the least fault of
+-- ---- an expectation with no, one, two, three or four arguments: E01 where it has another number of words, else the least fault of
 -- its arguments, else what is made of their values
 abbrev pub none_of : {A : Type 0} → A → List (List ℕ) → Result A Fault
 none_of made [] = Ok made
@@ -125,3 +125,6 @@ two f g make words = option_map_or (λ w. with (with (Ok make) (f w.0)) (g w.1))
 
 abbrev pub three : {A B C D : Type 0} → (List ℕ → Result A Fault) → (List ℕ → Result B Fault) → (List ℕ → Result C Fault) → (A → B → C → D) → List (List ℕ) → Result D Fault
 three f g h make words = option_map_or (λ w. with (with (with (Ok make) (f w.0)) (g w.1)) (h w.2)) (three_of words) (Err E01)
+
+abbrev pub four : {A B C D E : Type 0} → (List ℕ → Result A Fault) → (List ℕ → Result B Fault) → (List ℕ → Result C Fault) → (List ℕ → Result D Fault) → (A → B → C → D → E) → List (List ℕ) → Result E Fault
+four f g h k make words = option_map_or (λ w. with (with (with (with (Ok make) (f w.0)) (g w.1)) (h w.2)) (k w.3)) (four_of words) (Err E01)

@@ -9,11 +9,11 @@ use Rattle.mst_lang.specs.declared.form.Argument.TheVariants.{BridgeName, LanNam
 use Rattle.mst_lang.specs.declared.line.Fault.{Fault}
 use Rattle.mst_lang.specs.declared.line.Fault.TheVariants.{E01}
 use Rattle.mst_lang.specs.declared.line.Version.TheVariants.{V1}
-use Rattle.mst_policy.specs.Arguments.{names, ports, roles, steps, none_of, one, two, three}
+use Rattle.mst_policy.specs.Arguments.{names, ports, roles, steps, none_of, one, two, three, four}
 use Rattle.mst_policy.specs.declared.expectation.Expectation.{Expectation}
 use Rattle.mst_policy.specs.declared.expectation.Expectation.TheVariants as expectations
 use Rattle.mst_policy.specs.declared.form.Argument.{Argument}
-use Rattle.mst_policy.specs.declared.form.Argument.TheVariants.{Tree, Bridge, Next, NextBridge, Lan, Vids, Names, Ports, Roles, Steps}
+use Rattle.mst_policy.specs.declared.form.Argument.TheVariants.{Tree, FirstBridge, Bridge, Next, NextBridge, Lan, Vids, Names, Ports, Roles, Steps}
 use Rattle.mst_policy.specs.declared.form.Form.{Form}
 use Rattle.mst_policy.specs.declared.form.Kind.{Kind}
 use Rattle.mst_policy.specs.declared.form.Kind.TheVariants as kinds
@@ -22,6 +22,7 @@ use Rattle.mst_policy.specs.declared.form.Kind.TheVariants as kinds
 -- whether a word is in the form of an argument. Names, trees and VIDs are those of scripts; `next` is a word of its own
 abbrev pub is_right : Argument → List ℕ → Bool
 is_right Tree word = is_ok (tree word)
+is_right FirstBridge word = is_ok (name word)
 is_right Bridge word = is_ok (name word)
 is_right Next word = is_text word (codes "next")
 is_right NextBridge word = is_ok (name word)
@@ -35,6 +36,7 @@ is_right Steps word = is_ok (steps word)
 -- the word that stands for it where a form is told
 abbrev pub word_of : Argument → List ℕ
 word_of Tree = scripts.word_of TreeNumber
+word_of FirstBridge = codes "A"
 word_of Bridge = scripts.word_of BridgeName
 word_of Next = codes "next"
 word_of NextBridge = codes "C"
@@ -48,6 +50,7 @@ word_of Steps = codes "N"
 -- which words are in its form
 abbrev pub range_of : Argument → List ℕ
 range_of Tree = scripts.range_of V1 TreeNumber
+range_of FirstBridge = codes "A is 1 to 16 letters, digits, _, - and ., the first a letter or a digit"
 range_of Bridge = scripts.range_of V1 BridgeName
 range_of Next = codes "it is next"
 range_of NextBridge = codes "C is 1 to 16 letters, digits, _, - and ., the first a letter or a digit"
@@ -103,6 +106,8 @@ rule_of kinds.Leaves = rule (codes "leaves") (Vids ∷ Names ∷ []) (two vids n
 rule_of kinds.Together = rule (codes "together") (Vids ∷ Names ∷ []) (two vids names expectations.Together)
 rule_of kinds.Leaf = rule (codes "leaf") (Tree ∷ Names ∷ []) (two tree names expectations.Leaf)
 rule_of kinds.Depth = rule (codes "depth") (Tree ∷ Steps ∷ []) (two tree steps expectations.Depth)
+rule_of kinds.Hops = rule (codes "hops") (Vids ∷ Steps ∷ Names ∷ []) (three vids steps names expectations.Hops)
+rule_of kinds.Via = rule (codes "via") (Vids ∷ FirstBridge ∷ Bridge ∷ NextBridge ∷ []) (four vids name name name expectations.Via)
 rule_of kinds.Carries = rule (codes "carries") (Lan ∷ Vids ∷ []) (two name vids expectations.Carries)
 rule_of kinds.Avoids = rule (codes "avoids") (Lan ∷ Vids ∷ []) (two name vids expectations.Avoids)
 rule_of kinds.Fits = rule (codes "fits") [] (none_of expectations.Fits)
@@ -111,7 +116,7 @@ rule_of kinds.Fits = rule (codes "fits") [] (none_of expectations.Fits)
 abbrev pub all_kinds : List Kind
 all_kinds =
     kinds.Root ∷ kinds.RootNext ∷ kinds.Region ∷ kinds.Role ∷ kinds.Reach ∷ kinds.Apart ∷ kinds.Leaves ∷ kinds.Together ∷ kinds.Leaf ∷ kinds.Depth
-    ∷ kinds.Carries ∷ kinds.Avoids ∷ kinds.Fits ∷ []
+    ∷ kinds.Hops ∷ kinds.Via ∷ kinds.Carries ∷ kinds.Avoids ∷ kinds.Fits ∷ []
 
 -- the form of a word that takes the words behind it
 abbrev pub kind_of : List ℕ → List (List ℕ) → Option Kind

@@ -75,6 +75,19 @@ pub enum Expectation {
         tree: Tree,
         steps: u64,
     },
+    /// For no VID a path between two of the bridges has more hops.
+    Hops {
+        vids: VidSet,
+        most: u64,
+        names: NameList,
+    },
+    /// For each VID the path from the one bridge to the other meets the third, be it at its ends.
+    Via {
+        vids: VidSet,
+        from: Name,
+        to: Name,
+        by: Name,
+    },
     /// All of the VIDs go over the logical LAN of this LAN.
     Carries {
         lan: Name,

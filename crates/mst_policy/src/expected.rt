@@ -4,7 +4,7 @@ ghost use Rattle.std.specs.Prelude.{◌≡◌, [], ◌∷◌, IfOk};
 ghost use Rattle.mst_lang.specs.Words.{words};
 ghost use Rattle.mst_lang.specs.Arguments as scripts;
 ghost use Rattle.mst_policy.specs.Arguments as values;
-ghost use Rattle.mst_policy.specs.Arguments.{none_of, one, two, three};
+ghost use Rattle.mst_policy.specs.Arguments.{none_of, one, two, three, four};
 ghost use Rattle.mst_policy.specs.Forms.{expected, rule_of, root as root_words, root_alone as alone, root_next as and_next};
 ghost use Rattle.mst_policy.specs.declared.expectation.Expectation.TheVariants as expectations;
 
@@ -49,6 +49,8 @@ fn of_kind(
         Kind::Together => together(alloc, arguments),
         Kind::Leaf => leaf(alloc, arguments),
         Kind::Depth => Ok(depth(arguments)),
+        Kind::Hops => hops(alloc, arguments),
+        Kind::Via => Ok(via(arguments)),
         Kind::Carries => Ok(carries(arguments)),
         Kind::Avoids => Ok(avoids(arguments)),
         Kind::Fits => Ok(fits(arguments)),
@@ -217,6 +219,35 @@ fn depth(arguments: &[u8]) -> Result<Expectation, Fault>
     let steps = steps(steps_word)?;
     let tree = tree(tree_word)?;
     Ok(Expectation::Depth { tree, steps })
+}
+
+fn hops(alloc: Global, arguments: &[u8]) -> Result<Result<Expectation, Fault>, AllocError>
+    ensures { IfOk result (λ read. read ≡ three scripts.vids values.steps values.names expectations.Hops (words arguments.now)) }
+{
+    let Some((vids_word, steps_word, list)) = three_words(arguments) else {
+        return Ok(Err(Fault::E01));
+    };
+    let Some(names) = names(alloc, list)? else {
+        return Ok(Err(Fault::E02));
+    };
+    let Ok(most) = steps(steps_word) else {
+        return Ok(Err(Fault::E02));
+    };
+    match vids(vids_word) {
+        Ok(vids) => Ok(Ok(Expectation::Hops { vids, most, names })),
+        Err(fault) => Ok(Err(fault)),
+    }
+}
+
+fn via(arguments: &[u8]) -> Result<Expectation, Fault>
+    ensures { result ≡ four scripts.vids scripts.name scripts.name scripts.name expectations.Via (words arguments.now) }
+{
+    let (vids_word, from, to, by) = four_words(arguments).ok_or(Fault::E01)?;
+    let from = name(from)?;
+    let to = name(to)?;
+    let by = name(by)?;
+    let vids = vids(vids_word)?;
+    Ok(Expectation::Via { vids, from, to, by })
 }
 
 fn carries(arguments: &[u8]) -> Result<Expectation, Fault>

@@ -12,10 +12,12 @@ use mst_lang::{Version, name, next_word, tree, vids};
 #[derive(Clone, Copy)]
 pub enum Argument {
     Tree,
+    /// The bridge that a path leads from.
+    FirstBridge,
     Bridge,
     /// The word `next`.
     Next,
-    /// The bridge that comes next.
+    /// Another bridge: the one that comes next, or that a path meets.
     NextBridge,
     Lan,
     Vids,
@@ -25,7 +27,7 @@ pub enum Argument {
     Ports,
     /// A list of roles.
     Roles,
-    /// A number of steps.
+    /// A number of steps or of hops.
     Steps,
 }
 
@@ -43,6 +45,8 @@ pub enum Kind {
     Together,
     Leaf,
     Depth,
+    Hops,
+    Via,
     Carries,
     Avoids,
     Fits,
@@ -70,7 +74,7 @@ macro_rules! forms {
     };
 }
 
-static FORMS: [Form; 13] = forms! {
+static FORMS: [Form; 15] = forms! {
     b"root" Root [Tree Bridge];
     b"root" RootNext [Tree Bridge Next NextBridge];
     b"region" Region [Names];
@@ -81,6 +85,8 @@ static FORMS: [Form; 13] = forms! {
     b"together" Together [Vids Names];
     b"leaf" Leaf [Tree Names];
     b"depth" Depth [Tree Steps];
+    b"hops" Hops [Vids Steps Names];
+    b"via" Via [Vids FirstBridge Bridge NextBridge];
     b"carries" Carries [Lan Vids];
     b"avoids" Avoids [Lan Vids];
     b"fits" Fits [];
@@ -146,7 +152,9 @@ pub fn is_argument(argument: Argument, word: &[u8]) -> bool
 {
     match argument {
         Argument::Tree => tree(word).is_ok(),
-        Argument::Bridge | Argument::NextBridge | Argument::Lan => name(word).is_ok(),
+        Argument::FirstBridge | Argument::Bridge | Argument::NextBridge | Argument::Lan => {
+            name(word).is_ok()
+        }
         Argument::Next => is_word(word, b"next"),
         Argument::Vids => vids(word).is_ok(),
         Argument::Names => are_names(word),
@@ -163,6 +171,7 @@ impl Argument {
     {
         match self {
             Argument::Tree => mst_lang::Argument::TreeNumber.word(),
+            Argument::FirstBridge => "A",
             Argument::Bridge => mst_lang::Argument::BridgeName.word(),
             Argument::Next => "next",
             Argument::NextBridge => "C",
@@ -181,6 +190,9 @@ impl Argument {
     {
         match self {
             Argument::Tree => mst_lang::Argument::TreeNumber.range(Version::V1),
+            Argument::FirstBridge => {
+                "A is 1 to 16 letters, digits, _, - and ., the first a letter or a digit"
+            }
             Argument::Bridge => mst_lang::Argument::BridgeName.range(Version::V1),
             Argument::Next => "it is next",
             Argument::NextBridge => {

@@ -9,7 +9,7 @@ use Rattle.mst_lang.specs.Reading.{is_comment}
 use Rattle.mst_lang.specs.Words.{words, is_plain}
 use Rattle.mst_lang.specs.declared.line.Fault.{Fault}
 use Rattle.mst_lang.specs.declared.line.Fault.TheVariants.{E01, E02, E03}
-use Rattle.mst_policy.specs.Arguments.{with, names, names_value, ports, roles, steps, none_of, one, two, three}
+use Rattle.mst_policy.specs.Arguments.{with, names, names_value, ports, roles, steps, none_of, one, two, three, four}
 use Rattle.mst_policy.specs.Forms.{all_kinds, expected, is_right, kind_of, may_stand, root, root_alone, root_next, rule_of, takes}
 use Rattle.mst_policy.specs.Reading.{after, behind_scope, finally, in_scope, in_the_end, is_leaving, of_the_end, promise, promised, reading, scoped, worded}
 use Rattle.mst_policy.specs.declared.expectation.Expectation.{Expectation}
@@ -18,7 +18,7 @@ use Rattle.mst_policy.specs.declared.expectation.Promise.{Promise}
 use Rattle.mst_policy.specs.declared.expectation.Scope.{Scope}
 use Rattle.mst_policy.specs.declared.expectation.Scope.TheVariants.{Now, AfterLan, AfterBridge, Always}
 use Rattle.mst_policy.specs.declared.form.Argument.{Argument}
-use Rattle.mst_policy.specs.declared.form.Argument.TheVariants.{Tree, Bridge, Next, NextBridge, Lan, Vids, Names, Ports, Roles, Steps}
+use Rattle.mst_policy.specs.declared.form.Argument.TheVariants.{Tree, FirstBridge, Bridge, Next, NextBridge, Lan, Vids, Names, Ports, Roles, Steps}
 use Rattle.mst_policy.specs.declared.form.Kind.{Kind}
 use Rattle.mst_policy.specs.declared.form.Kind.TheVariants as kinds
 use Rattle.mst_policy.specs.declared.item.NameItem.{NameItem}
@@ -73,6 +73,25 @@ three_wrong make (Err fault) (Ok y) (Err other) a b c = refl
 three_wrong make (Err fault) (Err other) (Ok z) a b c = refl
 three_wrong make (Err fault) (Err other) (Err third) a b c = refl
 
+four_wrong : {A B C D E : Type 0} (make : A → B → C → D → E) (r : Result A Fault) (s : Result B Fault) (t : Result C Fault) (q : Result D Fault) (a b c d : Argument)
+    → is_some (cond (is_ok r) (cond (is_ok s) (cond (is_ok t) (cond (is_ok q) None (Some d)) (Some c)) (Some b)) (Some a)) ≡ is_err (with (with (with (with (Ok make) r) s) t) q)
+four_wrong make (Ok x) (Ok y) (Ok z) (Ok u) a b c d = refl
+four_wrong make (Ok x) (Ok y) (Ok z) (Err fault) a b c d = refl
+four_wrong make (Ok x) (Ok y) (Err fault) (Ok u) a b c d = refl
+four_wrong make (Ok x) (Ok y) (Err fault) (Err other) a b c d = refl
+four_wrong make (Ok x) (Err fault) (Ok z) (Ok u) a b c d = refl
+four_wrong make (Ok x) (Err fault) (Ok z) (Err other) a b c d = refl
+four_wrong make (Ok x) (Err fault) (Err other) (Ok u) a b c d = refl
+four_wrong make (Ok x) (Err fault) (Err other) (Err third) a b c d = refl
+four_wrong make (Err fault) (Ok y) (Ok z) (Ok u) a b c d = refl
+four_wrong make (Err fault) (Ok y) (Ok z) (Err other) a b c d = refl
+four_wrong make (Err fault) (Ok y) (Err other) (Ok u) a b c d = refl
+four_wrong make (Err fault) (Ok y) (Err other) (Err third) a b c d = refl
+four_wrong make (Err fault) (Err other) (Ok z) (Ok u) a b c d = refl
+four_wrong make (Err fault) (Err other) (Ok z) (Err third) a b c d = refl
+four_wrong make (Err fault) (Err other) (Err third) (Ok u) a b c d = refl
+four_wrong make (Err fault) (Err other) (Err third) (Err last) a b c d = refl
+
 -- words of a form: one of them is wrong just where nothing is made of them
 abbrev Alike : List Argument → (List (List ℕ) → Result Expectation Fault) → Type 0
 Alike form says = (words : List (List ℕ)) → takes form words ≡ true → is_some (first_wrong form words) ≡ is_err (says words)
@@ -109,6 +128,22 @@ three_says a b c f g h make ra rb rc (w ∷ v ∷ u ∷ []) fit =
 three_says a b c f g h make ra rb rc (w ∷ v ∷ u ∷ t ∷ ws) fit =
     absurd (and_no (may_stand c u) (and_right (may_stand b v) (may_stand c u && false) (and_right (may_stand a w) (may_stand b v && (may_stand c u && false)) fit)))
 
+four_says : {A B C D : Type 0} (a b c d : Argument) (f : List ℕ → Result A Fault) (g : List ℕ → Result B Fault) (h : List ℕ → Result C Fault) (k : List ℕ → Result D Fault) (make : A → B → C → D → Expectation)
+    → ((w : List ℕ) → is_right a w ≡ is_ok (f w)) → ((w : List ℕ) → is_right b w ≡ is_ok (g w)) → ((w : List ℕ) → is_right c w ≡ is_ok (h w)) → ((w : List ℕ) → is_right d w ≡ is_ok (k w)) → Alike (a ∷ b ∷ c ∷ d ∷ []) (four f g h k make)
+four_says a b c d f g h k make ra rb rc rd [] fit = absurd (true≢false (sym fit))
+four_says a b c d f g h k make ra rb rc rd (w ∷ []) fit = absurd (and_no (may_stand a w) fit)
+four_says a b c d f g h k make ra rb rc rd (w ∷ v ∷ []) fit = absurd (and_no (may_stand b v) (and_right (may_stand a w) (may_stand b v && false) fit))
+four_says a b c d f g h k make ra rb rc rd (w ∷ v ∷ u ∷ []) fit =
+    absurd (and_no (may_stand c u) (and_right (may_stand b v) (may_stand c u && false) (and_right (may_stand a w) (may_stand b v && (may_stand c u && false)) fit)))
+four_says a b c d f g h k make ra rb rc rd (w ∷ v ∷ u ∷ t ∷ []) fit =
+    ap (λ x. is_some (cond x (cond (is_right b v) (cond (is_right c u) (cond (is_right d t) None (Some d)) (Some c)) (Some b)) (Some a))) (ra w)
+    ∙ ap (λ y. is_some (cond (is_ok (f w)) (cond y (cond (is_right c u) (cond (is_right d t) None (Some d)) (Some c)) (Some b)) (Some a))) (rb v)
+    ∙ ap (λ z. is_some (cond (is_ok (f w)) (cond (is_ok (g v)) (cond z (cond (is_right d t) None (Some d)) (Some c)) (Some b)) (Some a))) (rc u)
+    ∙ ap (λ x. is_some (cond (is_ok (f w)) (cond (is_ok (g v)) (cond (is_ok (h u)) (cond x None (Some d)) (Some c)) (Some b)) (Some a))) (rd t)
+    ∙ four_wrong make (f w) (g v) (h u) (k t) a b c d
+four_says a b c d f g h k make ra rb rc rd (w ∷ v ∷ u ∷ t ∷ s ∷ ws) fit =
+    absurd (and_no (may_stand d t) (and_right (may_stand c u) (may_stand d t && false) (and_right (may_stand b v) (may_stand c u && (may_stand d t && false)) (and_right (may_stand a w) (may_stand b v && (may_stand c u && (may_stand d t && false))) fit))))
+
 -- with `next` among them, which stands there
 root_says : Alike (Tree ∷ Bridge ∷ Next ∷ NextBridge ∷ []) root
 root_says [] fit = absurd (true≢false (sym fit))
@@ -131,6 +166,8 @@ says_alike kinds.Leaves = two_says Vids Names vids names expectations.Leaves (λ
 says_alike kinds.Together = two_says Vids Names vids names expectations.Together (λ w. refl) (λ w. refl)
 says_alike kinds.Leaf = two_says Tree Names tree names expectations.Leaf (λ w. refl) (λ w. refl)
 says_alike kinds.Depth = two_says Tree Steps tree steps expectations.Depth (λ w. refl) (λ w. refl)
+says_alike kinds.Hops = three_says Vids Steps Names vids steps names expectations.Hops (λ w. refl) (λ w. refl) (λ w. refl)
+says_alike kinds.Via = four_says Vids FirstBridge Bridge NextBridge vids name name name expectations.Via (λ w. refl) (λ w. refl) (λ w. refl) (λ w. refl)
 says_alike kinds.Carries = two_says Lan Vids name vids expectations.Carries (λ w. refl) (λ w. refl)
 says_alike kinds.Avoids = two_says Lan Vids name vids expectations.Avoids (λ w. refl) (λ w. refl)
 says_alike kinds.Fits = none_says expectations.Fits
