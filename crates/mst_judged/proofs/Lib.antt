@@ -8,4 +8,6 @@ pub mod HomeParts
 pub mod VidReasons
 pub mod VidParts
 pub mod OfVids
+pub mod ClassValues
+pub mod ValueGroups
 pub mod ClassesOfBoth

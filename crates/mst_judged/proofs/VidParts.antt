@@ -1,4 +1,4 @@
--- What a class of VIDs has of parts, each of its VIDs has.
+-- What value a class of VIDs has, each of its VIDs has.
 use Rattle.std.proofs.Common.{◌≡◌, inl, inr, ℕ, ◌+◌, ◌-◌, ◌<◌, Bool, true, false, List, [], length, get_or, sym, subst, arith}
 use Rattle.std.specs.List.{Contains}
 use Rattle.std.proofs.lemmas.Bool.{eqb-true}
@@ -16,10 +16,10 @@ use Rattle.mst_reasons.specs.sweep.vlan.classes.Classes.{AreClasses}
 use Rattle.mst_reasons.specs.sweep.vlan.classes.Flags.{flag_at}
 use Rattle.mst_reasons.proofs.sweep_lemmas.vlan_lemmas.LinksAlike.{links_shared}
 use Rattle.mst_reasons.proofs.sweep_lemmas.vlan_lemmas.classes_lemmas.VidPlaces.{numbers_below, vid_place}
-use Rattle.mst_reasons.specs.sweep.Cuts.{parts_at}
 use Rattle.mst_reasons.specs.sweep.vlan.Reach.{vid_links}
 use Rattle.mst_reasons.specs.Holds.{AreTogether, IsReached}
-use Rattle.mst_judged.specs.Islands.{AreOfClasses, AreReachParts}
+use Rattle.mst_judged.specs.Islands.{AreReachParts}
+use Rattle.mst_judged.specs.Valued.{AreValuesOf, value_at}
 use Rattle.mst_reasons.specs.Reasons.{AreBoth, Parts, either_on}
 
 -- ---- classes
@@ -37,10 +37,10 @@ module _ (v : Viewed) (c : Numbering) (k : AreClasses v c) where
       let j_told : j < length told = subst (λ n. j < n) (sym tell.as_long) lj in
       tell.alike i j li lj (eqb-true (get_or told i 0) (get_or told j 0) ((are.equal i j 0 i_told j_told).0 same))
 
-  module _ (HasParts : ℕ → Parts → Type 0)
-      (moved : (i j : ℕ) → i < 4094 → j < 4094 → get_or c.numbers.items i 0 ≡ get_or c.numbers.items j 0 → (parts : Parts) → HasParts (i + 1) parts → HasParts (j + 1) parts)
-      (flags : List Bool) (bodies : List Parts) (of : AreOfClasses HasParts c.firsts.items flags bodies) where
-    there : (i : ℕ) → i < 4094 → get_or flags (get_or c.numbers.items i 0) false ≡ true → HasParts (i + 1) (get_or bodies (get_or c.numbers.items i 0) [])
+  module _ {B : Type 0} (none : B) (Has : ℕ → B → Type 0)
+      (moved : (i j : ℕ) → i < 4094 → j < 4094 → get_or c.numbers.items i 0 ≡ get_or c.numbers.items j 0 → (value : B) → Has (i + 1) value → Has (j + 1) value)
+      (flags : List Bool) (values : List B) (of : AreValuesOf none Has c.firsts.items flags values) where
+    there : (i : ℕ) → i < 4094 → get_or flags (get_or c.numbers.items i 0) false ≡ true → Has (i + 1) (get_or values (get_or c.numbers.items i 0) none)
     there i l flag =
         let n : ℕ = get_or c.numbers.items i 0 in
         let l_told : i < length told = subst (λ k. i < k) (sym tell.as_long) l in
@@ -48,15 +48,15 @@ module _ (v : Viewed) (c : Numbering) (k : AreClasses v c) where
         let first = are.first n below in
         let k : ℕ = get_or c.firsts.items n 0 in
         let k_below : k < 4094 = subst (λ m. k < m) tell.as_long first.0 in
-        moved k i k_below l first.1 (get_or bodies n []) (of n below flag)
+        moved k i k_below l first.1 (get_or values n none) (of n below flag)
 
-    pub vids_have : (vid : ℕ) → Contains all_vids vid → flag_at c.numbers.items flags vid ≡ true → HasParts vid (parts_at c.numbers.items bodies vid)
+    pub vids_have : (vid : ℕ) → Contains all_vids vid → flag_at c.numbers.items flags vid ≡ true → Has vid (value_at none c.numbers.items values vid)
     vids_have vid h flag =
         let p = vid_place vid h in
         let is : p.place + 1 ≡ vid = p.is in
         let place : p.place ≡ vid - 1 = omega arith in
-        subst (λ i. HasParts vid (get_or bodies (get_or c.numbers.items i 0) [])) place
-        (subst (λ vid. HasParts vid (get_or bodies (get_or c.numbers.items p.place 0) [])) is
+        subst (λ i. Has vid (get_or values (get_or c.numbers.items i 0) none)) place
+        (subst (λ vid. Has vid (get_or values (get_or c.numbers.items p.place 0) none)) is
         (there p.place p.below (subst (λ i. get_or flags (get_or c.numbers.items i 0) false ≡ true) (sym place) flag)))
 
 -- ---- VIDs of the same links

@@ -19,6 +19,7 @@ use Rattle.mst_reasons.specs.Holds.{IsReached}
 use Rattle.mst_policy.specs.Leaving.{Leaving}
 use Rattle.mst_reasons.specs.Named.{Gone, Prior, remaining}
 use Rattle.mst_reasons.specs.Reasons.{Parts}
+use Rattle.mst_judged.specs.Valued.{AreValuesOf}
 use Rattle.mst_judged.specs.declared.beside.Beside.{Beside}
 use Rattle.mst_judged.specs.declared.before.Before.{Before}
 use Rattle.mst_judged.specs.declared.homes.Homes.{Homes}
@@ -150,8 +151,7 @@ ArePartsBy homes bridges parts =
 
 -- for each class with a flag, the parts of its first VID
 abbrev pub AreOfClasses : (ℕ → Parts → Type 0) → List ℕ → List Bool → List Parts → Type 0
-AreOfClasses HasParts firsts flags bodies =
-    (class : ℕ) → class < length firsts → slice_index_or flags class false ≡ true → HasParts (slice_index firsts class + 1) (slice_index_or bodies class [])
+AreOfClasses HasParts firsts flags bodies = AreValuesOf [] HasParts firsts flags bodies
 
 -- a VID has the parts that are kept for its class
 abbrev pub HasBody : List ℕ → List Parts → ℕ → Parts → Type 0

@@ -1,5 +1,5 @@
 -- Whether an expectation holds in a network with its settled outcome, by name.
-use Rattle.std.specs.Prelude.{◌≡◌, ◌⊎◌, ℕ, ◌≤◌, Bool, true, false, not, List, [], Option, Some, None, filter, ⊤}
+use Rattle.std.specs.Prelude.{◌≡◌, ◌⊎◌, ℕ, ◌≤◌, Bool, true, false, not, List, [], length, Option, Some, None, filter, ⊤}
 use Rattle.std.specs.List.{Contains}
 use Rattle.std.specs.Option.{ForSome}
 use Rattle.mst_kinds.specs.declared.kind.Kind.{Kind}
@@ -9,6 +9,7 @@ use Rattle.mst_rows.specs.Rows.{Row}
 use Rattle.mst_graph.specs.Islands.{AreJoined}
 use Rattle.mst_graph.specs.Walks.{bridge_at}
 use Rattle.mst_tables.specs.Tables.{Net}
+use Rattle.mst_path.specs.Paths.{Hop, IsPathOf, bridges_met}
 use Rattle.mst_roles.specs.forest.config.Regions.{same_region}
 use Rattle.mst_view.specs.View.{LogicalPort}
 use Rattle.mst_note_text.specs.Children.{HasSteps}
@@ -89,6 +90,17 @@ AreLeaves net o tree bridges = (child bridge : List ℕ) → Contains bridges br
 abbrev pub IsShallow : Net → Outcome → ℕ → ℕ → Type 0
 IsShallow net o tree most = (bridge : List ℕ) (steps : ℕ) → HasSteps (trees_of net o) tree bridge steps → steps ≤ most
 
+-- ---- paths of VIDs
+-- no path between two of these bridges has more hops
+abbrev pub AreNear : Net → Outcome → List Bool → ℕ → List (List ℕ) → Type 0
+AreNear net o vids most bridges =
+    (vid : ℕ) → Contains (vids_in vids) vid → (a b : List ℕ) → Contains bridges a → Contains bridges b → (path : List Hop) → IsPathOf net o vid a b (Some path) → length path ≤ most
+
+-- where there is a path from a to b, it meets c
+abbrev pub AllMeet : Net → Outcome → List Bool → List ℕ → List ℕ → List ℕ → Type 0
+AllMeet net o vids a b c =
+    (vid : ℕ) → Contains (vids_in vids) vid → (path : List Hop) → IsPathOf net o vid a b (Some path) → Contains (bridges_met a path) c
+
 -- ---- what LANs carry
 abbrev pub AllGoOver : Net → Outcome → List ℕ → List Bool → Type 0
 AllGoOver net o lan vids = (vid : ℕ) → Contains (vids_in vids) vid → goes_over net o lan vid ≡ true
@@ -109,7 +121,7 @@ limit_notes notes = filter (λ note. not (is_restricted note.kind)) notes
 abbrev pub NoLimitBinds : Net → Outcome → Type 0
 NoLimitBinds net o = (notes : List Row) → AreNoteRows net o notes → limit_notes notes ≡ []
 
--- ---- all twelve
+-- ---- all fourteen
 -- an expectation holds in a network with this outcome. It is the one before all failures, or one that a failure makes of that one,
 -- `before`, and then this bridge is gone, if it was one. What stays together was so in the network that is prior to it, and isn't meant to leave
 abbrev pub Holds : Net → Outcome → Net → Gone → Prior → Expectation → Type 0
@@ -122,6 +134,8 @@ Holds net o before lost prior (expect.Leaves vids names) = AreApart net o vids (
 Holds net o before lost prior (expect.Together vids names) = StayTogether prior.before prior.leaving net o vids lost names
 Holds net o before lost prior (expect.Leaf tree names) = AreLeaves net o tree (named net lost names)
 Holds net o before lost prior (expect.Depth tree steps) = IsShallow net o tree steps
+Holds net o before lost prior (expect.Hops vids most names) = AreNear net o vids most (named net lost names)
+Holds net o before lost prior (expect.Via vids a b c) = AllMeet net o vids a b c
 Holds net o before lost prior (expect.Carries lan vids) = AllGoOver net o lan vids
 Holds net o before lost prior (expect.Avoids lan vids) = NoneGoesOver net o lan vids
 Holds net o before lost prior expect.Fits = NoLimitBinds net o

@@ -29,9 +29,10 @@ abbrev pub gone_of : Failure → Gone
 gone_of (failing.Lan lan) = None
 gone_of (failing.Bridge bridge) = Some bridge
 
--- a bridge is the B or the C that the expectation names, and a LAN is its LAN
+-- a bridge is one that the expectation names by itself: the B or the C of `root`, the A, B or C of `via`. And a LAN is its LAN
 abbrev pub is_its_bridge : Expectation → List ℕ → Bool
 is_its_bridge (expect.Root tree b next) bridge = same_name b bridge || option_map_or (λ c. same_name c bridge) next false
+is_its_bridge (expect.Via vids a b c) bridge = same_name a bridge || (same_name b bridge || same_name c bridge)
 is_its_bridge _ bridge = false
 
 abbrev pub is_its_lan : Expectation → List ℕ → Bool

@@ -1,4 +1,5 @@
 pub use Rattle.mst_note_text.specs as note_text
+pub use Rattle.mst_path.specs as path
 pub use Rattle.mst_sweep.specs as sweep
 pub use Rattle.mst_summary.specs as summary
 pub mod Missing
@@ -7,6 +8,7 @@ pub mod Judged
 pub mod Named
 pub mod Over
 pub mod Reasons
+pub mod Stretches
 pub mod Roots
 pub mod Placed
 pub mod Seen

@@ -46,6 +46,8 @@ bridges_of (expect.Apart vids names others) = names ++ others
 bridges_of (expect.Leaves vids names) = names
 bridges_of (expect.Together vids names) = names
 bridges_of (expect.Leaf tree names) = names
+bridges_of (expect.Hops vids most names) = names
+bridges_of (expect.Via vids a b c) = Is a ∷ Is b ∷ Is c ∷ []
 bridges_of _ = []
 
 -- its ports

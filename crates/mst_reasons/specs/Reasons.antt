@@ -36,6 +36,7 @@ use Rattle.mst_reasons.specs.Named.{Gone, Prior, named, ports_named, remaining, 
 use Rattle.mst_reasons.specs.Over.{not_as_wanted}
 use Rattle.mst_reasons.specs.Roots.{concerned, is_root_of, IsNextRoot}
 use Rattle.mst_reasons.specs.Holds.{is_wanted, AreTogether, IsReached}
+use Rattle.mst_reasons.specs.Stretches.{HasLongest, HasStretch, Stretch}
 use Rattle.mst_reasons.specs.declared.reason.Reason.{Reason}
 use Rattle.mst_reasons.specs.declared.reason.Reason.TheVariants as why
 
@@ -104,18 +105,18 @@ role_reasons net o tree ports roles = flat_map (role_reason net o tree ports rol
 abbrev pub Parts : Type 0
 Parts = List (List (List ℕ))
 
--- of a group of VIDs that have these parts, if there is something to tell of them
-abbrev pub group_reasons : (List ℕ → Parts → List Reason) → (ℕ → Parts) → List ℕ → List Reason
-group_reasons tell parts [] = []
-group_reasons tell parts (vid ∷ others) = tell (vid ∷ others) (parts vid)
+-- of a group of VIDs that have this value, if there is something to tell of them
+abbrev pub group_reasons : {B : Type 0} → (List ℕ → B → List Reason) → (ℕ → B) → List ℕ → List Reason
+group_reasons tell value [] = []
+group_reasons tell value (vid ∷ others) = tell (vid ∷ others) (value vid)
 
--- where each of the VIDs has parts by this relation, these are the reasons of the groups of VIDs of equal parts, by the least VID
-pub record AreVidReasons (HasParts : ℕ → Parts → Type 0) (tell : List ℕ → Parts → List Reason) (vids : List Bool) (reasons : List Reason) : Type 0 where
-  pub parts : ℕ → Parts
-  pub are_parts : (vid : ℕ) → Contains (vids_in vids) vid → HasParts vid (parts vid)
+-- where each of the VIDs has a value by this relation, these are the reasons of the groups of VIDs of equal values, by the least VID
+pub record AreVidReasons {B : Type 0} (Has : ℕ → B → Type 0) (tell : List ℕ → B → List Reason) (vids : List Bool) (reasons : List Reason) : Type 0 where
+  pub value : ℕ → B
+  pub has : (vid : ℕ) → Contains (vids_in vids) vid → Has vid (value vid)
   pub groups : List (List ℕ)
-  pub are_groups : AreGroups (λ x y. parts x ≡ parts y) (vids_in vids) groups
-  pub are : reasons ≡ flat_map (group_reasons tell parts) groups
+  pub are_groups : AreGroups (λ x y. value x ≡ value y) (vids_in vids) groups
+  pub are : reasons ≡ flat_map (group_reasons tell value) groups
 
 -- the parts of these bridges that are in one island, by their first bridges, where there are two
 abbrev pub reach_reason : List ℕ → Parts → List Reason
@@ -187,6 +188,23 @@ pub record AreDepthReasons (net : Net) (o : Outcome) (tree most : ℕ) (reasons 
   pub some : (greatest ≡ 0) ⊎ (has_any deepest ≡ true)
   pub are : reasons ≡ (if nat_lt most greatest then why.Depth tree greatest deepest ∷ [] else [])
 
+-- ---- paths of VIDs
+-- the two of these bridges between which a path has the most hops, where these are too many
+abbrev pub hops_reason : ℕ → List ℕ → Option Stretch → List Reason
+hops_reason most vids None = []
+hops_reason most vids (Some s) = if nat_lt most s.hops then why.TooManyHops (set_where (is_among vids)) s.hops s.bridges ∷ [] else []
+
+abbrev pub AreHopsReasons : Net → Outcome → List Bool → ℕ → List (List ℕ) → List Reason → Type 0
+AreHopsReasons net o vids most bridges reasons = AreVidReasons (HasLongest net o bridges) (hops_reason most) vids reasons
+
+-- the bridges that the path from a to b meets, where c is none of them
+abbrev pub via_reason : List ℕ → List ℕ → Option Stretch → List Reason
+via_reason c vids None = []
+via_reason c vids (Some s) = if is_in s.bridges c then [] else why.NotVia (set_where (is_among vids)) s.bridges ∷ []
+
+abbrev pub AreViaReasons : Net → Outcome → List Bool → List ℕ → List ℕ → List ℕ → List Reason → Type 0
+AreViaReasons net o vids a b c reasons = AreVidReasons (HasStretch net o a b) (via_reason c) vids reasons
+
 -- ---- what LANs carry
 -- of the VIDs that don't go over a LAN, and of those that do, if there are any
 abbrev pub carries_reason : List ℕ → List ℕ → List Reason
@@ -231,7 +249,7 @@ pub record AreFitsReasons (net : Net) (o : Outcome) (reasons : List Reason) : Ty
   pub are_notes : AreNoteRows net o notes
   pub are : reasons ≡ filter_map (λ note. limit_reason note.kind note.cells) notes
 
--- ---- all twelve
+-- ---- all fourteen
 abbrev pub AreReasons : Net → Outcome → Net → Gone → Prior → Expectation → List Reason → Type 0
 AreReasons net o before lost prior (expect.Root tree b next) reasons = AreRootReasons net o tree b next reasons
 AreReasons net o before lost prior (expect.Region names) reasons = AreRegionReasons net (named net lost names) reasons
@@ -242,6 +260,8 @@ AreReasons net o before lost prior (expect.Leaves vids names) reasons = AreLeave
 AreReasons net o before lost prior (expect.Together vids names) reasons = AreTogetherReasons prior.before prior.leaving net o vids lost names reasons
 AreReasons net o before lost prior (expect.Leaf tree names) reasons = AreLeafReasons net o tree (named net lost names) reasons
 AreReasons net o before lost prior (expect.Depth tree steps) reasons = AreDepthReasons net o tree steps reasons
+AreReasons net o before lost prior (expect.Hops vids most names) reasons = AreHopsReasons net o vids most (named net lost names) reasons
+AreReasons net o before lost prior (expect.Via vids a b c) reasons = AreViaReasons net o vids a b c reasons
 AreReasons net o before lost prior (expect.Carries lan vids) reasons = reasons ≡ carries_reason lan (not_as_wanted net o lan true vids)
 AreReasons net o before lost prior (expect.Avoids lan vids) reasons = reasons ≡ avoids_reason lan (not_as_wanted net o lan false vids)
 AreReasons net o before lost prior expect.Fits reasons = AreFitsReasons net o reasons

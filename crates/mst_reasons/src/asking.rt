@@ -1,4 +1,4 @@
-ghost use Rattle.std.specs.Prelude.{◌≡◌, false};
+ghost use Rattle.std.specs.Prelude.{◌≡◌, ◌||◌, false};
 ghost use Rattle.std.specs.Option.{option_map_or};
 ghost use Rattle.mst_view.specs.Aggregation.{same_name};
 ghost use Rattle.mst_reasons.specs.Judged.{is_its_bridge as is_bridge_of, is_its_lan as is_lan_of, asks_for as list_asks_for, asks_now as promise_asks_now, asks as promise_asks, has_now as scope_has_now, looks_back as looks_back_of, scope_asks};
@@ -36,8 +36,8 @@ pub fn has_now(scope: &Scope) -> bool
     }
 }
 
-/// Whether the network that a failure makes is judged. That of a failure of what the expectation itself names, its root, the next one
-/// or its LAN, is judged where the scope names it, too, and not where a pattern has it.
+/// Whether the network that a failure makes is judged. That of a failure of what the expectation itself names, its root, the next one,
+/// the bridges of its path or its LAN, is judged where the scope names it, too, and not where a pattern has it.
 pub fn asks(promise: &Promise, failure: &Failure) -> bool
     ensures { result ≡ promise_asks promise.now failure.now }
 {
@@ -82,7 +82,7 @@ fn asks_for(names: &NameList, name: &Name, is_own: bool) -> bool
     names.has(name) && (!is_own || names.lists(name))
 }
 
-/// Whether a bridge is the root, or the next one, that an expectation names.
+/// Whether a bridge is one that an expectation names by itself: the root or the next one, or one of the three of a path.
 fn is_its_bridge(expectation: &Expectation, bridge: &Name) -> bool
     ensures { result ≡ is_bridge_of expectation.now bridge.now }
 {
@@ -92,8 +92,16 @@ fn is_its_bridge(expectation: &Expectation, bridge: &Name) -> bool
             next,
             ..
         } => *root == *bridge || is_next(next, bridge),
+        Expectation::Via { from, to, by, .. } => is_of_three(from, to, by, bridge),
         _ => false,
     }
+}
+
+/// Whether a bridge is one of these three.
+fn is_of_three(from: &Name, to: &Name, by: &Name, bridge: &Name) -> bool
+    ensures { result ≡ (same_name from.now bridge.now || (same_name to.now bridge.now || same_name by.now bridge.now)) }
+{
+    *from == *bridge || (*to == *bridge || *by == *bridge)
 }
 
 fn is_next(next: &Option<Name>, bridge: &Name) -> bool

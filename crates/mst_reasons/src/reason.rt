@@ -63,6 +63,17 @@ pub enum Reason {
         steps: u64,
         bridges: BridgeNames,
     },
+    /// A path between two bridges has too many hops for these VIDs: of such paths the first one with the most.
+    TooManyHops {
+        vids: VidSet,
+        hops: u64,
+        bridges: BridgeNames,
+    },
+    /// The path of these VIDs, by these bridges, doesn't meet the one that is wanted.
+    NotVia {
+        vids: VidSet,
+        bridges: BridgeNames,
+    },
     /// These VIDs don't go over a LAN.
     Carries {
         lan: Name,

@@ -11,8 +11,8 @@ returns c = IfOk-weaker c.told.result _ _
     (λ reasons told.
     let parts : ℕ → Parts = parts_at c.args.numbers.now (map names_of c.args.bodies.now) in
     record {
-      parts = parts;
-      are_parts = λ vid h. refl;
+      value = parts;
+      has = λ vid h. refl;
       groups = map (λ (g : Vec ℕ Global). g.items) c.in_ok-groups.groups.items;
       are_groups = c.in_ok-groups.ensures;
       are = told ∙ ap (λ (gs : List (Vec ℕ Global)). flat_map (group_reasons (tells c.args.telling) parts) (map (λ (g : Vec ℕ Global). g.items) gs)) c.as_slice.ensures.value;
