@@ -81,33 +81,33 @@ region_broken net bridges once reasons r =
     (λ e. g.0 (t.0 (sym r.are ∙ e)), λ all. r.are ∙ t.1 (g.1 all))
 
 -- ---- VIDs
-module _ (HasParts : ℕ → Parts → Type 0) (tell : List ℕ → Parts → List Reason) (quiet : Parts → Bool) (tells : (group : List ℕ) (parts : Parts) → (tell group parts ≡ []) ↔ (quiet parts ≡ false))
-    (vids : List Bool) (reasons : List Reason) (r : AreVidReasons HasParts tell vids reasons) where
-  vid_quiet : reasons ≡ [] → (vid : ℕ) → Contains (vids_in vids) vid → quiet (r.parts vid) ≡ false
+module _ {B : Type 0} (Has : ℕ → B → Type 0) (tell : List ℕ → B → List Reason) (quiet : B → Bool) (tells : (group : List ℕ) (value : B) → (tell group value ≡ []) ↔ (quiet value ≡ false))
+    (vids : List Bool) (reasons : List Reason) (r : AreVidReasons Has tell vids reasons) where
+  vid_quiet : reasons ≡ [] → (vid : ℕ) → Contains (vids_in vids) vid → quiet (r.value vid) ≡ false
   vid_quiet e vid h = let g = r.are_groups.each vid h in go g.0 g.1 g.2
     where
-      go : (group : List ℕ) → Contains r.groups group → Contains group vid → quiet (r.parts vid) ≡ false
+      go : (group : List ℕ) → Contains r.groups group → Contains group vid → quiet (r.value vid) ≡ false
       go [] k has = absurd (in_none vid has)
       go (v ∷ others) k has =
           let v_in = in_whole (r.are_groups.in_order (v ∷ others) k) v (here v others) in
-          let same : r.parts vid ≡ r.parts v = (r.are_groups.related (v ∷ others) vid v k has v_in).0 (here v others) in
-          ap quiet same ∙ (tells (v ∷ others) (r.parts v)).0 (each_none (group_reasons tell r.parts) r.groups (sym r.are ∙ e) (v ∷ others) k)
+          let same : r.value vid ≡ r.value v = (r.are_groups.related (v ∷ others) vid v k has v_in).0 (here v others) in
+          ap quiet same ∙ (tells (v ∷ others) (r.value v)).0 (each_none (group_reasons tell r.value) r.groups (sym r.are ∙ e) (v ∷ others) k)
 
-  quiet_vid : ((vid : ℕ) → Contains (vids_in vids) vid → quiet (r.parts vid) ≡ false) → reasons ≡ []
-  quiet_vid all = r.are ∙ none_each (group_reasons tell r.parts) r.groups go
+  quiet_vid : ((vid : ℕ) → Contains (vids_in vids) vid → quiet (r.value vid) ≡ false) → reasons ≡ []
+  quiet_vid all = r.are ∙ none_each (group_reasons tell r.value) r.groups go
     where
-      go : (group : List ℕ) → Contains r.groups group → group_reasons tell r.parts group ≡ []
+      go : (group : List ℕ) → Contains r.groups group → group_reasons tell r.value group ≡ []
       go [] k = refl
-      go (v ∷ others) k = (tells (v ∷ others) (r.parts v)).1 (all v (in_whole (r.are_groups.in_order (v ∷ others) k) v (here v others)))
+      go (v ∷ others) k = (tells (v ∷ others) (r.value v)).1 (all v (in_whole (r.are_groups.in_order (v ∷ others) k) v (here v others)))
 
-  pub vids_broken : (reasons ≡ []) ↔ ((vid : ℕ) → Contains (vids_in vids) vid → quiet (r.parts vid) ≡ false)
+  pub vids_broken : (reasons ≡ []) ↔ ((vid : ℕ) → Contains (vids_in vids) vid → quiet (r.value vid) ≡ false)
   vids_broken = (vid_quiet, quiet_vid)
 
 pub reach_broken : (net : Net) (o : Outcome) (vids : List Bool) (bridges : List (List ℕ)) → StandOnce bridges → (reasons : List Reason) → AreReachReasons net o vids bridges reasons
     → (reasons ≡ []) ↔ AllReach net o vids bridges
 reach_broken net o vids bridges once reasons r =
     let b = vids_broken (λ vid parts. AreGroups (IsReached net o vid) bridges parts) reach_reason has_two (λ group parts. told_if (has_two parts) (why.Reach (set_where (is_among group)) parts)) vids reasons r in
-    let g = λ (vid : ℕ) (h : Contains (vids_in vids) vid). two_groups (IsReached net o vid) bridges once (r.parts vid) (r.are_parts vid h) in
+    let g = λ (vid : ℕ) (h : Contains (vids_in vids) vid). two_groups (IsReached net o vid) bridges once (r.value vid) (r.has vid h) in
     (λ e vid h. (g vid h).0 (b.0 e vid h), λ all. b.1 (λ vid h. (g vid h).1 (all vid h)))
 
 -- ---- islands with bridges of both lists
@@ -167,7 +167,7 @@ module _ (net : Net) (o : Outcome) (vids : List Bool) (bridges others : List (Li
       → (reasons ≡ []) ↔ AreApart net o vids bridges others
   both_broken tell tells r =
       let b = vids_broken (AreBoth net o bridges others) tell has_any tells vids reasons r in
-      (λ e vid h. apart_there net o bridges others vid (r.parts vid) (r.are_parts vid h) (b.0 e vid h), λ apart. b.1 (λ vid h. there_apart net o bridges others vid (r.parts vid) (r.are_parts vid h) (apart vid h)))
+      (λ e vid h. apart_there net o bridges others vid (r.value vid) (r.has vid h) (b.0 e vid h), λ apart. b.1 (λ vid h. there_apart net o bridges others vid (r.value vid) (r.has vid h) (apart vid h)))
 
   pub apart_broken : AreApartReasons net o vids bridges others reasons → (reasons ≡ []) ↔ AreApart net o vids bridges others
   apart_broken r = both_broken apart_reason (λ group parts. told_if (has_any parts) (why.Apart (set_where (is_among group)) parts)) r

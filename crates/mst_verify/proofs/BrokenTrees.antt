@@ -27,10 +27,10 @@ leaf_broken net o ok is tree bridges reasons r = (
 )
 
 -- ---- steps to parents
-not_less : (m n : ℕ) → nat_lt m n ≡ false → n ≤ m
+pub not_less : (m n : ℕ) → nat_lt m n ≡ false → n ≤ m
 not_less m n e = grind (arith, nat_tests)
 
-less_not : (m n : ℕ) → n ≤ m → nat_lt m n ≡ false
+pub less_not : (m n : ℕ) → n ≤ m → nat_lt m n ≡ false
 less_not m n l = grind (arith, nat_tests)
 
 pub depth_broken : (net : Net) (o : Outcome) (tree most : ℕ) (reasons : List Reason) → AreDepthReasons net o tree most reasons → (reasons ≡ []) ↔ IsShallow net o tree most

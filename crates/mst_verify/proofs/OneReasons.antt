@@ -26,6 +26,7 @@ use Rattle.mst_island_judges.specs.judged.reasons.declared.reason.Reason.{Reason
 use Rattle.mst_island_judges.specs.judged.reasons.declared.reason.Reason.TheVariants as why
 use Rattle.mst_tree_judges.proofs.BrokenRoots.{one_next}
 use Rattle.mst_island_judges.proofs.judged_lemmas.OfVids.{one_of_vids}
+use Rattle.mst_verify.proofs.Paths.{one_hops, one_via}
 use Rattle.mst_verify.proofs.ReasonsTogether.{OneIslands, one_together}
 use Rattle.mst_tree_judges.proofs.Keys.{keys_once, names_once, on_once}
 use Rattle.mst_tree_judges.proofs.RootsThere.{roots_there}
@@ -104,7 +105,7 @@ module _ (net : Net) (o : Outcome) where
     one_root : (tree : ℕ) (b : List ℕ) (wanted : Option (List ℕ)) (reasons others : List Reason) → AreRootReasons net o tree b wanted reasons → AreRootReasons net o tree b wanted others → reasons ≡ others
     one_root tree b wanted reasons others x y = x.are ∙ ap (root_reasons net o tree b wanted) (next_same tree b x.next y.next x.is_next y.is_next) ∙ sym y.are
 
-    -- ---- all twelve
+    -- ---- all fourteen
     module _ (before : Net) (gone : Gone) (prior : Prior) (islands : OneIslands) (one : (notes other : List Row) → AreNoteRows net o notes → AreNoteRows net o other → notes ≡ other) where
       pub reasons_same : (e : Expectation) (reasons others : List Reason) → AreReasons net o before gone prior e reasons → AreReasons net o before gone prior e others → reasons ≡ others
       reasons_same (expect.Root tree b next) reasons others x y = one_root tree b next reasons others x y
@@ -116,6 +117,8 @@ module _ (net : Net) (o : Outcome) where
       reasons_same (expect.Together vids names) reasons others x y = one_together net o vids gone names prior.leaving islands prior.before reasons others x y
       reasons_same (expect.Leaf tree names) reasons others x y = one_leaf tree (named net gone names) reasons others x y
       reasons_same (expect.Depth tree steps) reasons others x y = one_depth tree steps reasons others x y
+      reasons_same (expect.Hops vids most names) reasons others x y = one_hops net o vids most (named net gone names) reasons others x y
+      reasons_same (expect.Via vids a b c) reasons others x y = one_via net o vids a b c reasons others x y
       reasons_same (expect.Carries lan vids) reasons others x y = x ∙ sym y
       reasons_same (expect.Avoids lan vids) reasons others x y = x ∙ sym y
       reasons_same expect.Fits reasons others x y = one_fits one reasons others x y

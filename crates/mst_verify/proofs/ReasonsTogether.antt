@@ -17,7 +17,7 @@ use Rattle.mst_island_judges.specs.judged.reasons.Reasons.{AreTogetherReasons, P
 use Rattle.mst_island_judges.specs.judged.reasons.declared.reason.Reason.{Reason}
 use Rattle.mst_island_judges.specs.judged.reasons.declared.reason.Reason.TheVariants as why
 use Rattle.mst_verify.proofs.BrokenParts.{vids_broken}
-use Rattle.mst_island_judges.proofs.judged_lemmas.OfVids.{one_of_vids, some_of_vids}
+use Rattle.mst_island_judges.proofs.judged_lemmas.OfVids.{one_of_vids, some_of_parts}
 use Rattle.mst_island_judges.proofs.StayTogether.{stay_whole, whole_stay}
 use Rattle.mst_island_judges.proofs.judged_lemmas.reasons_lemmas.Things.{told_if}
 
@@ -49,8 +49,8 @@ module _ (net : Net) (o : Outcome) (vids : List Bool) (lost : Gone) (names : Lis
       let a = prior.0 in
       let q = prior.1 in
       let b = vids_broken (HasParts a q) together_reason has_any (λ group parts. told_if (has_any parts) (why.Together (set_where (is_among group)) parts)) vids reasons r in (
-        λ e vid h. (let p = r.are_parts vid h in whole_stay a net q o vid p.0 p.1 p.2 p.3 (left a vid) (ap has_any (sym p.4) ∙ b.0 e vid h)),
-        λ all. b.1 (λ vid h. let p = r.are_parts vid h in ap has_any p.4 ∙ stay_whole a net q o vid p.0 p.1 p.2 p.3 (left a vid) (all vid h)),
+        λ e vid h. (let p = r.has vid h in whole_stay a net q o vid p.0 p.1 p.2 p.3 (left a vid) (ap has_any (sym p.4) ∙ b.0 e vid h)),
+        λ all. b.1 (λ vid h. let p = r.has vid h in ap has_any p.4 ∙ stay_whole a net q o vid p.0 p.1 p.2 p.3 (left a vid) (all vid h)),
       )
 
   pub one_together : OneIslands → (before : Option (Net × Outcome)) (reasons others : List Reason) → AreTogetherReasons before leaving net o vids lost names reasons → AreTogetherReasons before leaving net o vids lost names others
@@ -62,5 +62,5 @@ module _ (net : Net) (o : Outcome) (vids : List Bool) (lost : Gone) (names : Lis
   pub some_together : IslandsOf net o → (before : Option (Net × Outcome)) → MatchOption before ⊤ (λ p. IslandsOf p.0 p.1) → (reasons : List Reason) × AreTogetherReasons before leaving net o vids lost names reasons
   some_together news None olds = ([], refl)
   some_together news (Some prior) olds =
-      some_of_vids (HasParts prior.0 prior.1) together_reason
+      some_of_parts (HasParts prior.0 prior.1) together_reason
       (λ vid. (all_parts (staying (olds vid).0 (news vid).0 (left prior.0 vid)), ((olds vid).0, (news vid).0, (olds vid).1, (news vid).1, refl))) vids

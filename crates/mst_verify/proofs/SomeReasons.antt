@@ -33,9 +33,10 @@ use Rattle.mst_island_judges.specs.judged.reasons.Roots.{concerned, identifier, 
 use Rattle.mst_tree_judges.specs.Seen.{is_child_of}
 use Rattle.mst_island_judges.specs.judged.reasons.declared.reason.Reason.{Reason}
 use Rattle.mst_island_judges.specs.judged.reasons.declared.reason.Reason.TheVariants as why
-use Rattle.mst_island_judges.proofs.judged_lemmas.OfVids.{groups_of, some_of_vids}
+use Rattle.mst_island_judges.proofs.judged_lemmas.OfVids.{groups_of, some_of_parts}
 use Rattle.mst_verify.proofs.ReasonsTogether.{IslandsOf, some_together}
 use Rattle.mst_tree_judges.proofs.ChildrenTold.{are_deepest, deepest, greatest, none_deeper, of_bridge, some_deepest}
+use Rattle.mst_verify.proofs.Paths.{some_hops, some_via}
 use Rattle.mst_verify.proofs.SomeChildren.{has_children}
 
 -- ---- bridges in the islands of a VID
@@ -183,17 +184,17 @@ module _ (net : Net) (o : Outcome) where
           },
         )
 
-  -- ---- all twelve
+  -- ---- all fourteen
   module _ (ok : IsNetwork net) (settled : IsSettled (trees_of net o)) (islands : IslandsOf net o) (notes : (notes : List Row) × AreNoteRows net o notes) (before : Net) (gone : Gone) (prior : Prior)
       (olds : MatchOption prior.before ⊤ (λ p. IslandsOf p.0 p.1)) where
     some_reach : (vids : List Bool) (bridges : List (List ℕ)) → (reasons : List Reason) × AreReachReasons net o vids bridges reasons
-    some_reach vids bridges = some_of_vids (λ vid parts. AreGroups (IsReached net o vid) bridges parts) reach_reason (λ vid. reached_parts net o vid (islands vid).0 (islands vid).1 bridges) vids
+    some_reach vids bridges = some_of_parts (λ vid parts. AreGroups (IsReached net o vid) bridges parts) reach_reason (λ vid. reached_parts net o vid (islands vid).0 (islands vid).1 bridges) vids
 
     some_apart : (vids : List Bool) (bridges others : List (List ℕ)) → (reasons : List Reason) × AreApartReasons net o vids bridges others reasons
-    some_apart vids bridges others = some_of_vids (AreBoth net o bridges others) apart_reason (λ vid. both_parts net o vid (islands vid).0 (islands vid).1 bridges others) vids
+    some_apart vids bridges others = some_of_parts (AreBoth net o bridges others) apart_reason (λ vid. both_parts net o vid (islands vid).0 (islands vid).1 bridges others) vids
 
     some_leaves : (vids : List Bool) (bridges others : List (List ℕ)) → (reasons : List Reason) × AreLeavesReasons net o vids bridges others reasons
-    some_leaves vids bridges others = some_of_vids (AreBoth net o bridges others) leaves_reason (λ vid. both_parts net o vid (islands vid).0 (islands vid).1 bridges others) vids
+    some_leaves vids bridges others = some_of_parts (AreBoth net o bridges others) leaves_reason (λ vid. both_parts net o vid (islands vid).0 (islands vid).1 bridges others) vids
 
     pub some_reasons : (e : Expectation) → (reasons : List Reason) × AreReasons net o before gone prior e reasons
     some_reasons (expect.Root tree b next) = some_root tree b next
@@ -205,6 +206,8 @@ module _ (net : Net) (o : Outcome) where
     some_reasons (expect.Together vids names) = some_together net o vids gone names prior.leaving islands prior.before olds
     some_reasons (expect.Leaf tree names) = some_leaf ok settled tree (named net gone names)
     some_reasons (expect.Depth tree steps) = some_depth ok settled tree steps
+    some_reasons (expect.Hops vids most names) = some_hops net o vids most (named net gone names)
+    some_reasons (expect.Via vids a b c) = some_via net o vids a b c
     some_reasons (expect.Carries lan vids) = (carries_reason lan (not_as_wanted net o lan true vids), refl)
     some_reasons (expect.Avoids lan vids) = (avoids_reason lan (not_as_wanted net o lan false vids), refl)
     some_reasons expect.Fits = (filter_map (λ (note : Row). limit_reason note.kind note.cells) notes.0, record { notes = notes.0; are_notes = notes.1; are = refl })

@@ -115,8 +115,8 @@ module _ (net failed : Net) (failure : Failure) (made : after (edit_of failure) 
 
     are_told : AreVidReasons HasParts together_reason vids told
     are_told = record {
-      parts = cuts.parts;
-      are_parts = λ vid h. left_parts vid (subst (λ vs. Contains vs vid) all_are h);
+      value = cuts.parts;
+      has = λ vid h. left_parts vid (subst (λ vs. Contains vs vid) all_are h);
       groups = cuts.groups;
       are_groups = subst (λ vs. AreGroups (λ x y. cuts.parts x ≡ cuts.parts y) vs cuts.groups) (sym all_are) cuts.are_groups;
       are = refl;

@@ -1,5 +1,5 @@
 //! Laws of what a policy promises. Their functions do nothing: a caller has their clauses.
-ghost use Rattle.std.specs.Prelude.{◌≡◌, ◌↔◌, ℕ, Bool, true, false, [], List, None, Some};
+ghost use Rattle.std.specs.Prelude.{◌≡◌, ◌≢◌, ◌↔◌, ◌∷◌, ℕ, Bool, true, false, [], List, None, Some};
 ghost use Rattle.std.specs.List.{Contains, flat_map};
 ghost use Rattle.mst_policy.specs.declared.expectation.Expectation.{Expectation as ExpectationOf};
 ghost use Rattle.mst_policy.specs.declared.expectation.Promise.{Promise as PromiseOf};
@@ -12,8 +12,9 @@ ghost use Rattle.mst_island_judges.specs.judged.reasons.sweep.Failures.{failures
 ghost use Rattle.mst_island_judges.specs.judged.reasons.sweep.SweepText.{Told, IsTold};
 ghost use Rattle.mst_island_judges.specs.judged.reasons.sweep.declared.failure.Failure.{Failure as FailureOf};
 ghost use Rattle.mst_island_judges.specs.judged.reasons.Named.{Gone, OfNetwork, Prior, nothing_before, with_before};
-ghost use Rattle.mst_island_judges.specs.judged.reasons.Holds.{AllReach, Holds};
+ghost use Rattle.mst_island_judges.specs.judged.reasons.Holds.{AllReach, AreNear, Holds};
 ghost use Rattle.mst_island_judges.specs.judged.reasons.Judged.{HoldsAfter, IsJudgedSomewhere, IsKept, gone_of, looks_back};
+ghost use Rattle.mst_verify.specs.Joined.{AllHavePath, NoTwoTogether};
 ghost use Rattle.mst_verify.specs.Linked.{AllPass, AllAreLinked, StayLinked, always_reach};
 ghost use Rattle.mst_island_judges.specs.judged.reasons.Missing.{missing};
 ghost use Rattle.mst_island_judges.specs.judged.reasons.Reasons.{AreReasons, HasOneList};
@@ -63,6 +64,13 @@ pub fn reach_where_linked()
     has_outcome();
     networks();
 }
+
+/// `hops VIDS 0 NAMES` holds exactly where no two of the bridges are in one island of one of the VIDs. And `reach VIDS A,B` holds exactly where
+/// there is a path from A to B in each of the VIDs.
+pub fn paths_as_islands()
+    ensures apart { (net : Net) (o : Outcome) (vids : List Bool) (bridges : List (List ℕ)) → AreNear net o vids 0 bridges ↔ NoTwoTogether net o vids bridges }
+    ensures reach { (net : Net) (o : Outcome) (vids : List Bool) (a b : List ℕ) → (a ≢ b) → AllReach net o vids (a ∷ b ∷ []) ↔ AllHavePath net o vids a b }
+{}
 
 /// Where all bridges of a network reach each other in some VIDs, those that a failure leaves do afterwards exactly where it cuts none of these. And of
 /// all VIDs, where a sweep doesn't count it among those that cut some.

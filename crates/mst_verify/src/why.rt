@@ -12,6 +12,7 @@ ghost use Rattle.mst_island_judges.specs.judged.Seen.{IsBefore};
 use mst_island_judges::{
     Judged, Reason, apart_reasons, leaves_reasons, reach_reasons, together_reasons,
 };
+use mst_path_judges::{hops_reasons, via_reasons};
 use mst_policy::Expectation;
 use mst_tree_judges::{
     avoids_reasons, carries_reasons, depth_reasons, fits_reasons, leaf_reasons, region_reasons,
@@ -21,8 +22,8 @@ use std::alloc::{AllocError, Global};
 
 /// Why an expectation doesn't hold in a network: no reason where it does. `AllocError`: memory was wanted and refused.
 ///
-/// No expectation takes more than a few passes over the bridges and the ports, and one that asks for islands as many as there are classes of
-/// the VIDs that it asks of.
+/// No expectation takes more than a few passes over the bridges and the ports, and one that asks for islands or for a path as many as there are
+/// classes of the VIDs that it asks of. One that asks for the hops between bridges takes as many as that for each of its bridges.
 pub fn reasons(
     alloc: Global,
     judged: &Judged,
@@ -53,6 +54,8 @@ pub fn reasons(
         Expectation::Together { vids, names } => together_reasons(alloc, judged, vids, names),
         Expectation::Leaf { tree, names } => leaf_reasons(alloc, judged, *tree, names),
         Expectation::Depth { tree, steps } => depth_reasons(alloc, judged, *tree, *steps),
+        Expectation::Hops { vids, most, names } => hops_reasons(alloc, judged, vids, *most, names),
+        Expectation::Via { vids, from, to, by } => via_reasons(alloc, judged, vids, from, to, by),
         Expectation::Carries { lan, vids } => carries_reasons(alloc, judged, lan, vids),
         Expectation::Avoids { lan, vids } => avoids_reasons(alloc, judged, lan, vids),
         Expectation::Fits => fits_reasons(alloc, judged),

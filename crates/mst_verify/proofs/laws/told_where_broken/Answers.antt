@@ -15,6 +15,7 @@ use Rattle.mst_tree_judges.proofs.RootsThere.{roots_there}
 use Rattle.mst_verify.proofs.BrokenLists.{carries_broken, avoids_broken, role_broken}
 use Rattle.mst_verify.proofs.BrokenParts.{region_broken, reach_broken, apart_broken, leaves_broken}
 use Rattle.mst_verify.proofs.BrokenTrees.{leaf_broken, depth_broken}
+use Rattle.mst_verify.proofs.BrokenPaths.{hops_broken, via_broken}
 use Rattle.mst_tree_judges.proofs.BrokenRoots.{root_broken}
 use Rattle.mst_verify.proofs.ReasonsTogether.{together_broken}
 use Rattle.mst_verify.proofs.Limits.{fits_broken}
@@ -32,6 +33,8 @@ module _ (net : Net) (o : Outcome) (before : Net) (gone : Gone) (prior : Prior) 
   broken (expect.Together vids names) reasons r = together_broken net o vids gone names prior.leaving prior.before reasons r
   broken (expect.Leaf tree names) reasons r = leaf_broken net o ok is tree (named net gone names) reasons r
   broken (expect.Depth tree steps) reasons r = depth_broken net o tree steps reasons r
+  broken (expect.Hops vids most names) reasons r = hops_broken net o vids most (named net gone names) reasons r
+  broken (expect.Via vids a b c) reasons r = via_broken net o vids a b c reasons r
   broken (expect.Carries lan vids) reasons r = carries_broken net o lan vids reasons r
   broken (expect.Avoids lan vids) reasons r = avoids_broken net o lan vids reasons r
   broken expect.Fits reasons r = fits_broken net o one reasons r

@@ -60,6 +60,18 @@ returns-in-Depth c = IfOk-weaker c.depth_reasons.result _ _
     let s = c.args.judged.now.plan.now in
     subst (λ (e : Expectation). AreReasons s.net (outcome_of s) before c.args.judged.now.gone prior e reasons.items) (sym c.in-Depth.is) told) c.depth_reasons.ensures
 
+pub returns-in-Hops : goal.returns-in-Hops
+returns-in-Hops c = IfOk-weaker c.hops_reasons.result _ _
+    (λ reasons told before prior kept had.
+    let s = c.args.judged.now.plan.now in
+    subst (λ (e : Expectation). AreReasons s.net (outcome_of s) before c.args.judged.now.gone prior e reasons.items) (sym c.in-Hops.is) told) c.hops_reasons.ensures
+
+pub returns-in-Via : goal.returns-in-Via
+returns-in-Via c = IfOk-weaker c.via_reasons.result _ _
+    (λ reasons told before prior kept had.
+    let s = c.args.judged.now.plan.now in
+    subst (λ (e : Expectation). AreReasons s.net (outcome_of s) before c.args.judged.now.gone prior e reasons.items) (sym c.in-Via.is) told) c.via_reasons.ensures
+
 pub carries_reasons-requires-clause-lan : goal.carries_reasons-requires-clause-lan
 carries_reasons-requires-clause-lan c = subst (HasItsLan c.args.judged.now.plan.now.net) c.in-Carries.is c.requires.lan
 
