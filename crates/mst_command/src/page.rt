@@ -1,9 +1,9 @@
 /// The number of this release, which `--version` prints behind the program's name.
-pub(crate) const VERSION: &str = "0.61.0";
+pub(crate) const VERSION: &str = "0.62.0";
 
 /// What `--version --json` prints: the release, the version of the lines of JSON, and the latest version of scripts.
 pub(crate) const VERSION_RECORD: &str =
-    "{\"kind\":\"version\",\"release\":\"0.61.0\",\"json\":2,\"script\":2}\n";
+    "{\"kind\":\"version\",\"release\":\"0.62.0\",\"json\":2,\"script\":2}\n";
 
 /// What stands at the end of the program's help: the commands of scripts, the exit statuses, and where all of it is said.
 pub(crate) const PAGE: &str = "\
@@ -65,6 +65,8 @@ Lines of a policy, whose promises verify looks at in the network of FILE, and in
   together VIDS NAMES             what was joined before the failure, or before the change, stays joined
   leaf TREE NAMES                 none of them is the parent of a bridge
   depth TREE N                    no bridge has more than N parents above it
+  hops VIDS N NAMES               no path between two of these bridges has more than N hops
+  via VIDS A B C                  the path from A to B meets C
   carries L VIDS, avoids L VIDS   all of the VLANs go over the LAN, or none
   fits                            no limit binds
 Before it stands nothing, 'after lan NAMES', 'after bridge NAMES', or 'always': in the network itself and after each failure. In front

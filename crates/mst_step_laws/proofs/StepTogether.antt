@@ -60,8 +60,8 @@ module _ (leaving : Leaving) (a b : Net) (o p : Outcome) (step : ℕ) (vids : Li
 
   are_own : AreReasons b p b None (prior_but leaving a o) (together_all vids) own
   are_own = record {
-    parts = cuts.parts;
-    are_parts = λ vid h. subst (λ names. ArePartsOf names a o b p vid (cuts.parts vid)) (sym (remaining_are vid)) (cuts.are_parts vid (is_vid_there vid (subst (λ vs. Contains vs vid) all_are h)));
+    value = cuts.parts;
+    has = λ vid h. subst (λ names. ArePartsOf names a o b p vid (cuts.parts vid)) (sym (remaining_are vid)) (cuts.are_parts vid (is_vid_there vid (subst (λ vs. Contains vs vid) all_are h)));
     groups = cuts.groups;
     are_groups = subst (λ vs. AreGroups (λ x y. cuts.parts x ≡ cuts.parts y) vs cuts.groups) (sym all_are) cuts.are_groups;
     are = refl;

@@ -9,13 +9,12 @@ use Rattle.mst_net.specs.tables.ByTree.{ByTree, table_in}
 use Rattle.mst_net.specs.tables.Seen.{bridge_row}
 use Rattle.mst_net.specs.tables.Tables.{Net, Numbers, BridgeRow, port_eq}
 use Rattle.mst_view.specs.Aggregation.{same_name}
-use Rattle.mst_view.specs.View.{LogicalPort, view_ports, bridge_names}
+use Rattle.mst_view.specs.View.{LogicalPort, bridge_names}
 use Rattle.mst_view.specs.Viewed.{Viewed, named_port}
 use Rattle.mst_view.specs.declared.in_view.BridgeInView.{BridgeInView}
 use Rattle.mst_view.specs.declared.in_view.PortInView.{PortInView}
 use Rattle.mst_plan.specs.forest.Agrees.{AreOf}
 use Rattle.mst_plan.specs.forest.Forest.{Forest}
-use Rattle.mst_sweep.specs.facts.declared.both.Both.{Both}
 use Rattle.mst_sweep.specs.facts.Told.{same_told}
 use Rattle.mst_sweep.specs.facts.Both.{seen_in_both, seen_both}
 use Rattle.mst_plan.proofs.forest_lemmas.Entries.{all_weaker}

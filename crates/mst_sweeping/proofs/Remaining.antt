@@ -1,6 +1,6 @@
 -- The parts that a VID has but for the bridges that are meant to leave it.
 use Rattle.std.proofs.Common.{◌≡◌, ℕ, ◌&&◌, ◌||◌, nat_eq, not, Bool, true, false, cond, List, [], ◌∷◌, Option, Some, None, refl, sym, ap, ◌∙◌, true≢false}
-use Rattle.std.specs.List.{AllByRecursion, Contains, cons_option, filter, filter_map, list_any}
+use Rattle.std.specs.List.{AllByRecursion, Contains, cons_option, filter, filter_map}
 use Rattle.std.specs.Map.{lookup}
 use Rattle.std.specs.Option.{option_map, option_and_then}
 use Rattle.mst_ids.specs.Vids.{has}

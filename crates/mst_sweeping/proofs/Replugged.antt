@@ -1,14 +1,13 @@
 -- Ports that are plugged into LANs of other names.
-use Rattle.std.proofs.Common.{◌≡◌, ℕ, ◌&&◌, ◌||◌, not, Bool, true, false, List, [], ◌∷◌, Option, Some, None, is_some, refl, sym, ap, ◌∙◌, true≢false}
+use Rattle.std.proofs.Common.{◌≡◌, ℕ, ◌&&◌, ◌||◌, Bool, true, false, List, [], ◌∷◌, Option, Some, None, is_some, refl, sym, ap, ◌∙◌}
 use Rattle.std.specs.FinMap as fin
 use Rattle.std.specs.FinMap.{contains_key-keys}
-use Rattle.std.specs.List.{filter_map, list_any}
+use Rattle.std.specs.List.{list_any}
 use Rattle.std.specs.Option.{option_and_then, option_map, option_map_or}
 use Rattle.mst_ids.specs.declared.name.PortName.{PortName}
 use Rattle.mst_net.specs.tables.Tables.{Net, PortRow, port_eq}
 use Rattle.mst_net.proofs.tables_lemmas.Keyed.{flipped}
 use Rattle.mst_net.proofs.tables_lemmas.Keys.{ports}
-use Rattle.mst_view.specs.Aggregation.{same_name}
 use Rattle.mst_roles.proofs.Named.{port_is}
 use Rattle.mst_sweeping.specs.Restarts.{is_elsewhere, is_replugged, own_plug, own_plugs}
 use Rattle.mst_sweeping.specs.Seen.{AreReplugged}

@@ -1,17 +1,16 @@
 -- Which ports start anew: none between a network and itself, each that is plugged over, and none that is left alone.
-use Rattle.std.proofs.Common.{◌≡◌, ◌≢◌, ℕ, ◌==◌, ◌&&◌, ◌||◌, not, nat_eq, Bool, true, false, List, [], ◌∷◌, map, Option, Some, None, Less, ◌⊎◌, inl, inr, refl, sym, ap, subst, ◌∙◌, true≢false}
+use Rattle.std.proofs.Common.{◌≡◌, ◌≢◌, ℕ, ◌==◌, ◌&&◌, ◌||◌, not, nat_eq, Bool, true, false, List, [], ◌∷◌, Option, Some, None, Less, ◌⊎◌, inl, inr, refl, sym, ap, subst, ◌∙◌, true≢false}
 use Rattle.std.specs.Prelude.{if◌then◌else◌}
 use Rattle.std.specs.Cmp.Lexicographic.{pointwise, bytes_decides}
 use Rattle.std.specs.FinMap as fin
-use Rattle.std.specs.List.{AllByRecursion, Contains, filter, find, list_any}
-use Rattle.std.specs.Option.{option_and_then, option_map, option_map_or}
+use Rattle.std.specs.List.{Contains, filter, find, list_any}
+use Rattle.std.specs.Option.{option_map_or}
 use Rattle.mst_ids.specs.Names.{port_cmp}
 use Rattle.mst_ids.specs.declared.name.PortName.{PortName}
 use Rattle.mst_net.specs.tables.After.{table_of}
 use Rattle.mst_net.specs.tables.Tables.{Net, BridgeRow, port_eq}
 use Rattle.mst_view.specs.Aggregation.{same_name}
 use Rattle.mst_view.specs.View.{LogicalPort, view_ports, bridge_names}
-use Rattle.mst_plan.proofs.forest_lemmas.Entries.{all_weaker}
 use Rattle.mst_plan.proofs.forest_lemmas.Lists.{all_there, all_contained, all_passing, apart_cases, contains_filtered, contains_mapped, contains_unmapped}
 use Rattle.mst_plan.proofs.forest_lemmas.Looking.{first_found}
 use Rattle.mst_plan.proofs.forest_lemmas.Views.{port_names_differ, ports_rise}

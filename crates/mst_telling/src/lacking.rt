@@ -1,4 +1,4 @@
-ghost use Rattle.std.specs.Prelude.{◌≡◌, ◌&&◌, ◌||◌, ◌++◌, map};
+ghost use Rattle.std.specs.Prelude.{◌≡◌, ◌&&◌, ◌||◌, ◌++◌, ◌∷◌, [], map};
 ghost use Rattle.std.specs.List.{list_all, list_any};
 ghost use Rattle.mst_policy.specs.Items.{item_has, port_item_has};
 ghost use Rattle.mst_graph.specs.Lists.{has_any};
@@ -129,6 +129,13 @@ fn is_next(bridges: &[BridgeInView], next: &Option<Name>) -> bool
     }
 }
 
+/// Whether each of three bridges is there.
+fn are_three(bridges: &[BridgeInView], from: &Name, to: &Name, by: &Name) -> bool
+    ensures { result ≡ list_all (has_one_of (map (λ b. b.name) bridges.now)) (NameItem.Is from.now ∷ NameItem.Is to.now ∷ NameItem.Is by.now ∷ []) }
+{
+    is_bridge(bridges, from) && (is_bridge(bridges, to) && is_bridge(bridges, by))
+}
+
 /// Whether each item of two lists is.
 fn have_both(bridges: &[BridgeInView], names: &[NameItem], others: &[NameItem]) -> bool
     ensures { result ≡ list_all (has_one_of (map (λ b. b.name) bridges.now)) (names.now ++ others.now) }
@@ -154,6 +161,8 @@ fn are_bridges(bridges: &[BridgeInView], expectation: &Expectation) -> bool
         Expectation::Leaves { names, .. } => have_bridges(bridges, names.as_slice()),
         Expectation::Together { names, .. } => have_bridges(bridges, names.as_slice()),
         Expectation::Leaf { names, .. } => have_bridges(bridges, names.as_slice()),
+        Expectation::Hops { names, .. } => have_bridges(bridges, names.as_slice()),
+        Expectation::Via { from, to, by, .. } => are_three(bridges, from, to, by),
         _ => true,
     }
 }

@@ -73,6 +73,8 @@ fn line_of(reason: &Reason) -> VerifyLine
         Reason::Together { .. } => VerifyLine::Together,
         Reason::Leaf { .. } => VerifyLine::Leaf,
         Reason::Depth { .. } => VerifyLine::Depth,
+        Reason::TooManyHops { .. } => VerifyLine::TooManyHops,
+        Reason::NotVia { .. } => VerifyLine::NotVia,
         Reason::Carries { .. } => VerifyLine::Carries,
         Reason::Avoids { .. } => VerifyLine::Avoids,
         Reason::Hops { .. } => VerifyLine::Hops,
@@ -126,6 +128,18 @@ fn push_values<'a>(reason: &'a Reason, values: &mut Vec<Value<'a>>) -> Result<()
             Value::Number(*steps),
             Value::Names(bridges.as_slice()),
         ]),
+        Reason::TooManyHops {
+            vids,
+            hops,
+            bridges,
+        } => values.extend_from_slice(&[
+            Value::Vids(vids),
+            Value::Number(*hops),
+            Value::Names(bridges.as_slice()),
+        ]),
+        Reason::NotVia { vids, bridges } => {
+            values.extend_from_slice(&[Value::Vids(vids), Value::Names(bridges.as_slice())])
+        }
         Reason::Carries { lan, vids } => push_lan(lan, vids, values),
         Reason::Avoids { lan, vids } => push_lan(lan, vids, values),
         Reason::Hops { .. }

@@ -7,18 +7,16 @@ use Rattle.mst_graph.proofs.Members.{cases, here, in_map, in_none, there}
 use Rattle.mst_lang.specs.declared.line.Fault.{Fault}
 use Rattle.mst_policy.specs.Leaving.{Leaving}
 use Rattle.mst_policy.specs.declared.expectation.Expectation.{Expectation}
-use Rattle.mst_policy.specs.declared.expectation.Expectation.TheVariants as expect
 use Rattle.mst_policy.specs.declared.expectation.Promise.{Promise}
 use Rattle.mst_policy.specs.declared.policy.PolicyLine.{PolicyLine}
 use Rattle.mst_rows.specs.Rows.{Row}
 use Rattle.mst_graph.specs.Lists.{has_any}
-use Rattle.mst_net.specs.tables.After.{after}
 use Rattle.mst_net.specs.tables.Tables.{Net, IsNetwork}
 use Rattle.mst_forest.specs.Outcome.{Outcome, IsOutcome}
-use Rattle.mst_sweeping.specs.sweep.Failures.{edit_of, failures}
+use Rattle.mst_sweeping.specs.sweep.Failures.{failures}
 use Rattle.mst_sweeping.specs.sweep.declared.failure.Failure.{Failure}
 use Rattle.mst_verify.specs.tree_judges.judged.reasons.Holds.{Holds}
-use Rattle.mst_verify.specs.tree_judges.judged.reasons.Judged.{HoldsAfter, IsKept, asks, asks_at, asks_now, gone_of, has_now, looks_back, places}
+use Rattle.mst_verify.specs.tree_judges.judged.reasons.Judged.{HoldsAfter, IsKept, asks_at, asks_now, gone_of, has_now, looks_back, places}
 use Rattle.mst_verify.specs.tree_judges.judged.reasons.Missing.{missing}
 use Rattle.mst_verify.specs.tree_judges.judged.reasons.Named.{Gone, Prior, nothing_before, with_before}
 use Rattle.mst_verify.specs.tree_judges.judged.reasons.Placed.{AreReasonsAfter, AreReasonsAt}

@@ -6,7 +6,7 @@ use Rattle.mst_sweep.specs.Pairs.{IsPairTold, Pair, last_of_pairs, pairs_row, pa
 use Rattle.mst_sweep.specs.SweepParts.{part_of, end_of}
 use Rattle.mst_sweep.proofs.PartsJoined.{ends_rise, length_part}
 use Rattle.mst_sweep.proofs.Windows.{piece, take_none}
-use Rattle.mst_sweeping.specs.Pairing.{ArePairsTold, IsSingle, HasHomes}
+use Rattle.mst_sweeping.specs.Pairing.{IsSingle, HasHomes}
 use Rattle.mst_sweeping.proofs.Paired.{all_homes, at_index, pairs_many, run_next}
 use Rattle.mst_sweeping.proofs.Swept.{none_told, told_then, swept, none_put, put_then}
 use Rattle.mst_sweeping.proofs.SweepThere.{all_dropped, all_taken}

@@ -1,4 +1,4 @@
-use Rattle.std.proofs.Common.{◌≡◌, true, subst, sym}
+use Rattle.std.proofs.Common.{◌≡◌, subst, sym}
 use Rattle.mst_verdict.proofs.MadeNets.{makes_net}
 use Rattle.mst_verify.specs.tree_judges.judged.reasons.Named.{nothing_before}
 use Rattle.mst_telling.specs.Verified.{IsVerified}

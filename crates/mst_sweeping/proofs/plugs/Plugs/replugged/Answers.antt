@@ -1,4 +1,4 @@
-use Rattle.std.proofs.Common.{ap, sym, ◌&&◌, ◌∙◌}
+use Rattle.std.proofs.Common.{ap, ◌&&◌, ◌∙◌}
 use Rattle.std.specs.List.{list_any}
 use Rattle.std.proofs.lemmas.Result.{IfOk-weaker}
 use Rattle.mst_net.specs.tables.Tables.{port_eq}
