@@ -59,11 +59,11 @@ HINT = re.compile(rb"(line|policy|change) (?:line )?([0-9]+) ")
 ARGUMENTS = {
     "root": ("tree", "bridge", None, "bridge"), "region": ("bridge",), "role": ("tree", "port"), "reach": (None, "bridge"),
     "apart": (None, "bridge", "bridge"), "leaves": (None, "bridge"), "together": (None, "bridge"), "leaf": ("tree", "bridge"), "depth": ("tree",),
-    "carries": ("LAN",), "avoids": ("LAN",), "fits": (),
+    "hops": (None, None, "bridge"), "via": (None, "bridge", "bridge", "bridge"), "carries": ("LAN",), "avoids": ("LAN",), "fits": (),
 }
 SCOPES = {"bridge": "bridge", "lan": "LAN"}
 # Of what these name the failure is asked for by the very name alone.
-NAMING = ("root", "carries", "avoids")
+NAMING = ("root", "via", "carries", "avoids")
 LEAST_LETTERS = 3
 # Of how many words it is kept which are a change away.
 MOST_KEPT = 4096

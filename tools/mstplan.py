@@ -218,6 +218,7 @@ def reason_in(record, names=None):
         "region": "region parts {parts}", "role": "role {tree} {ports} {role}", "reach": "reach {vids} parts {parts}",
         "together": "together {vids} parts {parts}", "apart": "apart {vids} joined {joined}",
         "leaves": "leaves {vids} joined {joined}", "leaf": "leaf {tree} {bridge} parent of {bridges}", "depth": "depth {tree} {depth} {bridges}",
+        "hops": "hops {vids} {hop_count} {bridges}", "via": "via {vids} by {bridges}",
         "carries": "carries {lan} without {vids}", "avoids": "avoids {lan} with {vids}",
     }[word].format(**it)
 

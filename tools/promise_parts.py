@@ -17,8 +17,8 @@ from running import tell_errors
 TOOL = "parallel.py"
 FINALLY, ALWAYS, TOGETHER = b"finally", b"always", b"together"
 # Of an expectation which of its words name a bridge, or a LAN, that isn't looked at where it has failed itself.
-OWN_BRIDGES, OWN_LANS = {b"root": (2, 4)}, {b"carries": (1,), b"avoids": (1,)}
-EXPECTATIONS = (b"root", b"region", b"role", b"reach", b"apart", b"together", b"leaf", b"depth", b"carries", b"avoids", b"fits")
+OWN_BRIDGES, OWN_LANS = {b"root": (2, 4), b"via": (2, 3, 4)}, {b"carries": (1,), b"avoids": (1,)}
+EXPECTATIONS = (b"root", b"region", b"role", b"reach", b"apart", b"together", b"leaf", b"depth", b"hops", b"via", b"carries", b"avoids", b"fits")
 LONGEST = mstplan.LONGEST
 JSON, HINTS = "--json", "--hints"
 # Each processor has so many parts at most, and each but one at least so many failures.

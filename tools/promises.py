@@ -3,7 +3,7 @@
 
 Each line is a guess that `mstplan verify` has judged to hold: roots and which bridge comes next, also after a failure; regions; which
 bridges each VLAN joins, also after each single failure, and where VLANs are pruned, that what is joined stays so; bridges that no traffic
-crosses; ports that block; how VLANs are parted over links; depths and limits. A guess that doesn't hold is left out, and so is what would be too much: comments tell of it. Names are
+crosses; ports that block; how VLANs are parted over links; depths, hops and limits. A guess that doesn't hold is left out, and so is what would be too much: comments tell of it. Names are
 written by their beginnings (acc*) where these have no others, so that a new bridge of such a name is asked for the same.
 
 For example: promises.py mstplan campus.script > campus.policy && mstplan verify campus.script campus.policy
@@ -242,7 +242,7 @@ class Guesser:
             self.guesses.add(avoids if others and len(avoids) + 40 < len(carries) else carries)
 
     def limits(self):
-        self.guesses.group("How deep trees are, and that no limit binds.")
+        self.guesses.group("How deep trees are, how far bridges are from each other, and that no limit binds.")
         self.guesses.add("always fits", "fits")
 
 
@@ -267,6 +267,20 @@ class Judge:
     def holding(self, lines):
         broken = {it["line"] for it in self.of(lines)[0]}
         return {line for number, line in enumerate(lines, start=1) if number not in broken}
+
+    def longest(self, lines):
+        """The number of hops that each of these lines would have to be with, to hold."""
+        longest = [0] * len(lines)
+        for it in (it for it in self.of(lines)[0] if it.get("expectation") == "hops"):
+            longest[it["line"] - 1] = max(longest[it["line"] - 1], it["hop_count"])
+        return longest
+
+    def add_hops(self, guesses):
+        """Adds the most hops between any two bridges in one island of a VLAN: now, and after a failure where there are more."""
+        now, always = self.longest(["hops 1-4094 0 *", "always hops 1-4094 0 *"])
+        most = max(now, always)
+        guesses.add(*[f"hops 1-4094 {now} *"] * (0 < now < most))
+        guesses.add(*[f"always hops 1-4094 {most} *"] * bool(most))
 
     def add_depths(self, guesses, trees):
         """Adds how deep the trees are now, and after a failure where that is deeper. None is, with no bridge that has a parent."""
@@ -304,6 +318,7 @@ def policy_of(judge, asked, words):
     guesser = Guesser(asked, words)
     guesses = guesser.guess()
     judge.add_depths(guesses, guesser.trees)
+    judge.add_hops(guesses)
     holding, made = judge.holding(guesses.lines()), []
     for title, group in guesses.groups:
         taken = [next((line for line in lines if line in holding), None) for lines in group]

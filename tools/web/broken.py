@@ -104,6 +104,17 @@ def depth_said(record):
     return f"In {tree_named(record)} {named(names)} {'has' if len(names) == 1 else 'have'} {depth} {'switch' if depth == 1 else 'switches'} above."
 
 
+def hops_said(record):
+    told, several = vlans(record["vids"])
+    hops = record["hop_count"]
+    return f"{told} {'go' if several else 'goes'} over {hops} {'link' if hops == 1 else 'links'} between {named(record['bridges'])}."
+
+
+def via_said(record):
+    told, several = vlans(record["vids"])
+    return f"{told} {'go' if several else 'goes'} by another way: {' → '.join(record['bridges'])}."
+
+
 def carries_said(record):
     told, several = vlans(record["vids"])
     return f"{told} {'do' if several else 'does'} not go over {record['lan']}."
@@ -124,7 +135,7 @@ def fits_said(record):
 
 SAID = {
     "root": root_said, "region": region_said, "role": role_said, "reach": reach_said, "together": together_said,
-    "apart": apart_said, "leaves": leaves_said, "leaf": leaf_said, "depth": depth_said, "carries": carries_said, "avoids": avoids_said, "fits": fits_said,
+    "apart": apart_said, "leaves": leaves_said, "leaf": leaf_said, "depth": depth_said, "hops": hops_said, "via": via_said, "carries": carries_said, "avoids": avoids_said, "fits": fits_said,
 }
 
 
