@@ -7,7 +7,8 @@ usage: reading.py [--besides] [CRATE::MODULE::FUNCTION[/CLAUSE] ...]    (the cal
 
 It follows names from the clauses of these functions through the `specs/` of this repository, definition by definition: a
 definition is what stands between two blank lines. Types that the code declares (`specs.declared`) are read in `src/`, and
-what the proved library defines isn't listed. With --besides it leaves out what the calls of docs/READING.md rest on.
+what the proved library defines isn't listed. Of the table of the kinds of lines (`mst_kinds`) those rows count whose kind, word or key
+something else names that counts. With --besides it leaves out what the calls of docs/READING.md rest on.
 
 --check compares the lists of a page with what is so now, and its steps "Where to begin" with the first list: each file is in
 one step, behind what it rests on, and the sizes are right. The status is 1 where something differs, or where a definition
@@ -20,7 +21,10 @@ import re
 import sys
 
 TOP = os.path.join(os.path.dirname(os.path.abspath(__file__)), os.pardir, "crates")
-CALLS = ["mst_tool::runs::run", "mst_tool::checks::check", "mst_roles::topology::active_ports/named", "mst_roles::topology::active_ports/joined"]
+RUN = ["mst_tool::runs::run"]
+CHECK = ["mst_tool::checks::check"]
+JOINED = ["mst_roles::topology::active_ports/named", "mst_roles::topology::active_ports/joined"]
+CALLS = [*RUN, *CHECK, *JOINED]
 ASKED = ["mst_questions::asks::ask", "mst_between::diffs::diff"]
 STANDING = ["mst_ask::asking::ask_within/ended"]
 VERIFIED = ["mst_verifying::verifies::verify"]
@@ -37,6 +41,10 @@ KIND = "(?:abbrev|unfoldable|opaque|private) "
 DEFINED = re.compile(rf"^(?: {{0,2}}|    (?={KIND}))(?:{KIND})*(?:pub )?(?:(?:record|data) )?([^\s:({{]+)(?= .*:|$)")
 TOKEN = re.compile(r"[^\s(){},;.]+")
 QUALIFIED = re.compile(r"([^\s(){},;.]+)\.([^\s(){},;.]+)")
+# The crate whose definitions are a table with rows by the variants of its types, and what names a variant.
+TABLE = "mst_kinds"
+ENUM = re.compile(r"^pub enum (\w+)", re.MULTILINE)
+VARIANTS = re.compile(r"^ *(?:ghost )?use Rattle\.[\w.]+\.(\w+)\.TheVariants(?:\.\{([^}]*)\}| as (\w+));?$", re.MULTILINE)
 # What a person reads in a minute of definitions.
 LINES_A_MINUTE = 10
 
@@ -45,7 +53,7 @@ class Module:
     """A file of definitions: what it imports, by the name that it uses, and its parts with the names that each defines."""
 
     def __init__(self, text):
-        self.imported, self.files = imported(text), files_of(text)
+        self.imported, self.files, self.variants = imported(text), files_of(text), Variants(text)
         self.parts, self.part_of, self.heads = [], {}, []
         for part in re.split(r"\n\s*\n", text):
             lines = [line for line in part.splitlines() if line and not re.match(r"(ghost )?use ", line)]
@@ -58,6 +66,36 @@ class Module:
                 found = DEFINED.match(line)
                 if found and line not in self.heads:
                     self.part_of.setdefault(found.group(1).strip("◌"), len(self.parts) - 1)
+
+
+class Variants:
+    """The names by which a text knows the variants of the table's types."""
+
+    def __init__(self, text):
+        found = [it for it in VARIANTS.findall(text) if it[0] in table_types()]
+        self.of_type = {alias: kind for kind, _, alias in found if alias}
+        self.by_name = {}
+        for kind, listed, _ in found:
+            for it in listed.split(",") if listed else []:
+                name, _, other = it.strip().partition(" as ")
+                self.by_name[other or name] = (kind, name)
+
+    def named(self, lines):
+        """The variants that some lines name, each with its type."""
+        text = "\n".join(told(lines))
+        qualified = {(self.of_type[first], name) for first, name in QUALIFIED.findall(text) if first in self.of_type}
+        return qualified | {self.by_name[word] for word in words(lines) if word in self.by_name}
+
+
+@functools.cache
+def table_types():
+    """The types whose variants the table has rows of."""
+    found = set()
+    folder = os.path.join(TOP, TABLE, "src")
+    for name in os.listdir(folder):
+        with open(os.path.join(folder, name), encoding="utf-8") as file:
+            found |= set(ENUM.findall(file.read()))
+    return found
 
 
 def imports(text):
@@ -147,30 +185,75 @@ def words(lines):
     return {token.strip("◌") for line in told(lines) for token in TOKEN.findall(line)}
 
 
-def follow(crate, module, name, seen, order):
-    """First what a definition rests on, then the definition."""
-    it = module_of(crate, module)
-    part = it.part_of.get(name)
-    if part is None or (crate, module, part) in seen:
-        return
-    seen.add((crate, module, part))
-    lines = [*it.parts[part], *it.heads]
-    of_this = {(crate, module, word) for word in words(lines) if word in it.part_of and word not in it.imported}
-    for found in sorted(names_in(lines, it.imported, it.files) | of_this):
-        follow(*found, seen, order)
-    order.append((crate, module, len(it.parts[part])))
+class Believed:
+    """What is read so far: the parts of files, the variants that these name, and the rows of the table that nothing has named yet."""
+
+    def __init__(self):
+        self.seen, self.named, self.unnamed = set(), set(), []
+
+    def follow(self, crate, module, name, order):
+        """First what a definition rests on, then the definition."""
+        it = module_of(crate, module)
+        part = it.part_of.get(name)
+        if part is None or (crate, module, part) in self.seen:
+            return
+        self.seen.add((crate, module, part))
+        lines, rows = rows_of(it.parts[part], it.variants) if crate == TABLE else (it.parts[part], [])
+        self.read(crate, module, lines, order)
+        order.append((crate, module, len(lines), 1))
+        self.unnamed += [(variants, crate, module, row) for variants, row in rows]
+        self.take_rows(order)
+
+    def read(self, crate, module, lines, order):
+        """Follows what some lines of a file name."""
+        it = module_of(crate, module)
+        lines = [*lines, *it.heads]
+        of_this = {(crate, module, word) for word in words(lines) if word in it.part_of and word not in it.imported}
+        for found in sorted(names_in(lines, it.imported, it.files) | of_this):
+            self.follow(*found, order)
+        self.name(it.variants.named(lines), order)
+
+    def name(self, variants, order):
+        if not variants <= self.named:
+            self.named |= variants
+            self.take_rows(order)
+
+    def take_rows(self, order):
+        """Reads the rows whose variants are named by now."""
+        while taken := [it for it in self.unnamed if it[0] <= self.named]:
+            self.unnamed = [it for it in self.unnamed if it not in taken]
+            for _, crate, module, row in taken:
+                order.append((crate, module, len(row), 0))
+                self.read(crate, module, row, order)
+
+
+def rows_of(lines, variants):
+    """A part of the table in two: the lines that are no rows, and the rows, each with the variants by which it is and with its comment."""
+    others, rows, comment = [], [], []
+    for line in lines:
+        of = variants.named([line.partition(" = ")[0]]) if " = " in line else set()
+        if line.lstrip().startswith("--"):
+            comment.append(line)
+            continue
+        if of:
+            rows.append((of, [*comment, line]))
+        else:
+            others += [*comment, line]
+        comment = []
+    return others + comment, rows
 
 
 def definitions(calls, seen, named=()):
     """The definitions that these calls rest on, or these that are named, and that weren't seen before, each with its crate, its file and
-    its lines."""
+    its lines, and 1; and further rows of the table, each with 0."""
     order = []
     for found in named:
-        follow(*found, seen, order)
+        seen.follow(*found, order)
     for call in calls:
         text, said = clauses(call)
         for found in sorted(names_in(said.splitlines(), imported(text), files_of(text))):
-            follow(*found, seen, order)
+            seen.follow(*found, order)
+        seen.name(Variants(text).named(said.splitlines()), order)
     return order
 
 
@@ -199,7 +282,7 @@ def in_order(crate, files):
 def lines_of(order):
     """How many lines of each file count, by crate and file, both in an order to read them."""
     counted = {}
-    for crate, module, lines in order:
+    for crate, module, lines, _ in order:
         files = counted.setdefault(crate, {})
         files[module] = files.get(module, 0) + lines
     return {crate: {it: counted[crate][it] for it in in_order(crate, counted[crate])} for crate in crates() if crate in counted}
@@ -210,9 +293,13 @@ def listing(order):
     counted = lines_of(order)
     for crate, files in counted.items():
         yield f"- `{crate}`, {sum(files.values())} lines: {', '.join(f'`{it}` {lines}' for it, lines in files.items())}"
-    total = sum(lines for _, _, lines in order)
+    total = sum(lines for _, _, lines, _ in order)
     count = sum(len(files) for files in counted.values())
-    yield f"{len(order)} definitions in {count} files, {total} lines, some {minutes(total)} minutes."
+    yield f"{definition_count(order)} definitions in {count} files, {total} lines, some {minutes(total)} minutes."
+
+
+def definition_count(order):
+    return sum(it for _, _, _, it in order)
 
 
 def minutes(lines):
@@ -227,23 +314,24 @@ WHOLE = re.compile(r"^`run_program` rests on \d+ definitions in all, .*$", re.MU
 
 
 def lists():
-    """The lists of docs/READING.md: that of the loops, the first one, what is asked besides, what policies are, what stands and is
-    asked, what steps of changes are, what hints are, and what the program does; and the lines of the first."""
-    seen = set()
-    first = definitions(CALLS, seen)
-    orders = [definitions(LOOPS, set()), first, definitions(ASKED, seen), definitions(VERIFIED, seen), definitions(STANDING, seen),
+    """The lists of docs/READING.md: that of the loops, of a run, what a check and the ports that forward are besides, what is asked
+    besides, what policies are, what stands and is asked, what steps of changes are, what hints are, and what the program does; and the
+    lines of the three behind the first."""
+    seen = Believed()
+    first = [definitions(it, seen) for it in (RUN, CHECK, JOINED)]
+    orders = [definitions(LOOPS, Believed()), *first, definitions(ASKED, seen), definitions(VERIFIED, seen), definitions(STANDING, seen),
               definitions(ALTERED, seen), definitions([], seen, HINTED), definitions(PROGRAM, seen)]
-    return [as_text(order) for order in orders], lines_of(first)
+    return [as_text(order) for order in orders], lines_of([it for order in first for it in order])
 
 
 def whole():
-    """How much the program's statement rests on, and how much of that isn't in the first list."""
-    seen = set()
+    """How much the program's statement rests on, and how much of that isn't in the first lists."""
+    seen = Believed()
     definitions(CALLS, seen)
-    order, besides = definitions(PROGRAM, set()), definitions(PROGRAM, seen)
-    total = sum(lines for _, _, lines in order)
-    return (f"`run_program` rests on {len(order)} definitions in all, {total} lines, some {minutes(total)} minutes; "
-            f"{len(besides)} of them aren't in the list of `run` and `check`.")
+    order, besides = definitions(PROGRAM, Believed()), definitions(PROGRAM, seen)
+    total = sum(lines for _, _, lines, _ in order)
+    return (f"`run_program` rests on {definition_count(order)} definitions in all, {total} lines, some {minutes(total)} minutes; "
+            f"{definition_count(besides)} of them aren't in the lists of `run` and `check`.")
 
 
 def as_text(order):
@@ -331,7 +419,7 @@ def main():
     if given[:1] in (["--check"], ["--update"]) and len(given) == 2:
         of_page(given)
         return
-    seen = set()
+    seen = Believed()
     if given[:1] == ["--besides"]:
         definitions(CALLS, seen)
         given = given[1:] or ASKED
