@@ -3,9 +3,10 @@
 
 usage: places.py
 
-In README.md and docs/*.md a crate is named in backticks, and files of it behind that: `mst_lag`: `specs/View.antt`, `Aggregation.antt`,
-`src/view.rt`, in one paragraph or row. A file with no folder lies in the folder of the file before it. An item is named with its crate: `mst_lag::view`,
-`mst_plan::laws::bounds`, `mst_lag/specs/View.antt`. A list of what must be believed (docs/READING.md) is checked by docs/reading.py.
+In README.md, docs/*.md and crates/*/README.md a crate is named in backticks, and files of it behind that: `mst_lag`: `specs/View.antt`,
+`Aggregation.antt`, `src/view.rt`, in one paragraph or row; in a crate's page files with no crate in front of them are its own. A file with no folder
+lies in the folder of the file before it. An item is named with its crate: `mst_lag::view`, `mst_plan::laws::bounds`, `mst_lag/specs/View.antt`.
+A list of what must be believed (docs/READING.md) is checked by docs/reading.py, what else stands in a crate's page by readmes.py.
 The status is 1 where something isn't there, with a line for each fault.
 """
 
@@ -47,11 +48,12 @@ def has_file(crate, folder, file):
 
 
 def faults_of(name, text, known):
-    crate, folder, behind = None, "", 0
+    own = name.split("/")[1] if name.startswith("crates/") else None
+    crate, folder, behind = own, "", 0
     for found in CODE.finditer(text):
         code, line = found.group(1), text.count("\n", 0, found.start()) + 1
         if re.search(r"\n\n|\n[|-] ?", text[behind : found.start()]):
-            crate, folder = None, ""
+            crate, folder = own, ""
         behind = found.end()
         said, where = PATH.fullmatch(code), INSIDE.fullmatch(code)
         if CRATE.fullmatch(code):
@@ -75,7 +77,7 @@ def faults_of(name, text, known):
 
 def main():
     known = crates()
-    pages = ["README.md", *sorted(f"docs/{it}" for it in os.listdir(f"{TOP}/docs") if it.endswith(".md"))]
+    pages = [os.path.relpath(path, TOP) for of in ("README.md", "docs/*.md", "crates/*/README.md") for path in sorted(glob.glob(os.path.join(TOP, of)))]
     found = []
     for name in pages:
         with open(os.path.join(TOP, name), encoding="utf-8") as file:
