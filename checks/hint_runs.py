@@ -121,6 +121,8 @@ PROMISES = {
     "after lan # leaves 1 A": ("E01 no such expectation", ALONE),
     "leaves 1": ("E01 no such expectation", "leaves takes VIDS NAMES; 1 word stands here"),
     "leaves 0 A": ("E03 bad VID or tree", "leaves VIDS NAMES: VIDS is VIDs of 1 to 4094 as in 1-9,20"),
+    "hops 1 *": ("E01 no such expectation", "hops takes VIDS N NAMES; 2 words stand here"),
+    "via 1 A B": ("E01 no such expectation", "via takes VIDS A B C; 3 words stand here"),
     "finally together 1": ("E01 no such expectation", "together takes VIDS NAMES; 1 word stands here"),
 }
 POLICY = "".join(f"{line}\n" for line in PROMISES).encode()

@@ -61,6 +61,9 @@ apart 10,20 * *
 leaves 10 A*
 leaf 0 *
 depth 0 0
+hops 1-4094 0 *
+via 10 acc1 acc2 core2
+always via 1 A B A
 always carries X 1-10
 avoids core1-dist1 1-4094
 always avoids X 1-4094
@@ -89,8 +92,6 @@ kind B rstp
 
 delport A 1
 """
-# Kinds of promises about paths, which stand in the table before anything prints them.
-UNPRINTED = {(enum, name) for enum in ("VerifyLine", "StepVerifyLine") for name in ("TooManyHops", "NotVia")}
 # no script here comes to these: contests in which no component differs, a root port without a rival, an internal cost over its limit that a
 # promise finds, and a port that none of the settings in question lets forward
 RARE = {("VerifyLine", "InternalCost"), ("ContestLine", "DesignatedOver"), ("ContestLine", "RootAlone"), ("ContestLine", "RootOver"), ("AdviseLine", "BecauseTried")}
@@ -98,7 +99,6 @@ RARE = {("VerifyLine", "InternalCost"), ("ContestLine", "DesignatedOver"), ("Con
 # the network itself as a place where a promise of what stays together isn't kept: nothing is before it
 RARE_NULLS = {
     ("failure", "VerifyLineTogether"),
-    *(("failure", "".join(it)) for it in UNPRINTED),
     *itertools.product(("root", "regional", "designated_bridge"), ("TreeLineBridgeInCist", "TreeLineBridgeInMsti")),
     *itertools.product(("winner", "loser"), ("ContestLineRootAlone", "ContestLineRootOver", "ContestLineRootByCost", "ContestLineRootById")),
 }
@@ -945,9 +945,8 @@ def user_answers(program):
 
 
 def unmet():
-    """The kinds that no script of these comes to, but those that nothing prints yet. What is refused says no kind, and each record of `check` stands
-    alone."""
-    return {kind[:2] for kind in KINDS if kind.enum != "RefusalLine" and kind[:2] != ("Query", "Check")} - MET - RARE - UNPRINTED
+    """The kinds that no script of these comes to. What is refused says no kind, and each record of `check` stands alone."""
+    return {kind[:2] for kind in KINDS if kind.enum != "RefusalLine" and kind[:2] != ("Query", "Check")} - MET - RARE
 
 
 def main():

@@ -137,11 +137,11 @@ def drawn_line(draws, bridges, lans):
     """A line of a policy that can be read, but for one of many."""
     tree, bridge, lan = draws.below(4) % 3, bridges.name(), lans.name()
     scope = draws.one_of(["", "always ", f"after lan {lans.list()} ", f"after lan {lan} ", f"after bridge {bridges.list()} ", f"after bridge {bridge} "])
-    naming = [(f"after bridge {bridge[:4]}* ", f"root {tree} {bridge}"), (f"after lan {lan[:2]}*,{lan} ", f"carries {lan} 1"), (f"after lan {lan[:4]}* ", f"avoids {lan} 1")]
+    naming = [(f"after bridge {bridge[:4]}* ", f"root {tree} {bridge}"), (f"after bridge {bridge[:4]}* ", f"via 1 {bridge} {bridge} {bridge}"), (f"after lan {lan[:2]}*,{lan} ", f"carries {lan} 1"), (f"after lan {lan[:4]}* ", f"avoids {lan} 1")]
     expectation = draws.one_of([
         f"root {tree} {bridge}", f"root {tree} {bridge} next {bridges.name()}", f"region {bridges.list()}", *[f"role {tree} {bridges.ports()} Root"] * 3,
         f"reach 1-9 {bridges.list()}", f"apart 1 {bridges.list()} {bridges.list()}", f"leaves 1 {bridges.list()}", f"together 1 {bridges.list()}", f"leaf {tree} {bridges.list()}",
-        f"depth {tree} 9", f"carries {lan} 1", f"avoids {lan} 1", "fits", "rot 0 b1",
+        f"depth {tree} 9", f"hops 1-9 3 {bridges.list()}", f"via 1 {bridge} {bridges.name()} {bridges.name()}", f"carries {lan} 1", f"avoids {lan} 1", "fits", "rot 0 b1",
     ])
     return draws.one_of(["", "", "", "finally "]) + "".join(draws.one_of(naming) if draws.below(5) == 0 else (scope, expectation))
 
@@ -157,7 +157,7 @@ def items_of(line):
         words = words[3:]
     word, *words = words[words[0] == "always":]
     kinds = {"root": ("tree", "bridge", "", "bridge"), "role": ("tree", "port"), "leaf": ("tree", "bridge"), "depth": ("tree",), "region": ("bridge",),
-             "carries": ("LAN",), "avoids": ("LAN",), "fits": ()}.get(word, ("", "bridge", "bridge"))
+             "hops": ("", "", "bridge"), "via": ("", "bridge", "bridge", "bridge"), "carries": ("LAN",), "avoids": ("LAN",), "fits": ()}.get(word, ("", "bridge", "bridge"))
     return items + [(of, it, ALONE[of].format(it)) for of, word in zip(kinds, words) if of for it in word.split(",")]
 
 

@@ -87,7 +87,8 @@ lan spare down
 # Promises that the campus doesn't keep, of each kind, and some that are refused.
 REASONS = [
     "root 0 core2", "root 1 core1 next dist1", "region *", "role 0 acc*:2 Root,Designated", "role 1 acc*:* Disabled", "always reach 1-4094 acc1,nobody",
-    "always apart 10,20 acc1 acc2", "leaf 0 core1,dist*", "depth 0 1", "carries dist2-acc1 10-12", "avoids core2-dist1 30", "root 9 core1", "no such",
+    "always apart 10,20 acc1 acc2", "leaf 0 core1,dist*", "depth 0 1",
+    "hops 30 1 acc*", "via 30 acc1 core1 dist2", "always via 30 acc1 core1 core2", "carries dist2-acc1 10-12", "avoids core2-dist1 30", "root 9 core1", "no such",
     "after bridge dist* avoids core1-dist1 1-4094", "after lan * depth 1 0", "carries nothing 1", "always root 0 core2",
 ]
 REFUSED = "addbridge A 02:00:00:00:00:01\nno <b>such</b> line\nplug A 1 x\nsettreeprio A 0 16\n"

@@ -30,7 +30,7 @@ import syntax  # noqa: E402
 HERE = os.path.dirname(os.path.abspath(__file__))
 # Words in the form of arguments, by what these are; and words that are in the form of none.
 RIGHT = {"B": "core1", "L": "a-b.1", "MAC": "00:1B-21:aa:00:01", "CNAME": "EDGE/1!", "VIDS": "1-9,20", "VIDS|all|none": "none", "Tree": "2",
-         "Steps": "3", "Next": "next", "Bridge": "core1", "NextBridge": "9", "Lan": "x", "Vids": "10", "Names": "core*,x,*", "Ports": "core1:2,x*:*", "Roles": "Root,Disabled"}
+         "Steps": "3", "Next": "next", "FirstBridge": "acc1", "Bridge": "core1", "NextBridge": "9", "Lan": "x", "Vids": "10", "Names": "core*,x,*", "Ports": "core1:2,x*:*", "Roles": "Root,Disabled"}
 SCOPES = ("always", "finally", "finally  always", "after lan x*,y", "finally after\tbridge *")
 SCOPES += ("always always", "always finally", "after x", "after lan", "after lan x:1", "after lan x always")
 WRONG = ("-x", "a_name_of_more_than_16", "1,,2", "é", "1-", "ab:", "maybe")

@@ -21,11 +21,14 @@ SAMPLES = os.path.join(os.path.dirname(os.path.abspath(__file__)), os.pardir, "e
 # nothing is to be left beside what is imported
 sys.dont_write_bytecode = True
 
+import path_runs  # noqa: E402
 import sketch  # noqa: E402
 
 COUNT = 200
 IN_THE_GATE = 20
 ALL_VIDS = range(1, 4095)
+# Of so many sets of active ports paths are promised.
+MOST_BODIES = 4
 ROLES = ["Root", "Designated", "Alternate", "Backup", "Master", "Disabled", "-"]
 BLOCKS = ("Alternate", "Backup")
 NOTHING = "policy 0 E17 nothing to judge"
@@ -41,7 +44,7 @@ class Judged:
 
     def __init__(self, text, before, gone=None, earlier=None):
         self.text, self.before, self.gone, self.earlier = text, before, gone, earlier
-        self.bridges = sorted(text.regions)
+        self.bridges, self.off = sorted(text.regions), set(sketch.states_of(text.saved)[2])
         self.over = functools.lru_cache(self.over)
 
     def named(self, names):
@@ -54,15 +57,28 @@ class Judged:
         pairs = [item.split(":") for item in items.split(",")]
         return [it for it in sorted(here) if it not in stopped and any(has(b, it[0]) and p in ("*", str(it[1])) for b, p in pairs)]
 
-    def grouped(self, vids, told_of):
-        """VIDs by what is told of their islands, by the least."""
+    def alike(self, vids, kept, told_of):
+        """VIDs by what is told of them, by the least: it is told once of those for which the same is kept."""
         told, groups = {}, {}
         for vid in sketch.numbers_in(vids):
-            islands = tuple(self.text.islands[vid])
-            if islands not in told:
-                told[islands] = told_of(islands)
-            groups.setdefault(told[islands], []).append(vid)
+            own = tuple(kept[vid])
+            if own not in told:
+                told[own] = told_of(vid)
+            groups.setdefault(told[own], []).append(vid)
         return [(sketch.list_of(those), told) for told, those in groups.items() if told]
+
+    def grouped(self, vids, told_of):
+        """VIDs by what is told of their islands, by the least."""
+        return self.alike(vids, self.text.islands, lambda vid: told_of(tuple(self.text.islands[vid])))
+
+    def by_paths(self, vids, told_of):
+        """VIDs by what is told of their paths, by the least."""
+        return self.alike(vids, self.text.active, told_of)
+
+    def path(self, vid, first, last):
+        """The bridges of the path from one bridge to another, or nothing."""
+        hops = path_runs.path(self.text, vid, first, last, self.off)
+        return [] if hops is None else [first, *(arrives[0] for arrives, _, _ in hops)]
 
     def over(self, lan):
         """The VIDs for which ports on two bridges of a logical LAN are active and members."""
@@ -164,6 +180,25 @@ def leaves_reasons(judged, vids, names):
     return [f"leaves {those} joined {told}" for those, told in judged.grouped(vids, joined_of)]
 
 
+def hops_reasons(judged, vids, most, names):
+    bridges = judged.named(names)
+
+    def farthest(vid):
+        paths = [judged.path(vid, *pair) for pair in itertools.permutations(bridges, 2)]
+        found = min(((1 - len(it), it[0], it[-1]) for it in paths if it), default=(0,))
+        return f"{-found[0]} {','.join(found[1:])}" if -found[0] > int(most) else ""
+
+    return [f"hops {those} {told}" for those, told in judged.by_paths(vids, farthest)]
+
+
+def via_reasons(judged, vids, first, last, by):
+    def otherwise(vid):
+        met = judged.path(vid, first, last)
+        return "" if by in met else ",".join(met)
+
+    return [f"via {those} by {told}" for those, told in judged.by_paths(vids, otherwise)]
+
+
 def carries_reasons(judged, lan, vids):
     without = [vid for vid in sketch.numbers_in(vids) if vid not in judged.over(lan)]
     return [f"carries {lan} without {sketch.list_of(without)}"] if without else []
@@ -180,7 +215,8 @@ def reasons(judged, line):
         return root_reasons(judged, words[0], words[1], words[2:])
     forms = {
         "region": region_reasons, "role": role_reasons, "reach": reach_reasons, "apart": apart_reasons,
-        "carries": carries_reasons, "avoids": avoids_reasons, "together": together_reasons, "leaves": leaves_reasons,
+        "carries": carries_reasons, "avoids": avoids_reasons, "together": together_reasons, "leaves": leaves_reasons, "hops": hops_reasons,
+        "via": via_reasons,
     }
     return forms[word](judged, *words)
 
@@ -231,6 +267,21 @@ def of_islands(judged):
     yield "reach 1-4094 *"
 
 
+def of_paths(judged):
+    """Of each set of active ports: the most hops in an island, and one hop less; of its longest path each bridge, and one that it doesn't meet."""
+    bodies = {}
+    for vid in ALL_VIDS:
+        bodies.setdefault(tuple(judged.text.active[vid]), []).append(vid)
+    for those in list(bodies.values())[:MOST_BODIES]:
+        vids = sketch.list_of(those)
+        paths = [judged.path(those[0], *pair) for pair in itertools.permutations(judged.bridges, 2)]
+        longest = max((it for it in paths if it), key=len, default=[])
+        if longest:
+            yield from [f"hops {vids} {len(longest) - most} *" for most in (1, 2)]
+            yield from [f"via {vids} {longest[0]} {longest[-1]} {it}" for it in (*longest, *[it for it in judged.bridges if it not in longest][:1])]
+    yield "hops 1-4094 0 *"
+
+
 def of_lans(judged):
     for lan in sorted({port["lan"] for port in judged.text.trees[0].ports.values()}):
         over = judged.over(lan)
@@ -240,7 +291,7 @@ def of_lans(judged):
 
 
 def lines_of(judged):
-    forms = of_roots, of_ports, of_regions, of_islands, of_lans
+    forms = of_roots, of_ports, of_regions, of_islands, of_paths, of_lans
     return [line for form in forms for line in form(judged) if len(line) < 4000]
 
 
@@ -292,6 +343,8 @@ def own_of(line):
     word, *words = line.split()
     if word == "root":
         return [f"bridge {words[1]}", *(f"bridge {it}" for it in words[3:])]
+    if word == "via":
+        return [f"bridge {it}" for it in words[1:]]
     return [f"lan {words[0]}"] if word in ("carries", "avoids") else []
 
 
