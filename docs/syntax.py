@@ -46,7 +46,7 @@ OF_SCRIPTS = {
     **{words: (A_WORD, f"(?:{words})") for words in ("on|off", "mstp|rstp", "up|down", "yes|no")},
 }
 OF_POLICIES = {
-    **dict.fromkeys(("Bridge", "NextBridge", "Lan"), (A_NAME, NAME)), **dict.fromkeys(("Tree", "Steps"), (A_NUMBER, NUMBER)),
+    **dict.fromkeys(("FirstBridge", "Bridge", "NextBridge", "Lan"), (A_NAME, NAME)), **dict.fromkeys(("Tree", "Steps"), (A_NUMBER, NUMBER)),
     "Next": (A_WORD, "next"), "Vids": (A_NUMBER, VIDS), "Names": (A_NAME, listed(ITEM)),
     "Ports": (A_NAME, listed(rf"{ITEM}:(?:{NUMBER}|\*)")), "Roles": (A_WORD, listed(f"(?:{'|'.join(ROLES)})")),
 }
