@@ -65,7 +65,7 @@ found n (p ∷ ps) = if p.0 == n then Some p.1 else found n ps
 
 -- ---- keys
 all_keys : List Key
-all_keys = key.Tree ∷ key.Vid ∷ key.Bridge ∷ key.Port ∷ key.Part ∷ key.PartCount ∷ key.Of ∷ key.Power ∷ key.BridgeId ∷ key.RootId ∷ key.Ext ∷ key.RegionalId ∷ key.Regional ∷ key.Int ∷ key.DesignatedId ∷ key.DesignatedBridge ∷ key.DesignatedPortId ∷ key.ReceiverId ∷ key.Lan ∷ key.Role ∷ key.PortId ∷ key.Vids ∷ key.Active ∷ key.Bridges ∷ key.Lans ∷ key.Region ∷ key.RegionKind ∷ key.Name ∷ key.Revision ∷ key.Digest ∷ key.LagId ∷ key.Speed ∷ key.Up ∷ key.Ports ∷ key.Note ∷ key.Depth ∷ key.Limit ∷ key.OldVector ∷ key.NewVector ∷ key.OldRole ∷ key.NewRole ∷ key.OldRegion ∷ key.NewRegion ∷ key.OldRoot ∷ key.NewRoot ∷ key.OldIslands ∷ key.NewIslands ∷ key.RegionCount ∷ key.RootCount ∷ key.PortCount ∷ key.VlanCount ∷ key.Version ∷ key.Mac ∷ key.BridgeKind ∷ key.SystemPriority ∷ key.MaxHops ∷ key.MaxAge ∷ key.Priority ∷ key.AggregationKey ∷ key.PortPriority ∷ key.Vlans ∷ key.Restricted ∷ key.State ∷ key.Designated ∷ key.OffBridge ∷ key.DownLan ∷ key.Winner ∷ key.Loser ∷ key.Field ∷ key.Value ∷ key.LoserValue ∷ key.ValueId ∷ key.LoserId ∷ key.Failure ∷ key.OtherFailure ∷ key.Trees ∷ key.Parts ∷ key.LanCount ∷ key.BridgeCount ∷ key.CutCount ∷ key.PairCount ∷ key.OnCount ∷ key.EnabledCount ∷ key.TreeCount ∷ key.Root ∷ key.Next ∷ key.NextPriority ∷ key.IslandCount ∷ key.Line ∷ key.Result ∷ key.TreeKind ∷ key.Plan ∷ key.Captured ∷ key.PlanText ∷ key.CapturedText ∷ key.Error ∷ key.Text ∷ key.Hint ∷ key.Side ∷ key.Status ∷ key.Expectation ∷ key.Joined ∷ key.ExpectationCount ∷ key.HoldCount ∷ key.Step ∷ key.Lines ∷ key.MovedVids ∷ key.CutVids ∷ key.JoinedVids ∷ key.StepCount ∷ key.MovingCount ∷ key.CuttingCount ∷ key.FailingCount ∷ key.Goal ∷ key.Command ∷ key.EditCount ∷ key.Look ∷ key.OtherName ∷ key.OtherBridges ∷ key.NextSpeed ∷ key.CaptureCount ∷ key.AgreeCount ∷ key.UnkeptCount ∷ key.FailureCount ∷ key.NetworkCount ∷ key.TrialCount ∷ key.Promises ∷ key.Promise ∷ key.Scope ∷ key.Finally ∷ key.Holds ∷ key.Because ∷ key.OtherPort ∷ key.OtherVids ∷ key.From ∷ key.To ∷ key.Hop ∷ key.HopCount ∷ key.OtherCount ∷ key.NoneCount ∷ []
+all_keys = key.Tree ∷ key.Vid ∷ key.Bridge ∷ key.Port ∷ key.Part ∷ key.PartCount ∷ key.Of ∷ key.Power ∷ key.BridgeId ∷ key.RootId ∷ key.Ext ∷ key.RegionalId ∷ key.Regional ∷ key.Int ∷ key.DesignatedId ∷ key.DesignatedBridge ∷ key.DesignatedPortId ∷ key.ReceiverId ∷ key.Lan ∷ key.Role ∷ key.PortId ∷ key.Vids ∷ key.Active ∷ key.Bridges ∷ key.Lans ∷ key.Region ∷ key.RegionKind ∷ key.Name ∷ key.Revision ∷ key.Digest ∷ key.LagId ∷ key.Speed ∷ key.Up ∷ key.Ports ∷ key.Note ∷ key.Depth ∷ key.Limit ∷ key.OldVector ∷ key.NewVector ∷ key.OldRole ∷ key.NewRole ∷ key.OldRegion ∷ key.NewRegion ∷ key.OldRoot ∷ key.NewRoot ∷ key.OldIslands ∷ key.NewIslands ∷ key.RegionCount ∷ key.RootCount ∷ key.PortCount ∷ key.VlanCount ∷ key.Version ∷ key.Mac ∷ key.BridgeKind ∷ key.SystemPriority ∷ key.MaxHops ∷ key.MaxAge ∷ key.Priority ∷ key.AggregationKey ∷ key.PortPriority ∷ key.Vlans ∷ key.Restricted ∷ key.State ∷ key.Designated ∷ key.OffBridge ∷ key.DownLan ∷ key.Winner ∷ key.Loser ∷ key.Field ∷ key.Value ∷ key.LoserValue ∷ key.ValueId ∷ key.LoserId ∷ key.Failure ∷ key.OtherFailure ∷ key.Trees ∷ key.Parts ∷ key.LanCount ∷ key.BridgeCount ∷ key.CutCount ∷ key.PairCount ∷ key.Risk ∷ key.RiskCount ∷ key.OnCount ∷ key.EnabledCount ∷ key.TreeCount ∷ key.Root ∷ key.Next ∷ key.NextPriority ∷ key.IslandCount ∷ key.Line ∷ key.Result ∷ key.TreeKind ∷ key.Plan ∷ key.Captured ∷ key.PlanText ∷ key.CapturedText ∷ key.Error ∷ key.Text ∷ key.Hint ∷ key.Side ∷ key.Status ∷ key.Expectation ∷ key.Joined ∷ key.ExpectationCount ∷ key.HoldCount ∷ key.Step ∷ key.Lines ∷ key.MovedVids ∷ key.CutVids ∷ key.JoinedVids ∷ key.StepCount ∷ key.MovingCount ∷ key.CuttingCount ∷ key.FailingCount ∷ key.Goal ∷ key.Command ∷ key.EditCount ∷ key.Look ∷ key.OtherName ∷ key.OtherBridges ∷ key.NextSpeed ∷ key.CaptureCount ∷ key.AgreeCount ∷ key.UnkeptCount ∷ key.FailureCount ∷ key.NetworkCount ∷ key.TrialCount ∷ key.Promises ∷ key.Promise ∷ key.Scope ∷ key.Finally ∷ key.Holds ∷ key.Because ∷ key.OtherPort ∷ key.OtherVids ∷ key.From ∷ key.To ∷ key.Hop ∷ key.HopCount ∷ key.OtherCount ∷ key.NoneCount ∷ []
 
 numbered_keys : List (ℕ × Key)
 unfolding all_keys
@@ -154,6 +154,8 @@ key_found key.LanCount = refl
 key_found key.BridgeCount = refl
 key_found key.CutCount = refl
 key_found key.PairCount = refl
+key_found key.Risk = refl
+key_found key.RiskCount = refl
 key_found key.OnCount = refl
 key_found key.EnabledCount = refl
 key_found key.TreeCount = refl
@@ -220,7 +222,7 @@ keys_differ k l e =
 
 -- ---- kinds
 all_kinds : List Kind
-all_kinds = kind.Query query.ShowTree ∷ kind.Query query.ShowPlan ∷ kind.Query query.ShowVlan ∷ kind.Query query.ShowLag ∷ kind.Query query.ShowRegions ∷ kind.Query query.ShowMstconfid ∷ kind.Query query.ShowNotes ∷ kind.Query query.Changes ∷ kind.Query query.Save ∷ kind.Query query.Explain ∷ kind.Query query.ExplainIn ∷ kind.Query query.Diff ∷ kind.Query query.Sweep ∷ kind.Query query.SweepPart ∷ kind.Query query.SweepPairs ∷ kind.Query query.SweepPairsPart ∷ kind.Query query.Summary ∷ kind.Query query.Check ∷ kind.Query query.Verify ∷ kind.Query query.Steps ∷ kind.Query query.Edits ∷ kind.Query query.AdviseRoot ∷ kind.Query query.AdviseForward ∷ kind.Query query.Digest ∷ kind.Query query.Path ∷ kind.Query query.PathAlways ∷ kind.Tree tree_line.Heading ∷ kind.Tree tree_line.BridgeOff ∷ kind.Tree tree_line.BridgeInCist ∷ kind.Tree tree_line.BridgeInMsti ∷ kind.Tree tree_line.PortDisabled ∷ kind.Tree tree_line.PortInCist ∷ kind.Tree tree_line.PortInMsti ∷ kind.Vlan vlan_line.Heading ∷ kind.Vlan vlan_line.Active ∷ kind.Vlan vlan_line.Island ∷ kind.Region region_line.Mstp ∷ kind.Region region_line.Rstp ∷ kind.Region region_line.Configuration ∷ kind.Region region_line.Msti ∷ kind.Region region_line.Lag ∷ kind.Note note_line.Hops ∷ kind.Note note_line.Age ∷ kind.Note note_line.ExternalCost ∷ kind.Note note_line.InternalCost ∷ kind.Note note_line.Restricted ∷ kind.Change change_line.Bridge ∷ kind.Change change_line.Port ∷ kind.Change change_line.Region ∷ kind.Change change_line.Root ∷ kind.Change change_line.Reach ∷ kind.Change change_line.Counts ∷ kind.OfBridge bridge_command.Version ∷ kind.OfBridge bridge_command.Add ∷ kind.OfBridge bridge_command.Off ∷ kind.OfBridge bridge_command.Rstp ∷ kind.OfBridge bridge_command.SystemPriority ∷ kind.OfBridge bridge_command.Configuration ∷ kind.OfBridge bridge_command.Msti ∷ kind.OfBridge bridge_command.MaxHops ∷ kind.OfBridge bridge_command.MaxAge ∷ kind.OfBridge bridge_command.Priority ∷ kind.OfBridge bridge_command.Delete ∷ kind.OfBridge bridge_command.On ∷ kind.OfBridge bridge_command.Mstp ∷ kind.OfPort port_command.Add ∷ kind.OfPort port_command.Key ∷ kind.OfPort port_command.ExternalCost ∷ kind.OfPort port_command.InternalCost ∷ kind.OfPort port_command.Priority ∷ kind.OfPort port_command.Vlans ∷ kind.OfPort port_command.NoVlans ∷ kind.OfPort port_command.Restricted ∷ kind.OfPort port_command.Plug ∷ kind.OfPort port_command.AddLan ∷ kind.OfPort port_command.LanDown ∷ kind.OfPort port_command.Speed ∷ kind.OfPort port_command.Delete ∷ kind.OfPort port_command.AllVlans ∷ kind.OfPort port_command.Unrestricted ∷ kind.OfPort port_command.Unplug ∷ kind.OfPort port_command.DeleteLan ∷ kind.OfPort port_command.LanUp ∷ kind.Explain explain_line.Port ∷ kind.Explain explain_line.Restricted ∷ kind.Explain explain_line.Boundary ∷ kind.Explain explain_line.BridgeOff ∷ kind.Explain explain_line.LanDown ∷ kind.Contest contest_line.DesignatedAlone ∷ kind.Contest contest_line.DesignatedOver ∷ kind.Contest contest_line.DesignatedByCost ∷ kind.Contest contest_line.DesignatedById ∷ kind.Contest contest_line.RootAlone ∷ kind.Contest contest_line.RootOver ∷ kind.Contest contest_line.RootByCost ∷ kind.Contest contest_line.RootById ∷ kind.Sweep sweep_line.Lan ∷ kind.Sweep sweep_line.Bridge ∷ kind.Sweep sweep_line.Cut ∷ kind.Sweep sweep_line.Counts ∷ kind.Sweep sweep_line.Pair ∷ kind.Sweep sweep_line.CutByPair ∷ kind.Sweep sweep_line.PairCounts ∷ kind.Summary summary_line.Counts ∷ kind.Summary summary_line.Root ∷ kind.Summary summary_line.RootAlone ∷ kind.Summary summary_line.Blocked ∷ kind.Summary summary_line.Vlan ∷ kind.Summary summary_line.Carries ∷ kind.Summary summary_line.CarriesAll ∷ kind.Summary summary_line.LookRegion ∷ kind.Summary summary_line.LookTable ∷ kind.Summary summary_line.LookLan ∷ kind.Summary summary_line.LookVlans ∷ kind.Summary summary_line.Digest ∷ kind.Capture capture_line.Agrees ∷ kind.Capture capture_line.Number ∷ kind.Capture capture_line.Text ∷ kind.Capture capture_line.MstiNumber ∷ kind.Capture capture_line.MstiText ∷ kind.Capture capture_line.Unplanned ∷ kind.Capture capture_line.Repeated ∷ kind.Capture capture_line.Missing ∷ kind.Capture capture_line.Unread ∷ kind.Capture capture_line.Counts ∷ kind.Refusal refusal_line.Line ∷ kind.Refusal refusal_line.Hinted ∷ kind.Refusal refusal_line.OldLine ∷ kind.Refusal refusal_line.NewLine ∷ kind.Refusal refusal_line.Explain ∷ kind.Refusal refusal_line.Dot ∷ kind.Refusal refusal_line.Policy ∷ kind.Refusal refusal_line.Change ∷ kind.Refusal refusal_line.Advise ∷ kind.Refusal refusal_line.StepPolicy ∷ kind.Refusal refusal_line.StepChange ∷ kind.Refusal refusal_line.Path ∷ kind.Ask ask_line.Undone ∷ kind.Ask ask_line.Done ∷ kind.Verify verify_line.OtherRoot ∷ kind.Verify verify_line.NoRoot ∷ kind.Verify verify_line.OtherNext ∷ kind.Verify verify_line.Region ∷ kind.Verify verify_line.Role ∷ kind.Verify verify_line.Reach ∷ kind.Verify verify_line.Apart ∷ kind.Verify verify_line.Leaves ∷ kind.Verify verify_line.Together ∷ kind.Verify verify_line.Leaf ∷ kind.Verify verify_line.Depth ∷ kind.Verify verify_line.Carries ∷ kind.Verify verify_line.Avoids ∷ kind.Verify verify_line.TooManyHops ∷ kind.Verify verify_line.NotVia ∷ kind.Verify verify_line.Hops ∷ kind.Verify verify_line.Age ∷ kind.Verify verify_line.ExternalCost ∷ kind.Verify verify_line.InternalCost ∷ kind.Verify verify_line.Same ∷ kind.Verify verify_line.Counts ∷ kind.StepVerify verify_line.OtherRoot ∷ kind.StepVerify verify_line.NoRoot ∷ kind.StepVerify verify_line.OtherNext ∷ kind.StepVerify verify_line.Region ∷ kind.StepVerify verify_line.Role ∷ kind.StepVerify verify_line.Reach ∷ kind.StepVerify verify_line.Apart ∷ kind.StepVerify verify_line.Leaves ∷ kind.StepVerify verify_line.Together ∷ kind.StepVerify verify_line.Leaf ∷ kind.StepVerify verify_line.Depth ∷ kind.StepVerify verify_line.Carries ∷ kind.StepVerify verify_line.Avoids ∷ kind.StepVerify verify_line.TooManyHops ∷ kind.StepVerify verify_line.NotVia ∷ kind.StepVerify verify_line.Hops ∷ kind.StepVerify verify_line.Age ∷ kind.StepVerify verify_line.ExternalCost ∷ kind.StepVerify verify_line.InternalCost ∷ kind.StepVerify verify_line.Same ∷ kind.StepVerify verify_line.Counts ∷ kind.Step step_line.Step ∷ kind.Step step_line.Cut ∷ kind.Step step_line.Start ∷ kind.Step step_line.Mends ∷ kind.Step step_line.Turns ∷ kind.Step step_line.Restarts ∷ kind.Step step_line.Counts ∷ kind.Step step_line.JudgedCounts ∷ kind.Advise advise_line.Priority ∷ kind.Advise advise_line.ExternalCost ∷ kind.Advise advise_line.InternalCost ∷ kind.Advise advise_line.PortPriority ∷ kind.Advise advise_line.Does ∷ kind.Advise advise_line.Cut ∷ kind.Advise advise_line.Counts ∷ kind.Advise advise_line.None ∷ kind.Advise advise_line.BecauseOff ∷ kind.Advise advise_line.BecauseDown ∷ kind.Advise advise_line.BecauseApart ∷ kind.Advise advise_line.BecauseRestricted ∷ kind.Advise advise_line.BecauseTried ∷ kind.Path path_line.Path ∷ kind.Path path_line.None ∷ kind.Path path_line.Hop ∷ kind.Path path_line.Lan ∷ kind.Path path_line.Bridge ∷ kind.Path path_line.NoneByLan ∷ kind.Path path_line.NoneByBridge ∷ kind.Path path_line.Counts ∷ []
+all_kinds = kind.Query query.ShowTree ∷ kind.Query query.ShowPlan ∷ kind.Query query.ShowVlan ∷ kind.Query query.ShowLag ∷ kind.Query query.ShowRegions ∷ kind.Query query.ShowMstconfid ∷ kind.Query query.ShowNotes ∷ kind.Query query.Changes ∷ kind.Query query.Save ∷ kind.Query query.Explain ∷ kind.Query query.ExplainIn ∷ kind.Query query.Diff ∷ kind.Query query.Sweep ∷ kind.Query query.SweepPart ∷ kind.Query query.SweepPairs ∷ kind.Query query.SweepRisks ∷ kind.Query query.SweepPairsPart ∷ kind.Query query.Summary ∷ kind.Query query.Check ∷ kind.Query query.Verify ∷ kind.Query query.Steps ∷ kind.Query query.Edits ∷ kind.Query query.AdviseRoot ∷ kind.Query query.AdviseForward ∷ kind.Query query.Digest ∷ kind.Query query.Path ∷ kind.Query query.PathAlways ∷ kind.Tree tree_line.Heading ∷ kind.Tree tree_line.BridgeOff ∷ kind.Tree tree_line.BridgeInCist ∷ kind.Tree tree_line.BridgeInMsti ∷ kind.Tree tree_line.PortDisabled ∷ kind.Tree tree_line.PortInCist ∷ kind.Tree tree_line.PortInMsti ∷ kind.Vlan vlan_line.Heading ∷ kind.Vlan vlan_line.Active ∷ kind.Vlan vlan_line.Island ∷ kind.Region region_line.Mstp ∷ kind.Region region_line.Rstp ∷ kind.Region region_line.Configuration ∷ kind.Region region_line.Msti ∷ kind.Region region_line.Lag ∷ kind.Note note_line.Hops ∷ kind.Note note_line.Age ∷ kind.Note note_line.ExternalCost ∷ kind.Note note_line.InternalCost ∷ kind.Note note_line.Restricted ∷ kind.Change change_line.Bridge ∷ kind.Change change_line.Port ∷ kind.Change change_line.Region ∷ kind.Change change_line.Root ∷ kind.Change change_line.Reach ∷ kind.Change change_line.Counts ∷ kind.OfBridge bridge_command.Version ∷ kind.OfBridge bridge_command.Add ∷ kind.OfBridge bridge_command.Off ∷ kind.OfBridge bridge_command.Rstp ∷ kind.OfBridge bridge_command.SystemPriority ∷ kind.OfBridge bridge_command.Configuration ∷ kind.OfBridge bridge_command.Msti ∷ kind.OfBridge bridge_command.MaxHops ∷ kind.OfBridge bridge_command.MaxAge ∷ kind.OfBridge bridge_command.Priority ∷ kind.OfBridge bridge_command.Delete ∷ kind.OfBridge bridge_command.On ∷ kind.OfBridge bridge_command.Mstp ∷ kind.OfPort port_command.Add ∷ kind.OfPort port_command.Key ∷ kind.OfPort port_command.ExternalCost ∷ kind.OfPort port_command.InternalCost ∷ kind.OfPort port_command.Priority ∷ kind.OfPort port_command.Vlans ∷ kind.OfPort port_command.NoVlans ∷ kind.OfPort port_command.Restricted ∷ kind.OfPort port_command.Plug ∷ kind.OfPort port_command.AddLan ∷ kind.OfPort port_command.LanDown ∷ kind.OfPort port_command.Speed ∷ kind.OfPort port_command.Delete ∷ kind.OfPort port_command.AllVlans ∷ kind.OfPort port_command.Unrestricted ∷ kind.OfPort port_command.Unplug ∷ kind.OfPort port_command.DeleteLan ∷ kind.OfPort port_command.LanUp ∷ kind.Explain explain_line.Port ∷ kind.Explain explain_line.Restricted ∷ kind.Explain explain_line.Boundary ∷ kind.Explain explain_line.BridgeOff ∷ kind.Explain explain_line.LanDown ∷ kind.Contest contest_line.DesignatedAlone ∷ kind.Contest contest_line.DesignatedOver ∷ kind.Contest contest_line.DesignatedByCost ∷ kind.Contest contest_line.DesignatedById ∷ kind.Contest contest_line.RootAlone ∷ kind.Contest contest_line.RootOver ∷ kind.Contest contest_line.RootByCost ∷ kind.Contest contest_line.RootById ∷ kind.Sweep sweep_line.Lan ∷ kind.Sweep sweep_line.Bridge ∷ kind.Sweep sweep_line.Risk ∷ kind.Sweep sweep_line.Cut ∷ kind.Sweep sweep_line.Counts ∷ kind.Sweep sweep_line.Pair ∷ kind.Sweep sweep_line.CutByPair ∷ kind.Sweep sweep_line.PairCounts ∷ kind.Sweep sweep_line.RiskCounts ∷ kind.Summary summary_line.Counts ∷ kind.Summary summary_line.Root ∷ kind.Summary summary_line.RootAlone ∷ kind.Summary summary_line.Blocked ∷ kind.Summary summary_line.Vlan ∷ kind.Summary summary_line.Carries ∷ kind.Summary summary_line.CarriesAll ∷ kind.Summary summary_line.LookRegion ∷ kind.Summary summary_line.LookTable ∷ kind.Summary summary_line.LookLan ∷ kind.Summary summary_line.LookVlans ∷ kind.Summary summary_line.Digest ∷ kind.Capture capture_line.Agrees ∷ kind.Capture capture_line.Number ∷ kind.Capture capture_line.Text ∷ kind.Capture capture_line.MstiNumber ∷ kind.Capture capture_line.MstiText ∷ kind.Capture capture_line.Unplanned ∷ kind.Capture capture_line.Repeated ∷ kind.Capture capture_line.Missing ∷ kind.Capture capture_line.Unread ∷ kind.Capture capture_line.Counts ∷ kind.Refusal refusal_line.Line ∷ kind.Refusal refusal_line.Hinted ∷ kind.Refusal refusal_line.OldLine ∷ kind.Refusal refusal_line.NewLine ∷ kind.Refusal refusal_line.Explain ∷ kind.Refusal refusal_line.Dot ∷ kind.Refusal refusal_line.Policy ∷ kind.Refusal refusal_line.Change ∷ kind.Refusal refusal_line.Advise ∷ kind.Refusal refusal_line.StepPolicy ∷ kind.Refusal refusal_line.StepChange ∷ kind.Refusal refusal_line.Path ∷ kind.Ask ask_line.Undone ∷ kind.Ask ask_line.Done ∷ kind.Verify verify_line.OtherRoot ∷ kind.Verify verify_line.NoRoot ∷ kind.Verify verify_line.OtherNext ∷ kind.Verify verify_line.Region ∷ kind.Verify verify_line.Role ∷ kind.Verify verify_line.Reach ∷ kind.Verify verify_line.Apart ∷ kind.Verify verify_line.Leaves ∷ kind.Verify verify_line.Together ∷ kind.Verify verify_line.Leaf ∷ kind.Verify verify_line.Depth ∷ kind.Verify verify_line.Carries ∷ kind.Verify verify_line.Avoids ∷ kind.Verify verify_line.TooManyHops ∷ kind.Verify verify_line.NotVia ∷ kind.Verify verify_line.Hops ∷ kind.Verify verify_line.Age ∷ kind.Verify verify_line.ExternalCost ∷ kind.Verify verify_line.InternalCost ∷ kind.Verify verify_line.Same ∷ kind.Verify verify_line.Counts ∷ kind.StepVerify verify_line.OtherRoot ∷ kind.StepVerify verify_line.NoRoot ∷ kind.StepVerify verify_line.OtherNext ∷ kind.StepVerify verify_line.Region ∷ kind.StepVerify verify_line.Role ∷ kind.StepVerify verify_line.Reach ∷ kind.StepVerify verify_line.Apart ∷ kind.StepVerify verify_line.Leaves ∷ kind.StepVerify verify_line.Together ∷ kind.StepVerify verify_line.Leaf ∷ kind.StepVerify verify_line.Depth ∷ kind.StepVerify verify_line.Carries ∷ kind.StepVerify verify_line.Avoids ∷ kind.StepVerify verify_line.TooManyHops ∷ kind.StepVerify verify_line.NotVia ∷ kind.StepVerify verify_line.Hops ∷ kind.StepVerify verify_line.Age ∷ kind.StepVerify verify_line.ExternalCost ∷ kind.StepVerify verify_line.InternalCost ∷ kind.StepVerify verify_line.Same ∷ kind.StepVerify verify_line.Counts ∷ kind.Step step_line.Step ∷ kind.Step step_line.Cut ∷ kind.Step step_line.Start ∷ kind.Step step_line.Mends ∷ kind.Step step_line.Turns ∷ kind.Step step_line.Restarts ∷ kind.Step step_line.Counts ∷ kind.Step step_line.JudgedCounts ∷ kind.Advise advise_line.Priority ∷ kind.Advise advise_line.ExternalCost ∷ kind.Advise advise_line.InternalCost ∷ kind.Advise advise_line.PortPriority ∷ kind.Advise advise_line.Does ∷ kind.Advise advise_line.Cut ∷ kind.Advise advise_line.Counts ∷ kind.Advise advise_line.None ∷ kind.Advise advise_line.BecauseOff ∷ kind.Advise advise_line.BecauseDown ∷ kind.Advise advise_line.BecauseApart ∷ kind.Advise advise_line.BecauseRestricted ∷ kind.Advise advise_line.BecauseTried ∷ kind.Path path_line.Path ∷ kind.Path path_line.None ∷ kind.Path path_line.Hop ∷ kind.Path path_line.Lan ∷ kind.Path path_line.Bridge ∷ kind.Path path_line.NoneByLan ∷ kind.Path path_line.NoneByBridge ∷ kind.Path path_line.Counts ∷ []
 
 numbered_kinds : List (ℕ × Kind)
 unfolding all_kinds
@@ -243,6 +245,7 @@ query_found query.Diff = refl
 query_found query.Sweep = refl
 query_found query.SweepPart = refl
 query_found query.SweepPairs = refl
+query_found query.SweepRisks = refl
 query_found query.SweepPairsPart = refl
 query_found query.Summary = refl
 query_found query.Check = refl
@@ -356,11 +359,13 @@ sweep_line_found : (l : SweepLine) → found (shape_number (shape_of (kind.Sweep
 unfolding all_kinds numbered_kinds
 sweep_line_found sweep_line.Lan = refl
 sweep_line_found sweep_line.Bridge = refl
+sweep_line_found sweep_line.Risk = refl
 sweep_line_found sweep_line.Cut = refl
 sweep_line_found sweep_line.Counts = refl
 sweep_line_found sweep_line.Pair = refl
 sweep_line_found sweep_line.CutByPair = refl
 sweep_line_found sweep_line.PairCounts = refl
+sweep_line_found sweep_line.RiskCounts = refl
 
 summary_line_found : (l : SummaryLine) → found (shape_number (shape_of (kind.Summary l))) numbered_kinds ≡ Some (kind.Summary l)
 unfolding all_kinds numbered_kinds

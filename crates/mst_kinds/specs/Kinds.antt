@@ -62,6 +62,7 @@ first_of_query query.ExplainIn = mark.Explain
 first_of_query query.Diff = mark.Diff
 first_of_query query.Sweep = mark.Sweep
 first_of_query query.SweepPart = mark.Sweep
+first_of_query query.SweepRisks = mark.Sweep
 first_of_query query.SweepPairs = mark.Sweep
 first_of_query query.SweepPairsPart = mark.Sweep
 first_of_query query.Summary = mark.Summary
@@ -106,6 +107,8 @@ parts_of_query query.Sweep = []
 parts_of_query query.SweepPart = part.Key key.Part ∷ part.Key key.PartCount ∷ []
 -- `sweep pairs`
 parts_of_query query.SweepPairs = part.Said key.Of mark.Pairs ∷ []
+-- `sweep risks`
+parts_of_query query.SweepRisks = part.Said key.Of mark.Risks ∷ []
 -- `sweep pairs K/N`
 parts_of_query query.SweepPairsPart = part.Said key.Of mark.Pairs ∷ part.Key key.Part ∷ part.Key key.PartCount ∷ []
 -- `summary`
@@ -388,17 +391,21 @@ parts_of_contest_line contest_line.RootById = part.Above key.Tree ∷ part.Above
 abbrev pub first_of_sweep_line : SweepLine → Mark
 first_of_sweep_line sweep_line.Lan = mark.Lan
 first_of_sweep_line sweep_line.Bridge = mark.Bridge
+first_of_sweep_line sweep_line.Risk = mark.Risk
 first_of_sweep_line sweep_line.Cut = mark.Cut
 first_of_sweep_line sweep_line.Counts = mark.Sweep
 first_of_sweep_line sweep_line.Pair = mark.Pair
 first_of_sweep_line sweep_line.CutByPair = mark.Cut
 first_of_sweep_line sweep_line.PairCounts = mark.Sweep
+first_of_sweep_line sweep_line.RiskCounts = mark.Sweep
 
 abbrev pub parts_of_sweep_line : SweepLine → List Part
 -- `lan L roots T,.. ports N cut VIDS`
 parts_of_sweep_line sweep_line.Lan = part.Above key.Failure ∷ part.Key key.Lan ∷ part.Mark mark.Roots ∷ part.Commas key.Trees ∷ part.Mark mark.Ports ∷ part.Key key.PortCount ∷ part.Mark mark.Cut ∷ part.Key key.Vids ∷ []
 -- `bridge B roots T,.. ports N cut VIDS`
 parts_of_sweep_line sweep_line.Bridge = part.Above key.Failure ∷ part.Key key.Bridge ∷ part.Mark mark.Roots ∷ part.Commas key.Trees ∷ part.Mark mark.Ports ∷ part.Key key.PortCount ∷ part.Mark mark.Cut ∷ part.Key key.Vids ∷ []
+-- `risk NAME roots T,.. ports N cut VIDS`
+parts_of_sweep_line sweep_line.Risk = part.Above key.Failure ∷ part.Key key.Risk ∷ part.Mark mark.Roots ∷ part.Commas key.Trees ∷ part.Mark mark.Ports ∷ part.Key key.PortCount ∷ part.Mark mark.Cut ∷ part.Key key.Vids ∷ []
 -- `cut VIDS parts B,.. ..`
 parts_of_sweep_line sweep_line.Cut = part.Above key.Failure ∷ part.Key key.Vids ∷ part.Mark mark.Parts ∷ part.Key key.Parts ∷ []
 -- `sweep lans N bridges N cuts N`
@@ -409,6 +416,8 @@ parts_of_sweep_line sweep_line.Pair = part.Key key.Failure ∷ part.Key key.Othe
 parts_of_sweep_line sweep_line.CutByPair = part.Above key.Failure ∷ part.Above key.OtherFailure ∷ part.Key key.Vids ∷ part.Mark mark.Parts ∷ part.Key key.Parts ∷ []
 -- `sweep pairs N cuts N`
 parts_of_sweep_line sweep_line.PairCounts = part.Mark mark.Pairs ∷ part.Key key.PairCount ∷ part.Mark mark.Cuts ∷ part.Key key.CutCount ∷ []
+-- `sweep risks N cuts N`
+parts_of_sweep_line sweep_line.RiskCounts = part.Mark mark.Risks ∷ part.Key key.RiskCount ∷ part.Mark mark.Cuts ∷ part.Key key.CutCount ∷ []
 
 -- ---- a line of a summary
 abbrev pub first_of_summary_line : SummaryLine → Mark

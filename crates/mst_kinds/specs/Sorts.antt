@@ -75,6 +75,7 @@ sort_of key.LanCount = numbers
 sort_of key.BridgeCount = numbers
 sort_of key.CutCount = numbers
 sort_of key.PairCount = numbers
+sort_of key.RiskCount = numbers
 sort_of key.OnCount = numbers
 sort_of key.EnabledCount = numbers
 sort_of key.TreeCount = numbers

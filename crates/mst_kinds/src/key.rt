@@ -16,7 +16,7 @@ pub enum Key {
     Part,
     /// How many parts there are.
     PartCount,
-    /// `pairs`, where pairs of failures are asked for.
+    /// `pairs`, where pairs of failures are asked for, and `risks`, where those of a policy are.
     Of,
     /// `off`, or `on` where it is set so: whether a bridge is on.
     Power,
@@ -166,6 +166,10 @@ pub enum Key {
     CutCount,
     /// How many pairs of failures.
     PairCount,
+    /// The name of a risk.
+    Risk,
+    /// How many risks.
+    RiskCount,
     /// How many bridges are on.
     OnCount,
     /// How many ports are enabled.
@@ -373,6 +377,8 @@ impl Key {
             Key::BridgeCount => b"bridge_count",
             Key::CutCount => b"cut_count",
             Key::PairCount => b"pair_count",
+            Key::Risk => b"risk",
+            Key::RiskCount => b"risk_count",
             Key::OnCount => b"on_count",
             Key::EnabledCount => b"enabled_count",
             Key::TreeCount => b"tree_count",

@@ -37,6 +37,8 @@ pub enum Query {
     SweepPart,
     /// `sweep pairs`
     SweepPairs,
+    /// `sweep risks`
+    SweepRisks,
     /// `sweep pairs K/N`
     SweepPairsPart,
     /// `summary`
@@ -82,6 +84,7 @@ impl Query {
             Query::Sweep => Mark::Sweep,
             Query::SweepPart => Mark::Sweep,
             Query::SweepPairs => Mark::Sweep,
+            Query::SweepRisks => Mark::Sweep,
             Query::SweepPairsPart => Mark::Sweep,
             Query::Summary => Mark::Summary,
             Query::Check => Mark::Check,
@@ -116,6 +119,7 @@ impl Query {
             Query::Sweep => parts![],
             Query::SweepPart => parts![Key Part, Key PartCount],
             Query::SweepPairs => parts![Said Of Pairs],
+            Query::SweepRisks => parts![Said Of Risks],
             Query::SweepPairsPart => parts![Said Of Pairs, Key Part, Key PartCount],
             Query::Summary => parts![],
             Query::Check => parts![],

@@ -11,6 +11,8 @@ pub enum SweepLine {
     Lan,
     /// `bridge B roots T,.. ports N cut VIDS`
     Bridge,
+    /// `risk NAME roots T,.. ports N cut VIDS`
+    Risk,
     /// `cut VIDS parts B,.. ..`
     Cut,
     /// `sweep lans N bridges N cuts N`
@@ -21,6 +23,8 @@ pub enum SweepLine {
     CutByPair,
     /// `sweep pairs N cuts N`
     PairCounts,
+    /// `sweep risks N cuts N`
+    RiskCounts,
 }
 
 impl SweepLine {
@@ -31,11 +35,13 @@ impl SweepLine {
         match self {
             SweepLine::Lan => Mark::Lan,
             SweepLine::Bridge => Mark::Bridge,
+            SweepLine::Risk => Mark::Risk,
             SweepLine::Cut => Mark::Cut,
             SweepLine::Counts => Mark::Sweep,
             SweepLine::Pair => Mark::Pair,
             SweepLine::CutByPair => Mark::Cut,
             SweepLine::PairCounts => Mark::Sweep,
+            SweepLine::RiskCounts => Mark::Sweep,
         }
     }
 
@@ -48,6 +54,8 @@ impl SweepLine {
                 parts![Above Failure, Key Lan, Mark Roots, Commas Trees, Mark Ports, Key PortCount, Mark Cut, Key Vids],
             SweepLine::Bridge =>
                 parts![Above Failure, Key Bridge, Mark Roots, Commas Trees, Mark Ports, Key PortCount, Mark Cut, Key Vids],
+            SweepLine::Risk =>
+                parts![Above Failure, Key Risk, Mark Roots, Commas Trees, Mark Ports, Key PortCount, Mark Cut, Key Vids],
             SweepLine::Cut => parts![Above Failure, Key Vids, Mark Parts, Key Parts],
             SweepLine::Counts =>
                 parts![Mark Lans, Key LanCount, Mark Bridges, Key BridgeCount, Mark Cuts, Key CutCount],
@@ -55,6 +63,7 @@ impl SweepLine {
             SweepLine::CutByPair =>
                 parts![Above Failure, Above OtherFailure, Key Vids, Mark Parts, Key Parts],
             SweepLine::PairCounts => parts![Mark Pairs, Key PairCount, Mark Cuts, Key CutCount],
+            SweepLine::RiskCounts => parts![Mark Risks, Key RiskCount, Mark Cuts, Key CutCount],
         }
     }
 }

@@ -4,7 +4,7 @@ ghost use Rattle.mst_kinds.specs.Kinds.{first_of_verify_line, parts_behind_step,
 use crate::mark::Mark;
 use crate::part::{Part, parts};
 
-/// A line of whether a network does what a policy promises. PLACE is `now`, `lan L` or `bridge B`.
+/// A line of whether a network does what a policy promises. PLACE is `now`, `lan L`, `bridge B` or `risk NAME`.
 #[derive(Clone, Copy)]
 pub enum VerifyLine {
     /// `fails N PLACE root T R of M`

@@ -20,7 +20,7 @@ use Rattle.mst_rows.specs.declared.value.ActivePort.{ActivePort}
 use Rattle.mst_rows.specs.declared.value.PromiseScope.{PromiseScope}
 use Rattle.mst_rows.specs.declared.value.PromiseScope.TheVariants as scope
 use Rattle.mst_rows.specs.Printed.{comma, json_text, items_text, members_text}
-use Rattle.mst_rows.specs.Cells.{PromiseSaid, Bare, nothing, text, count, Cell, absent, own, word, number, port, vids, names, ports, trees, groups, active, object, failed_lan, failed_bridge, no_failure, lines, promises}
+use Rattle.mst_rows.specs.Cells.{PromiseSaid, Bare, nothing, text, count, Cell, absent, own, word, number, port, vids, names, ports, trees, groups, active, object, failed_lan, failed_bridge, failed_risk, no_failure, lines, promises}
 use Rattle.mst_rows.specs.Rows.{Row, row_of, first_cell, left_cells}
 use Rattle.mst_rows.specs.Records.{natural, items_of, list_value, place, port_value, active_value, run_value, names_value, bare_value, fields, scope_value, holds_value, promise_told, promise_value, cell_value, bridge_value, number_value, parts_members, row_members, record_value, with_line, answer_value, refusal_value, unanswered_value}
 use Rattle.mst_rows.specs.Answers.{named, joined, array_text, place_text, port_json, flag_text, active_json, run_json, names_json, bare_json, field_json, scope_json, holds_json, promise_words_json, promise_told_json, promise_json, value_text, bridge_text, number_text, parts_json, row_json, record_text, records_text, line_text, answer_text, record_line, front_json, refusal_line, unanswered_line}
@@ -120,6 +120,7 @@ scope_is scope.Now = json_text-null
 scope_is scope.Always = json_text-string (codes "always")
 scope_is scope.AfterLan = json_text-string (codes "after lan")
 scope_is scope.AfterBridge = json_text-string (codes "after bridge")
+scope_is scope.AfterRisk = json_text-string (codes "after risk")
 
 holds_is : (h : Option Bool) → json_text (holds_value h) ≡ holds_json h
 holds_is None = json_text-null
@@ -170,6 +171,7 @@ value_is (active ps) = list_is active_value active_json active_is ps
 value_is (object fs) = json_text-object (fields fs) ∙ ap (λ l. 123 ∷ l) (fields_are false fs)
 value_is (failed_lan n) = failed_is (codes "lan") n
 value_is (failed_bridge n) = failed_is (codes "bridge") n
+value_is (failed_risk n) = failed_is (codes "risk") n
 value_is no_failure = json_text-null
 value_is (lines first last) = run_is (first, last)
 value_is (promises ps) = list_is promise_value promise_json promise_is ps

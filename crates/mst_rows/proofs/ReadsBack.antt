@@ -19,7 +19,7 @@ use Rattle.mst_rows.specs.declared.value.ActivePort.{ActivePort}
 use Rattle.mst_rows.specs.declared.value.PromiseScope.{PromiseScope}
 use Rattle.mst_rows.specs.declared.value.PromiseScope.TheVariants as scope
 use Rattle.mst_rows.specs.Printed.{json_text}
-use Rattle.mst_rows.specs.Cells.{PromiseSaid, Bare, nothing, text, count, Cell, absent, own, word, number, port, vids, names, ports, trees, groups, active, object, failed_lan, failed_bridge, no_failure, lines, promises}
+use Rattle.mst_rows.specs.Cells.{PromiseSaid, Bare, nothing, text, count, Cell, absent, own, word, number, port, vids, names, ports, trees, groups, active, object, failed_lan, failed_bridge, failed_risk, no_failure, lines, promises}
 use Rattle.mst_rows.specs.Rows.{Row, first_cell, other_cells}
 use Rattle.mst_rows.specs.Records.{natural, items_of, list_value, place, port_value, active_value, run_value, names_value, fields, scope_value, holds_value, promise_told, promise_value, cell_value, bridge_value, number_value, parts_members, row_members, record_value, answer_value, refusal_value, unanswered_value}
 use Rattle.mst_rows.specs.Small.{Fits64, HasSmall, IsSmall, RowIsSmall}
@@ -113,6 +113,7 @@ flat_scope n scope.Now = flat_null n
 flat_scope n scope.Always = flat_string n (codes "always")
 flat_scope n scope.AfterLan = flat_string n (codes "after lan")
 flat_scope n scope.AfterBridge = flat_string n (codes "after bridge")
+flat_scope n scope.AfterRisk = flat_string n (codes "after risk")
 
 flat_holds : (n : ℕ) (h : Option Bool) → IsFlat n (holds_value h)
 flat_holds n None = flat_null n
@@ -140,6 +141,7 @@ flat_cell (active ps) h = flat_list 1 active_value _ flat_active ps h
 flat_cell (object fs) h = deeper 1 2 _ (omega arith) (flat_object 0 (fields fs) (flat_fields fs h))
 flat_cell (failed_lan n) h = deeper 1 2 _ (omega arith) (flat_failed (codes "lan") n)
 flat_cell (failed_bridge n) h = deeper 1 2 _ (omega arith) (flat_failed (codes "bridge") n)
+flat_cell (failed_risk n) h = deeper 1 2 _ (omega arith) (flat_failed (codes "risk") n)
 flat_cell no_failure h = flat_null 2
 flat_cell (lines first last) h = deeper 1 2 _ (omega arith) (flat_run (first, last) h)
 flat_cell (promises ps) h = flat_list 1 promise_value _ flat_promise ps h

@@ -1,5 +1,5 @@
 -- Two values of one type that have one JSON are one.
-use Rattle.std.proofs.Common.{◌≡◌, ◌∙◌, ℕ, Bool, true, false, List, [], ◌∷◌, Option, Some, None, map, refl, sym, ap, ap₂, subst}
+use Rattle.std.proofs.Common.{◌≡◌, ◌∙◌, ℕ, Bool, List, [], ◌∷◌, Option, Some, None, map, refl, sym, ap, ap₂, subst}
 use Rattle.std.proofs.lemmas.Fmt.{decimal_injective}
 use Rattle.std.specs.List.{AllByRecursion}
 use Rattle.std.specs.Prelude.{◌==◌, codes, decimal, if◌then◌else◌, length}
@@ -13,7 +13,7 @@ use Rattle.mst_kinds.proofs.Table.{keys_differ}
 use Rattle.mst_rows.specs.declared.value.ActivePort.{ActivePort}
 use Rattle.mst_rows.specs.declared.value.PromiseScope.{PromiseScope}
 use Rattle.mst_rows.specs.declared.value.PromiseScope.TheVariants as scope
-use Rattle.mst_rows.specs.Cells.{PromiseSaid, Bare, nothing, text, count, Cell, absent, own, word, number, port, vids, names, ports, trees, groups, active, object, failed_lan, failed_bridge, no_failure, lines, promises}
+use Rattle.mst_rows.specs.Cells.{PromiseSaid, Bare, nothing, text, count, Cell, absent, own, word, number, port, vids, names, ports, trees, groups, active, object, failed_lan, failed_bridge, failed_risk, no_failure, lines, promises}
 use Rattle.mst_rows.specs.Records.{natural, items_of, list_value, port_value, active_value, run_value, names_value, bare_value, fields, scope_value, holds_value, promise_value, cell_value, bridge_value, number_value}
 use Rattle.mst_rows.specs.Small.{Fits64, HasSmall, IsSmall}
 use Rattle.mst_rows.specs.Fits.{IsOf}
@@ -90,7 +90,7 @@ same_fields ((a, x) ∷ fs) ((b, y) ∷ gs) h k e =
 
 -- a scope, by the length of its word, and whether a promise holds, if that is known
 read_scope : Json → PromiseScope
-read_scope (string s) = if length s == 6 then scope.Always else if length s == 9 then scope.AfterLan else scope.AfterBridge
+read_scope (string s) = if length s == 6 then scope.Always else if length s == 9 then scope.AfterLan else if length s == 10 then scope.AfterRisk else scope.AfterBridge
 read_scope j = scope.Now
 
 scope_again : (s : PromiseScope) → read_scope (scope_value s) ≡ s
@@ -98,6 +98,7 @@ unfolding read_scope
 scope_again scope.Now = refl
 scope_again scope.Always = refl
 scope_again scope.AfterLan = refl
+scope_again scope.AfterRisk = refl
 scope_again scope.AfterBridge = refl
 
 read_holds : Json → Option Bool
@@ -129,6 +130,12 @@ same_promise p q h k e =
     }
 
 -- ---- values, by their types
+-- what fails is a LAN, a bridge, or what a risk names
+data Fails : Type 0 where
+  a_lan : Fails
+  a_bridge : Fails
+  a_risk : Fails
+
 -- what a value of a type holds, if it holds something
 abbrev Held : Sort → Type 0
 Held sort.words = List ℕ
@@ -142,15 +149,16 @@ Held sort.trees = List ℕ
 Held sort.groups = List (List (List ℕ))
 Held sort.active_ports = List ActivePort
 Held sort.objects = List (Key × Bare)
-Held sort.failures = Bool × List ℕ
+Held sort.failures = Fails × List ℕ
 Held sort.own_port = PortName
 Held sort.lines = ℕ × ℕ
 Held sort.promises = List PromiseSaid
 Held sort.flags = ⊥
 
-abbrev failed : Bool × List ℕ → Cell
-failed (true, n) = failed_bridge n
-failed (false, n) = failed_lan n
+abbrev failed : Fails × List ℕ → Cell
+failed (a_lan, n) = failed_lan n
+failed (a_bridge, n) = failed_bridge n
+failed (a_risk, n) = failed_risk n
 
 abbrev holding : (s : Sort) → Option (Held s) → Cell
 holding sort.words (Some w) = word w
@@ -190,23 +198,30 @@ held sort.groups (groups gs) is = (Some gs, refl)
 held sort.active_ports (active ps) is = (Some ps, refl)
 held sort.objects (object fs) is = (Some fs, refl)
 held sort.objects absent is = (None, refl)
-held sort.failures (failed_lan n) is = (Some (false, n), refl)
-held sort.failures (failed_bridge n) is = (Some (true, n), refl)
+held sort.failures (failed_lan n) is = (Some (a_lan, n), refl)
+held sort.failures (failed_bridge n) is = (Some (a_bridge, n), refl)
+held sort.failures (failed_risk n) is = (Some (a_risk, n), refl)
 held sort.failures no_failure is = (None, refl)
 held sort.own_port (port p) is = (Some p, refl)
 held sort.lines (lines first last) is = (Some (first, last), refl)
 held sort.promises (promises ps) is = (Some ps, refl)
 held s c is = absurd is
 
-same_failed : (f g : Bool × List ℕ) → cell_value (failed f) ≡ cell_value (failed g) → failed f ≡ failed g
-same_failed (true, n) (true, m) e = let name : n ≡ m = cc in ap failed_bridge name
-same_failed (true, n) (false, m) e = let key : codes "bridge" ≡ codes "lan" = cc in absurd (cc)
-same_failed (false, n) (true, m) e = let key : codes "lan" ≡ codes "bridge" = cc in absurd (cc)
-same_failed (false, n) (false, m) e = let name : n ≡ m = cc in ap failed_lan name
+same_failed : (f g : Fails × List ℕ) → cell_value (failed f) ≡ cell_value (failed g) → failed f ≡ failed g
+same_failed (a_lan, n) (a_lan, m) e = let name : n ≡ m = cc in ap failed_lan name
+same_failed (a_lan, n) (a_bridge, m) e = let key : codes "lan" ≡ codes "bridge" = cc in absurd (cc)
+same_failed (a_lan, n) (a_risk, m) e = let key : codes "lan" ≡ codes "risk" = cc in absurd (cc)
+same_failed (a_bridge, n) (a_lan, m) e = let key : codes "bridge" ≡ codes "lan" = cc in absurd (cc)
+same_failed (a_bridge, n) (a_bridge, m) e = let name : n ≡ m = cc in ap failed_bridge name
+same_failed (a_bridge, n) (a_risk, m) e = let key : codes "bridge" ≡ codes "risk" = cc in absurd (cc)
+same_failed (a_risk, n) (a_lan, m) e = let key : codes "risk" ≡ codes "lan" = cc in absurd (cc)
+same_failed (a_risk, n) (a_bridge, m) e = let key : codes "risk" ≡ codes "bridge" = cc in absurd (cc)
+same_failed (a_risk, n) (a_risk, m) e = let name : n ≡ m = cc in ap failed_risk name
 
-not_failed : (f : Bool × List ℕ) → cell_value (failed f) ≡ null → ⊥
-not_failed (true, n) e = cc
-not_failed (false, n) e = cc
+not_failed : (f : Fails × List ℕ) → cell_value (failed f) ≡ null → ⊥
+not_failed (a_lan, n) e = cc
+not_failed (a_bridge, n) e = cc
+not_failed (a_risk, n) e = cc
 
 same_holding : (s : Sort) (x y : Option (Held s)) → IsSmall (holding s x) → IsSmall (holding s y) → cell_value (holding s x) ≡ cell_value (holding s y) → holding s x ≡ holding s y
 same_holding sort.words (Some w) (Some v) h k e = ap word (same_text w v e)

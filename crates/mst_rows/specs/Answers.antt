@@ -12,7 +12,7 @@ use Rattle.mst_rows.specs.declared.value.ActivePort.{ActivePort}
 use Rattle.mst_rows.specs.declared.value.PromiseScope.{PromiseScope}
 use Rattle.mst_rows.specs.declared.value.PromiseScope.TheVariants as scope
 use Rattle.mst_rows.specs.Printed.{comma}
-use Rattle.mst_rows.specs.Cells.{PromiseSaid, Bare, nothing, text, count, Cell, absent, own, word, number, port, vids, names, ports, trees, groups, active, object, failed_lan, failed_bridge, no_failure, lines, promises}
+use Rattle.mst_rows.specs.Cells.{PromiseSaid, Bare, nothing, text, count, Cell, absent, own, word, number, port, vids, names, ports, trees, groups, active, object, failed_lan, failed_bridge, failed_risk, no_failure, lines, promises}
 use Rattle.mst_rows.specs.Rows.{Row, first_cell, left_cells}
 
 -- ---- values
@@ -60,6 +60,7 @@ scope_json scope.Now = codes "null"
 scope_json scope.Always = quoted (codes "always")
 scope_json scope.AfterLan = quoted (codes "after lan")
 scope_json scope.AfterBridge = quoted (codes "after bridge")
+scope_json scope.AfterRisk = quoted (codes "after risk")
 
 abbrev pub holds_json : Option Bool → List ℕ
 holds_json None = codes "null"
@@ -92,6 +93,7 @@ value_text (active ps) = array_text (map active_json ps)
 value_text (object fs) = 123 ∷ (joined false (map field_json fs) ++ 125 ∷ [])
 value_text (failed_lan n) = 123 ∷ (named (codes "lan") (quoted n) ++ 125 ∷ [])
 value_text (failed_bridge n) = 123 ∷ (named (codes "bridge") (quoted n) ++ 125 ∷ [])
+value_text (failed_risk n) = 123 ∷ (named (codes "risk") (quoted n) ++ 125 ∷ [])
 value_text no_failure = codes "null"
 value_text (lines first last) = run_json (first, last)
 value_text (promises ps) = array_text (map promise_json ps)

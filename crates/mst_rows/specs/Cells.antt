@@ -37,6 +37,7 @@ pub data Cell : Type 0 where
   object : List (Key × Bare) → Cell
   failed_lan : List ℕ → Cell
   failed_bridge : List ℕ → Cell
+  failed_risk : List ℕ → Cell
   no_failure : Cell
   lines : ℕ → ℕ → Cell
   promises : List PromiseSaid → Cell

@@ -4,7 +4,7 @@ use Rattle.std.specs.List.{AllByRecursion, AllZip}
 use Rattle.mst_kinds.specs.declared.key.Key.{Key}
 use Rattle.mst_kinds.specs.Sorts.{Sort, sort_of, sorts_of}
 use Rattle.mst_kinds.specs.Sorts as sort
-use Rattle.mst_rows.specs.Cells.{Bare, nothing, text, count, Cell, absent, own, word, number, port, vids, names, ports, trees, groups, active, object, failed_lan, failed_bridge, no_failure, lines, promises}
+use Rattle.mst_rows.specs.Cells.{Bare, nothing, text, count, Cell, absent, own, word, number, port, vids, names, ports, trees, groups, active, object, failed_lan, failed_bridge, failed_risk, no_failure, lines, promises}
 use Rattle.mst_rows.specs.Rows.{Row}
 use Rattle.mst_rows.specs.Small.{RowIsSmall}
 
@@ -34,6 +34,7 @@ IsOf sort.objects (object fs) = AllByRecursion IsField fs
 IsOf sort.objects absent = ⊤
 IsOf sort.failures (failed_lan n) = ⊤
 IsOf sort.failures (failed_bridge n) = ⊤
+IsOf sort.failures (failed_risk n) = ⊤
 IsOf sort.failures no_failure = ⊤
 IsOf sort.own_port (port p) = ⊤
 IsOf sort.lines (lines first last) = ⊤

@@ -8,7 +8,7 @@ use Rattle.mst_kinds.specs.Words.{mark_text}
 use Rattle.mst_kinds.specs.declared.part.Part.{Part}
 use Rattle.mst_kinds.specs.declared.part.Part.TheVariants as part
 use Rattle.mst_rows.specs.declared.value.ActivePort.{ActivePort}
-use Rattle.mst_rows.specs.Cells.{Bare, nothing, text, count, Cell, absent, own, word, number, port, vids, names, ports, trees, groups, active, object, failed_lan, failed_bridge, no_failure, lines, promises}
+use Rattle.mst_rows.specs.Cells.{Bare, nothing, text, count, Cell, absent, own, word, number, port, vids, names, ports, trees, groups, active, object, failed_lan, failed_bridge, failed_risk, no_failure, lines, promises}
 use Rattle.mst_rows.specs.Rows.{Row, first_cell, left_cells}
 
 -- an active port, in brackets where it is no member
@@ -36,6 +36,7 @@ cell_text (active ps) = flat_map after_space (listed (map active_text ps))
 cell_text (object fs) = flat_map (λ f. after_space (bare_text f.1)) fs
 cell_text (failed_lan n) = after_space (codes "lan") ++ after_space n
 cell_text (failed_bridge n) = after_space (codes "bridge") ++ after_space n
+cell_text (failed_risk n) = after_space (codes "risk") ++ after_space n
 cell_text no_failure = after_space (codes "now")
 cell_text (lines first last) = after_space (decimal first ++ 45 ∷ decimal last)
 cell_text (promises ps) = []

@@ -12,7 +12,7 @@ use Rattle.mst_kinds.specs.declared.part.Part.TheVariants as part
 use Rattle.mst_rows.specs.declared.value.ActivePort.{ActivePort}
 use Rattle.mst_rows.specs.declared.value.PromiseScope.{PromiseScope}
 use Rattle.mst_rows.specs.declared.value.PromiseScope.TheVariants as scope
-use Rattle.mst_rows.specs.Cells.{PromiseSaid, Bare, nothing, text, count, Cell, absent, own, word, number, port, vids, names, ports, trees, groups, active, object, failed_lan, failed_bridge, no_failure, lines, promises}
+use Rattle.mst_rows.specs.Cells.{PromiseSaid, Bare, nothing, text, count, Cell, absent, own, word, number, port, vids, names, ports, trees, groups, active, object, failed_lan, failed_bridge, failed_risk, no_failure, lines, promises}
 use Rattle.mst_rows.specs.Rows.{Row, first_cell, left_cells}
 
 -- ---- values
@@ -58,6 +58,7 @@ scope_value scope.Now = null
 scope_value scope.Always = string (codes "always")
 scope_value scope.AfterLan = string (codes "after lan")
 scope_value scope.AfterBridge = string (codes "after bridge")
+scope_value scope.AfterRisk = string (codes "after risk")
 
 abbrev pub holds_value : Option Bool → Json
 holds_value None = null
@@ -87,6 +88,7 @@ cell_value (active ps) = list_value (map active_value ps)
 cell_value (object fs) = json.object (fields fs)
 cell_value (failed_lan n) = json.object (member (codes "lan") (string n) no_members)
 cell_value (failed_bridge n) = json.object (member (codes "bridge") (string n) no_members)
+cell_value (failed_risk n) = json.object (member (codes "risk") (string n) no_members)
 cell_value no_failure = null
 cell_value (lines first last) = run_value (first, last)
 cell_value (promises ps) = list_value (map promise_value ps)

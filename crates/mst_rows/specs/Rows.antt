@@ -11,7 +11,7 @@ use Rattle.mst_rows.specs.declared.value.Vector.{Vector}
 use Rattle.mst_rows.specs.declared.value.PromiseTold.{PromiseTold}
 use Rattle.mst_rows.specs.declared.value.Value.{Value}
 use Rattle.mst_rows.specs.declared.value.Value.TheVariants as value
-use Rattle.mst_rows.specs.Cells.{PromiseSaid, Bare, Cell, absent, own, word, number, port, vids, names, ports, trees, groups, active, object, failed_lan, failed_bridge, no_failure, lines, promises}
+use Rattle.mst_rows.specs.Cells.{PromiseSaid, Bare, Cell, absent, own, word, number, port, vids, names, ports, trees, groups, active, object, failed_lan, failed_bridge, failed_risk, no_failure, lines, promises}
 use Rattle.mst_rows.specs.Objects.{cist_vector, msti_vector, mstp_region, rstp_region}
 
 -- a port, or a bridge's own vector
@@ -53,6 +53,7 @@ cell (value.Vector v) = object (vector v.now.root v.now)
 cell (value.Region r) = object (region r.now.configuration r.now.first)
 cell (value.FailedLan n) = failed_lan n.now
 cell (value.FailedBridge n) = failed_bridge n.now
+cell (value.FailedRisk n) = failed_risk n.now
 cell value.NoFailure = no_failure
 cell (value.Lines first last) = lines first last
 cell (value.Promises ps) = promises (map said ps.now)

@@ -2,7 +2,7 @@
 use Rattle.std.specs.Prelude.{ℕ, ◌<◌, ◌^◌, ⊤}
 use Rattle.std.specs.List.{AllByRecursion}
 use Rattle.mst_kinds.specs.declared.key.Key.{Key}
-use Rattle.mst_rows.specs.Cells.{Bare, nothing, text, count, Cell, absent, own, word, number, port, vids, names, ports, trees, groups, active, object, failed_lan, failed_bridge, no_failure, lines, promises}
+use Rattle.mst_rows.specs.Cells.{Bare, nothing, text, count, Cell, absent, own, word, number, port, vids, names, ports, trees, groups, active, object, failed_lan, failed_bridge, failed_risk, no_failure, lines, promises}
 use Rattle.mst_rows.specs.Rows.{Row}
 
 abbrev pub Fits64 : ℕ → Type 0
@@ -28,6 +28,7 @@ IsSmall (active ps) = AllByRecursion (λ p. Fits64 p.port.number) ps
 IsSmall (object fs) = AllByRecursion HasSmall fs
 IsSmall (failed_lan n) = ⊤
 IsSmall (failed_bridge n) = ⊤
+IsSmall (failed_risk n) = ⊤
 IsSmall no_failure = ⊤
 IsSmall (lines first last) = Fits64 first × Fits64 last
 IsSmall (promises ps) = AllByRecursion (λ p. Fits64 p.line × Fits64 p.networks) ps

@@ -243,6 +243,7 @@ fn push_value(value: &Value<'_>, out: &mut Vec<u8>) -> Result<(), AllocError>
         Value::Region(region) => push_region(region, out),
         Value::FailedLan(lan) => push_failed(b"lan", lan, out),
         Value::FailedBridge(bridge) => push_failed(b"bridge", bridge, out),
+        Value::FailedRisk(name) => push_failed(b"risk", name, out),
         Value::NoFailure => push_bytes(b"null", out),
         Value::Lines(first, last) => push_run(first, last, out),
         Value::Promises(promises) => push_promises(promises, out),

@@ -49,6 +49,7 @@ fn push_scope(scope: PromiseScope, out: &mut Vec<u8>) -> Result<(), AllocError>
         PromiseScope::Always => push_string(Key::Scope.text(), b"always", out),
         PromiseScope::AfterLan => push_string(Key::Scope.text(), b"after lan", out),
         PromiseScope::AfterBridge => push_string(Key::Scope.text(), b"after bridge", out),
+        PromiseScope::AfterRisk => push_string(Key::Scope.text(), b"after risk", out),
     }
 }
 

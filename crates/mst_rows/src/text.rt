@@ -152,14 +152,9 @@ fn push_value(value: &Value<'_>, out: &mut Vec<u8>) -> Result<(), AllocError>
         Value::Giver(port) => push_giver(port, out),
         Value::Vector(vector) => push_vector(vector, out),
         Value::Region(region) => push_region(region, out),
-        Value::FailedLan(lan) => {
-            push_word(b"lan", out)?;
-            push_word(lan.as_bytes(), out)
-        }
-        Value::FailedBridge(bridge) => {
-            push_word(b"bridge", out)?;
-            push_word(bridge.as_bytes(), out)
-        }
+        Value::FailedLan(lan) => push_failed(b"lan", lan, out),
+        Value::FailedBridge(bridge) => push_failed(b"bridge", bridge, out),
+        Value::FailedRisk(name) => push_failed(b"risk", name, out),
         Value::NoFailure => push_word(b"now", out),
         Value::Lines(first, last) => push_lines(first, last, out),
         Value::Promises(_) => Ok(()),
@@ -171,6 +166,14 @@ fn push_number(number: u64, out: &mut Vec<u8>) -> Result<(), AllocError>
 {
     push_bytes(b" ", out)?;
     push_decimal(number, out)
+}
+
+/// Appends what fails: its kind and its name, each after a space.
+fn push_failed(kind: &[u8], name: &Name, out: &mut Vec<u8>) -> Result<(), AllocError>
+    ensures { OnOk result (out.new.items ≡ out.old.items ++ after_space kind.now ++ after_space name.now) }
+{
+    push_word(kind, out)?;
+    push_word(name.as_bytes(), out)
 }
 
 /// Appends `N-M` after a space.

@@ -41,6 +41,8 @@ pub enum Value<'a> {
     FailedLan(&'a Name),
     /// A bridge that fails: `bridge B` in a line, and an object in a record.
     FailedBridge(&'a Name),
+    /// The failures of a risk, at once: `risk NAME` in a line, and an object in a record.
+    FailedRisk(&'a Name),
     /// Nothing fails: `now` in a line, and `null` in a record.
     NoFailure,
     /// The numbers of a first line and of a last one: `N-M` in a line, and an array in a record.
@@ -60,6 +62,8 @@ pub enum PromiseScope {
     AfterLan,
     /// After the failure of each of some bridges.
     AfterBridge,
+    /// After each of some risks.
+    AfterRisk,
 }
 
 /// A promise of a policy, and whether it holds.
