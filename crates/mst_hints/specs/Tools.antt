@@ -26,7 +26,7 @@ own_sayings =
     (codes "advise", codes "advise is a word of the program: mstplan advise FILE root TREE B") ∷
     (codes "path", codes "path is a word of the program: mstplan path FILE VID A B") ∷
     (codes "mstplan", codes "mstplan 2 is the first line of a script of version 2, and stands in no other") ∷
-    (codes "root region role reach apart together leaves leaf depth hops via carries avoids fits after always finally", codes "that is a line of a policy: mstplan verify FILE POLICY") ∷
+    (codes "root region role reach apart together leaves leaf depth hops via carries avoids fits after always finally risk", codes "that is a line of a policy: mstplan verify FILE POLICY") ∷
     []
 
 -- of words of other tools, wherever one of them stands

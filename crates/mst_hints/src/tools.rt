@@ -59,7 +59,7 @@ const OWN_SAYINGS: [(&[u8], &[u8]); 15] = [
         b"mstplan 2 is the first line of a script of version 2, and stands in no other",
     ),
     (
-        b"root region role reach apart together leaves leaf depth hops via carries avoids fits after always finally",
+        b"root region role reach apart together leaves leaf depth hops via carries avoids fits after always finally risk",
         b"that is a line of a policy: mstplan verify FILE POLICY",
     ),
 ];

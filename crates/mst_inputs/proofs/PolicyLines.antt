@@ -11,8 +11,8 @@ use Rattle.mst_lang.specs.declared.line.Fault.{Fault}
 use Rattle.mst_lang.specs.declared.line.Fault.TheVariants.{E01}
 use Rattle.mst_policy.specs.Lines.{line_of, line_read, policy_from, spaced}
 use Rattle.mst_policy.specs.Reading.{reading, worded}
-use Rattle.mst_policy.specs.declared.expectation.Promise.{Promise}
 use Rattle.mst_policy.specs.declared.policy.PolicyLine.{PolicyLine}
+use Rattle.mst_policy.specs.declared.risk.Said.{Said}
 use Rattle.mst_inputs.specs.Lines.{AreLines, AreTaken, policy_with}
 
 -- ---- a line
@@ -45,9 +45,9 @@ policy_held (b ∷ bs) part held n is =
     ]
 
 -- ---- how many there are
-read_short : (n : ℕ) (text : List ℕ) (read : Result (Option Promise) Fault) → length (line_read n text read) ≤ 1
+read_short : (n : ℕ) (text : List ℕ) (read : Result (Option Said) Fault) → length (line_read n text read) ≤ 1
 read_short n text (Ok None) = omega arith
-read_short n text (Ok (Some promise)) = omega arith
+read_short n text (Ok (Some said)) = omega arith
 read_short n text (Err fault) = omega arith
 
 policy_short : (n : ℕ) (lines : List (List ℕ)) → length (policy_from n lines) ≤ length lines

@@ -1,14 +1,15 @@
 -- Which bridges are meant to leave which VIDs, by the lines of a policy.
-use Rattle.std.specs.Prelude.{ℕ, ◌&&◌, Bool, List, [], ◌∷◌, map, Result, Ok, Err}
+use Rattle.std.specs.Prelude.{ℕ, ◌&&◌, Bool, List, [], ◌∷◌, map, Result, Ok}
 use Rattle.std.specs.List.{flat_map, list_any}
 use Rattle.mst_ids.specs.Vids.{has}
 use Rattle.mst_lang.specs.declared.line.Fault.{Fault}
 use Rattle.mst_policy.specs.Items as items
 use Rattle.mst_policy.specs.declared.expectation.Expectation.{Expectation}
 use Rattle.mst_policy.specs.declared.expectation.Expectation.TheVariants.{Leaves}
-use Rattle.mst_policy.specs.declared.expectation.Promise.{Promise}
 use Rattle.mst_policy.specs.declared.item.NameItem.{NameItem}
 use Rattle.mst_policy.specs.declared.policy.PolicyLine.{PolicyLine}
+use Rattle.mst_policy.specs.declared.risk.Said.{Said}
+use Rattle.mst_policy.specs.declared.risk.Said.TheVariants as says
 
 -- sets of VIDs, and of each the bridges that are to leave these
 abbrev pub Leaving : Type 0
@@ -19,10 +20,10 @@ abbrev pub leaving_by : Expectation → Leaving
 leaving_by (Leaves vids names) = (vids, names) ∷ []
 leaving_by _ = []
 
--- what a line says, if it is read
-abbrev pub leaving_read : Result Promise Fault → Leaving
-leaving_read (Ok promise) = leaving_by promise.expectation
-leaving_read (Err fault) = []
+-- what a line says, if it is read and promises
+abbrev pub leaving_read : Result Said Fault → Leaving
+leaving_read (Ok (says.Promise promise)) = leaving_by promise.expectation
+leaving_read _ = []
 
 -- and lines
 abbrev pub leaving_of : List PolicyLine → Leaving

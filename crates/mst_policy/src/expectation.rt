@@ -10,7 +10,9 @@ pub enum Scope {
     AfterLan(NameList),
     /// That of each failure of a bridge that the list has.
     AfterBridge(NameList),
-    /// The network itself, and that of each failure.
+    /// That of each risk that the list has.
+    AfterRisk(NameList),
+    /// The network itself, and that of each failure and of each risk.
     Always,
 }
 

@@ -6,6 +6,7 @@ ghost use Rattle.mst_policy.specs.Leaving.{are_left, leaves, leaving_of, leaving
 use crate::expectation::Expectation;
 use crate::item::NameList;
 use crate::policy::PolicyLine;
+use crate::risk::Said;
 use mst_ids::{Name, Vid, VidSet};
 use std::alloc::{AllocError, Global};
 use std::marker::Model;
@@ -63,19 +64,19 @@ impl<'a> Model for Leaving<'a> {
     ghost view = { λ l. l.lines.items };
 }
 
-/// Adds what a line of a policy says, if it is read and says something of it.
+/// Adds what a line of a policy says, if it is read, promises and says something of it.
 fn add_line<'a>(line: &'a PolicyLine, lines: &mut Vec<LeavingLine<'a>>) -> Result<(), AllocError>
     ensures { OnOk result (lines.new.items ≡ lines.old.items ++ leaving_read line.now.read) }
 {
     match &line.read {
-        Ok(promise) => match &promise.expectation {
+        Ok(Said::Promise(promise)) => match &promise.expectation {
             Expectation::Leaves { vids, names } => {
                 lines.push(LeavingLine { vids, names })?;
                 Ok(())
             }
             _ => Ok(()),
         },
-        Err(_) => Ok(()),
+        _ => Ok(()),
     }
 }
 

@@ -1,8 +1,10 @@
 ghost use Rattle.std.specs.Prelude.{◌≡◌, ◌∷◌, ◌++◌, [], OnOk, OnErr};
-ghost use Rattle.mst_policy.specs.Lines.{line_of};
+ghost use Rattle.std.specs.Option.{option_map};
+ghost use Rattle.mst_policy.specs.Lines.{line_of, promise_in, risk_in};
 
 use crate::expectation::Promise;
-use crate::read::parse_promise;
+use crate::read::parse_policy_line;
+use crate::risk::{RiskLine, Said};
 use crate::wording::Wording;
 use mst_lang::Fault;
 use std::alloc::{AllocError, Global};
@@ -15,8 +17,30 @@ pub struct PolicyLine {
     pub number: u64,
     /// Its words where it is read, else none.
     pub words: Wording,
-    /// What it promises, or the least fault of it.
-    pub read: Result<Promise, Fault>,
+    /// What it says, or the least fault of it.
+    pub read: Result<Said, Fault>,
+}
+
+impl PolicyLine {
+    /// Its promise, if it can be read and is one.
+    pub fn promise(&self) -> Option<&Promise>
+        ensures { option_map (λ promise. promise.now) result ≡ promise_in self.now.read }
+    {
+        match &self.read {
+            Ok(Said::Promise(promise)) => Some(promise),
+            _ => None,
+        }
+    }
+
+    /// What it says of a risk, if it can be read and is of one.
+    pub fn risk(&self) -> Option<&RiskLine>
+        ensures { option_map (λ risk. risk.now) result ≡ risk_in self.now.read }
+    {
+        match &self.read {
+            Ok(Said::Risk(risk)) => Some(risk),
+            _ => None,
+        }
+    }
 }
 
 /// The lines of a policy that are neither blank nor comments, in their order.
@@ -50,14 +74,14 @@ impl Policy {
         ensures ok { OnOk result (self.new ≡ self.old ++ line_of number line.now) }
         ensures err { OnErr result (self.new ≡ self.old) }
     {
-        match parse_promise(alloc, line)? {
+        match parse_policy_line(alloc, line)? {
             Ok(None) => Ok(()),
-            Ok(Some(promise)) => {
+            Ok(Some(said)) => {
                 let words = Wording::of(alloc, line)?;
                 self.push(PolicyLine {
                     number,
                     words,
-                    read: Ok(promise),
+                    read: Ok(said),
                 })
             }
             Err(fault) => self.push(PolicyLine {

@@ -1,22 +1,24 @@
+#![tactic(auto, using(crate::proofs::FaultLemmas::faults))]
+
 ghost use Rattle.std.specs.Prelude.{◌≡◌, ◌∷◌, IfOk};
-ghost use Rattle.std.specs.Option.{option_map};
+ghost use Rattle.mst_lang.specs.Arguments as scripts;
 ghost use Rattle.mst_lang.specs.Words.{words};
-ghost use Rattle.mst_policy.specs.Arguments.{names_value};
-ghost use Rattle.mst_policy.specs.Reading.{reading, promised, after as after_words, behind_scope as expected_behind, finally as finally_words, in_scope as promised_in, in_the_end, is_leaving as are_leaving, of_the_end as end_words, scoped as scoped_words};
-ghost use Rattle.mst_policy.specs.declared.expectation.Scope.TheVariants.{AfterLan, AfterBridge};
+ghost use Rattle.mst_policy.specs.Arguments.{with};
+ghost use Rattle.mst_policy.specs.Reading.{reading, promised, after as after_words, behind_scope as expected_behind, finally as finally_words, in_scope as promised_in, in_the_end, is_leaving as are_leaving, of_the_end as end_words, risk_of as risk_words, said as said_by, scoped as scoped_words};
 
 use crate::arguments::names;
 use crate::expectation::{Expectation, Promise, Scope};
 use crate::expected::{expectation, is_word};
-use mst_lang::{Fault, LONGEST, are_plain, next_word};
+use crate::risk::{RiskItems, RiskLine, Said};
+use mst_lang::{Fault, LONGEST, are_plain, name, next_word, three_words};
 use std::alloc::{AllocError, Global};
 
-/// What a line of a policy promises, nothing where it is blank or a comment, or the least fault of it. The line comes without
+/// What a line of a policy says, nothing where it is blank or a comment, or the least fault of it. The line comes without
 /// its end. `AllocError`: memory was wanted for a list and refused.
-pub fn parse_promise(
+pub fn parse_policy_line(
     alloc: Global,
     line: &[u8],
-) -> Result<Result<Option<Promise>, Fault>, AllocError>
+) -> Result<Result<Option<Said>, Fault>, AllocError>
     ensures { IfOk result (λ read. read ≡ reading line.now) }
 {
     if line.len() > LONGEST {
@@ -34,8 +36,8 @@ pub fn parse_promise(
         Some(([b'#', ..], _)) => Ok(Ok(None)),
         Some((word, others)) => {
             if plain {
-                match promise(alloc, line, word, others)? {
-                    Ok(promise) => Ok(Ok(Some(promise))),
+                match said(alloc, line, word, others)? {
+                    Ok(said) => Ok(Ok(Some(said))),
                     Err(fault) => Ok(Err(fault)),
                 }
             } else {
@@ -43,6 +45,58 @@ pub fn parse_promise(
             }
         }
     }
+}
+
+/// What the words of a line say: `risk` is the first of them, with nothing in front, or they promise.
+fn said(
+    alloc: Global,
+    line: &[u8],
+    word: &[u8],
+    others: &[u8],
+) -> Result<Result<Said, Fault>, AllocError>
+    requires { words line.now ≡ word.now ∷ words others.now }
+    ensures { IfOk result (λ read. read ≡ said_by word.now (words others.now)) }
+{
+    if is_word(word, b"risk") {
+        return match risk(alloc, others)? {
+            Ok(line) => Ok(Ok(Said::Risk(line))),
+            Err(fault) => Ok(Err(fault)),
+        };
+    }
+    match promise(alloc, line, word, others)? {
+        Ok(promise) => Ok(Ok(Said::Promise(promise))),
+        Err(fault) => Ok(Err(fault)),
+    }
+}
+
+/// What the words behind `risk` say: its name, of what it is, and which of these fail.
+fn risk(alloc: Global, arguments: &[u8]) -> Result<Result<RiskLine, Fault>, AllocError>
+    ensures { IfOk result (λ read. read ≡ risk_words (words arguments.now)) }
+{
+    let Some((word, kind, list)) = three_words(arguments) else {
+        return Ok(Err(Fault::E01));
+    };
+    if is_word(kind, b"lan") {
+        match names(alloc, list)? {
+            Some(names) => Ok(risk_line(word, RiskItems::Lans(names))),
+            None => Ok(Err(Fault::E02)),
+        }
+    } else if is_word(kind, b"bridge") {
+        match names(alloc, list)? {
+            Some(names) => Ok(risk_line(word, RiskItems::Bridges(names))),
+            None => Ok(Err(Fault::E02)),
+        }
+    } else {
+        Ok(Err(Fault::E01))
+    }
+}
+
+/// A line of the risk that a word names: E02 where the word is no name.
+fn risk_line(word: &[u8], items: RiskItems) -> Result<RiskLine, Fault>
+    ensures { result ≡ with (Ok (λ name. record { name = name; items = items })) (scripts.name word.now) }
+{
+    let name = name(word)?;
+    Ok(RiskLine { name, items })
 }
 
 /// What the words of a line promise: `finally` is the first of them, or none.
@@ -155,33 +209,19 @@ fn after(alloc: Global, arguments: &[u8]) -> Result<Result<Promise, Fault>, Allo
         return Ok(Err(Fault::E01));
     };
     if is_word(kind, b"lan") {
-        let scope = after_lan(alloc, list)?;
+        let names = names(alloc, list)?;
         let expectation = behind_scope(alloc, others)?;
-        Ok(in_scope(scope, expectation))
+        Ok(in_scope(names.map(Scope::AfterLan), expectation))
     } else if is_word(kind, b"bridge") {
-        let scope = after_bridge(alloc, list)?;
+        let names = names(alloc, list)?;
         let expectation = behind_scope(alloc, others)?;
-        Ok(in_scope(scope, expectation))
+        Ok(in_scope(names.map(Scope::AfterBridge), expectation))
+    } else if is_word(kind, b"risk") {
+        let names = names(alloc, list)?;
+        let expectation = behind_scope(alloc, others)?;
+        Ok(in_scope(names.map(Scope::AfterRisk), expectation))
     } else {
         Ok(Err(Fault::E01))
-    }
-}
-
-fn after_lan(alloc: Global, list: &[u8]) -> Result<Option<Scope>, AllocError>
-    ensures { IfOk result (λ scope. scope ≡ option_map AfterLan (names_value list.now)) }
-{
-    match names(alloc, list)? {
-        Some(names) => Ok(Some(Scope::AfterLan(names))),
-        None => Ok(None),
-    }
-}
-
-fn after_bridge(alloc: Global, list: &[u8]) -> Result<Option<Scope>, AllocError>
-    ensures { IfOk result (λ scope. scope ≡ option_map AfterBridge (names_value list.now)) }
-{
-    match names(alloc, list)? {
-        Some(names) => Ok(Some(Scope::AfterBridge(names))),
-        None => Ok(None),
     }
 }
 

@@ -10,20 +10,23 @@ use Rattle.mst_lang.specs.Words.{words, is_plain}
 use Rattle.mst_lang.specs.declared.line.Fault.{Fault}
 use Rattle.mst_lang.specs.declared.line.Fault.TheVariants.{E01, E02, E03}
 use Rattle.mst_policy.specs.Arguments.{with, names, names_value, ports, roles, steps, none_of, one, two, three, four}
-use Rattle.mst_policy.specs.Forms.{all_kinds, expected, is_right, kind_of, may_stand, root, root_alone, root_next, rule_of, takes}
-use Rattle.mst_policy.specs.Reading.{after, behind_scope, finally, in_scope, in_the_end, is_leaving, of_the_end, promise, promised, reading, scoped, worded}
+use Rattle.mst_policy.specs.Forms.{all_kinds, expected, is_right, kind_of, may_stand, range_of, root, root_alone, root_next, rule_of, takes}
+use Rattle.mst_policy.specs.Reading.{after, after_what, behind_scope, finally, in_scope, in_the_end, is_leaving, of_the_end, promise, promised, reading, risk_items, risk_line, risk_of, said, scoped, worded}
 use Rattle.mst_policy.specs.declared.expectation.Expectation.{Expectation}
 use Rattle.mst_policy.specs.declared.expectation.Expectation.TheVariants as expectations
 use Rattle.mst_policy.specs.declared.expectation.Promise.{Promise}
 use Rattle.mst_policy.specs.declared.expectation.Scope.{Scope}
-use Rattle.mst_policy.specs.declared.expectation.Scope.TheVariants.{Now, AfterLan, AfterBridge, Always}
+use Rattle.mst_policy.specs.declared.expectation.Scope.TheVariants.{Now, AfterLan, AfterBridge, AfterRisk, Always}
 use Rattle.mst_policy.specs.declared.form.Argument.{Argument}
 use Rattle.mst_policy.specs.declared.form.Argument.TheVariants.{Tree, FirstBridge, Bridge, Next, NextBridge, Lan, Vids, Names, Ports, Roles, Steps}
 use Rattle.mst_policy.specs.declared.form.Kind.{Kind}
 use Rattle.mst_policy.specs.declared.form.Kind.TheVariants as kinds
 use Rattle.mst_policy.specs.declared.item.NameItem.{NameItem}
+use Rattle.mst_policy.specs.declared.risk.RiskItems.{RiskItems}
+use Rattle.mst_policy.specs.declared.risk.RiskItems.TheVariants.{Lans, Bridges}
+use Rattle.mst_policy.specs.declared.risk.Said.TheVariants as says
 use Rattle.mst_hints.specs.Hints.{too_long}
-use Rattle.mst_policy_hints.specs.Hints.{after_hint, after_text, alone_text, arguments_of, behind_hint, behind_scope_hint, byte_text, expected_hint, failing_text, finally_hint, first_wrong, form_hint, form_of, has_form, hint_of, is_finally, promise_hint, scoped_hint, worded_hint, wrong_text}
+use Rattle.mst_policy_hints.specs.Hints.{after_hint, after_text, alone_text, arguments_of, behind_hint, behind_scope_hint, byte_text, expected_hint, failing_text, finally_hint, first_wrong, form_hint, form_of, has_form, hint_of, is_event, is_failing, is_finally, is_risk, promise_hint, risk_form_text, risk_hint, risk_name_text, risk_parts_hint, risk_wrong, risk_wrong_text, said_hint, scoped_hint, worded_hint, wrong_text}
 
 -- ---- tests
 and_no : (a : Bool) → (a && false) ≡ true → ⊥
@@ -231,19 +234,57 @@ behind_hinted : (make : List NameItem → Scope) (failing list : List ℕ) (othe
 behind_hinted make failing list others =
     behind_by make (names_value list) (behind_scope others) (has_form others) (behind_scope_hint others) (failing_text failing) (behind_scope_hinted others) (formless_hinted others)
 
--- by the kind of what fails
-either_hinted : (a b : Bool) (h k : Option (List ℕ)) (r s t : Result Promise Fault) → is_some h ≡ is_err r → is_some h ≡ is_err s → is_some k ≡ is_err t → is_some (cond (a || b) h k) ≡ is_err (cond a r (cond b s t))
-either_hinted true b h k r s t first second other = first
-either_hinted false true h k r s t first second other = second
-either_hinted false false h k r s t first second other = other
+-- by the word of what fails, of which something is made
+kind_hinted : {A B : Type 0} (o : Option A) (h k : Option (List ℕ)) (f : A → Result B Fault) (r : Result B Fault) → ((a : A) → is_some h ≡ is_err (f a)) → is_some k ≡ is_err r → is_some (cond (is_some o) h k) ≡ is_err (option_map_or f o r)
+kind_hinted (Some a) h k f r first other = first a
+kind_hinted None h k f r first other = other
+
+two_kinds : {A : Type 0} (a b : Bool) (x y : A) → (a || b) ≡ is_some (cond a (Some x) (cond b (Some y) None))
+two_kinds true b x y = refl
+two_kinds false true x y = refl
+two_kinds false false x y = refl
+
+three_kinds : {A : Type 0} (a b c : Bool) (x y z : A) → ((a || b) || c) ≡ is_some (cond a (Some x) (cond b (Some y) (cond c (Some z) None)))
+three_kinds true b c x y z = refl
+three_kinds false true c x y z = refl
+three_kinds false false true x y z = refl
+three_kinds false false false x y z = refl
+
+events : (word : List ℕ) → is_event word ≡ is_some (after_what word)
+events word = three_kinds (is_text word (codes "lan")) (is_text word (codes "bridge")) (is_text word (codes "risk")) AfterLan AfterBridge AfterRisk
 
 after_hinted : (words : List (List ℕ)) → is_some (after_hint words) ≡ is_err (after words)
 after_hinted [] = refl
 after_hinted (failing ∷ []) = refl
 after_hinted (failing ∷ list ∷ others) =
-    either_hinted (is_text failing (codes "lan")) (is_text failing (codes "bridge")) (behind_hint failing list others) (Some after_text)
-    (in_scope (option_map AfterLan (names_value list)) (behind_scope others)) (in_scope (option_map AfterBridge (names_value list)) (behind_scope others)) (Err E01)
-    (behind_hinted AfterLan failing list others) (behind_hinted AfterBridge failing list others) refl
+    ap (λ b. is_some (cond b (behind_hint failing list others) (Some after_text))) (events failing)
+    ∙ kind_hinted (after_what failing) (behind_hint failing list others) (Some after_text) (λ make. in_scope (option_map make (names_value list)) (behind_scope others)) (Err E01)
+    (λ make. behind_hinted make failing list others) refl
+
+-- ---- a risk
+failures : (word : List ℕ) → is_failing word ≡ is_some (risk_items word)
+failures word = two_kinds (is_text word (codes "lan")) (is_text word (codes "bridge")) Lans Bridges
+
+parts_wrong : {A B C : Type 0} (make : A → B → C) (r : Result A Fault) (s : Result B Fault) (first second : List ℕ)
+    → is_some (cond (is_err r) (Some first) (cond (is_ok s) None (Some second))) ≡ is_err (with (with (Ok make) r) s)
+parts_wrong make (Ok x) (Ok y) first second = refl
+parts_wrong make (Ok x) (Err fault) first second = refl
+parts_wrong make (Err fault) (Ok y) first second = refl
+parts_wrong make (Err fault) (Err other) first second = refl
+
+parts_hinted : (word kind list : List ℕ) (items : List NameItem → RiskItems) → is_some (risk_parts_hint word kind list) ≡ is_err (with (with (Ok (risk_line items)) (name word)) (names list))
+unfolding risk_wrong
+parts_hinted word kind list items = some_map (risk_wrong_text kind) (risk_wrong word list) ∙ parts_wrong (risk_line items) (name word) (names list) risk_name_text (range_of Names)
+
+risk_hinted : (words : List (List ℕ)) → is_some (risk_hint words) ≡ is_err (risk_of words)
+risk_hinted [] = refl
+risk_hinted (word ∷ []) = refl
+risk_hinted (word ∷ kind ∷ []) = refl
+risk_hinted (word ∷ kind ∷ list ∷ []) =
+    ap (λ b. is_some (cond b (risk_parts_hint word kind list) (Some (risk_form_text (word ∷ kind ∷ list ∷ []))))) (failures kind)
+    ∙ kind_hinted (risk_items kind) (risk_parts_hint word kind list) (Some (risk_form_text (word ∷ kind ∷ list ∷ []))) (λ items. with (with (Ok (risk_line items)) (name word)) (names list)) (Err E01)
+    (parts_hinted word kind list) refl
+risk_hinted (word ∷ kind ∷ list ∷ other ∷ others) = refl
 
 -- ---- a line
 scoped_hinted : (word : List ℕ) (others : List (List ℕ)) → is_some (scoped_hint word others) ≡ is_err (scoped word others)
@@ -272,12 +313,17 @@ promise_hinted word others =
     if_hinted (is_finally word) (finally_hint others) (scoped_hint word others) (finally others) _ (finally_hinted others)
     (one_hinted (is_leaving (word ∷ others)) (scoped_hint word others) (of_the_end word others) (scoped word others) (end_hinted word others) (scoped_hinted word others))
 
+said_hinted : (word : List ℕ) (others : List (List ℕ)) → is_some (said_hint word others) ≡ is_err (said word others)
+said_hinted word others =
+    if_hinted (is_risk word) (risk_hint others) (promise_hint word others) (with (Ok says.Risk) (risk_of others)) (with (Ok says.Promise) (promised word others))
+    (risk_hinted others ∙ sym (with_err says.Risk (risk_of others))) (promise_hinted word others ∙ sym (with_err says.Promise (promised word others)))
+
 words_hinted : (plain : Bool) (bytes : List ℕ) (words : List (List ℕ)) → is_some (worded_hint plain bytes words) ≡ is_err (worded plain words)
 words_hinted plain bytes [] = if_hinted plain None (Some bytes) (Ok None) (Err E01) refl refl
 words_hinted plain bytes (word ∷ others) =
     if_hinted (is_comment word) None _ (Ok None) _ refl
-    (if_hinted plain (promise_hint word others) (Some bytes) (with (Ok Some) (promised word others)) (Err E01)
-    (promise_hinted word others ∙ sym (with_err Some (promised word others))) refl)
+    (if_hinted plain (said_hint word others) (Some bytes) (with (Ok Some) (said word others)) (Err E01)
+    (said_hinted word others ∙ sym (with_err Some (said word others))) refl)
 
 pub line_hinted : (line : List ℕ) → is_some (hint_of line) ≡ is_err (reading line)
 line_hinted line =

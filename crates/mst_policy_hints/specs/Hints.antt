@@ -1,12 +1,13 @@
 -- What would be right where a line of a policy isn't read.
 use Rattle.std.specs.Prelude.{ℕ, ◌&&◌, ◌||◌, Bool, true, false, not, List, [], ◌∷◌, ◌++◌, length, nat_lt, Option, Some, None, is_some, if◌then◌else◌, codes}
-use Rattle.std.specs.Option.{option_map}
+use Rattle.std.specs.Option.{option_map, option_map_or}
 use Rattle.std.specs.List.{flat_map, list_all, list_any}
+use Rattle.std.specs.Result.{is_err}
 use Rattle.mst_ids.specs.Words.{after_space}
-use Rattle.mst_lang.specs.Arguments.{is_text}
+use Rattle.mst_lang.specs.Arguments.{is_text, name}
 use Rattle.mst_lang.specs.Forms.{command_of}
 use Rattle.mst_lang.specs.Reading.{is_comment}
-use Rattle.mst_lang.specs.Words.{words, is_plain}
+use Rattle.mst_lang.specs.Words.{words, is_plain, three_of}
 use Rattle.mst_hints.specs.Hints.{too_long, bad_byte, has_order_mark, is_utf16, besides, question, comment_text, count_text}
 use Rattle.mst_policy.specs.Forms.{Row, rule_of, kind_of, is_right, range_of, word_of}
 use Rattle.mst_policy.specs.Reading.{is_leaving}
@@ -31,6 +32,14 @@ byte_text line = if has_order_mark line then order_mark_text else (if is_utf16 l
 abbrev pub is_failing : List ℕ → Bool
 is_failing word = is_text word (codes "lan") || is_text word (codes "bridge")
 
+-- the first word of a line that says what fails together
+abbrev pub is_risk : List ℕ → Bool
+is_risk word = is_text word (codes "risk")
+
+-- what stands behind `after`
+abbrev pub is_event : List ℕ → Bool
+is_event word = is_failing word || is_risk word
+
 unfoldable pub is_script_word : List ℕ → Bool
 is_script_word word = is_some (command_of word)
 
@@ -51,7 +60,7 @@ is_finally word = is_text word (codes "finally")
 unfoldable pub comes_first_text : List ℕ
 comes_first_text = codes "finally comes first"
 
--- what is said of it: of `finally` where it stands, of a scope that it is one too many, of a kind of failures that it stands behind
+-- what is said of it: of `finally` and of `risk` where they stand, of a scope that it is one too many, of a kind of failures that it stands behind
 -- `after`, of a command of scripts that it is one, and else which word is nearest to it
 abbrev pub said_nearest : List ℕ → Option (List ℕ)
 said_nearest word = if is_script_word word then Some command_text else option_map question (nearest word)
@@ -62,8 +71,14 @@ said_failing word = if is_failing word then Some (question (codes "after " ++ wo
 abbrev pub said_scope : List ℕ → Option (List ℕ)
 said_scope word = if is_scope word then Some one_scope_text else said_failing word
 
+unfoldable pub nothing_before_text : List ℕ
+nothing_before_text = codes "a line of a risk begins with risk"
+
+abbrev pub said_risk : List ℕ → Option (List ℕ)
+said_risk word = if is_risk word then Some nothing_before_text else said_scope word
+
 abbrev pub said_of : List ℕ → Option (List ℕ)
-said_of word = if is_finally word then Some comes_first_text else said_scope word
+said_of word = if is_finally word then Some comes_first_text else said_risk word
 
 abbrev pub unknown_text : List ℕ → List ℕ
 unknown_text word = codes "no expectation " ++ word ++ besides (said_of word)
@@ -143,7 +158,7 @@ behind_scope_hint words = if is_leaving words then Some alone_text else expected
 
 -- ---- the hint of a scope
 unfoldable pub after_text : List ℕ
-after_text = codes "after takes lan NAMES or bridge NAMES, and an expectation behind it"
+after_text = codes "after takes lan NAMES, bridge NAMES or risk NAMES, and an expectation behind it"
 
 -- what is said of a list of what fails
 abbrev pub failing_text : List ℕ → List ℕ
@@ -159,7 +174,7 @@ abbrev pub behind_hint : List ℕ → List ℕ → List (List ℕ) → Option (L
 behind_hint failing list others = if is_right Names list || not (has_form others) then behind_scope_hint others else Some (failing_text failing)
 
 abbrev pub after_hint : List (List ℕ) → Option (List ℕ)
-after_hint (failing ∷ list ∷ others) = if is_failing failing then behind_hint failing list others else Some after_text
+after_hint (failing ∷ list ∷ others) = if is_event failing then behind_hint failing list others else Some after_text
 after_hint _ = Some after_text
 
 -- of an expectation, and of the scope that the first word says, if it says one
@@ -177,14 +192,46 @@ abbrev pub finally_hint : List (List ℕ) → Option (List ℕ)
 finally_hint [] = Some finally_text
 finally_hint (word ∷ others) = if is_leaving (word ∷ others) then Some alone_text else scoped_hint word others
 
+-- ---- the hint of what stands behind `risk`
+unfoldable pub risk_text : List ℕ
+risk_text = codes "risk takes NAME lan NAMES or NAME bridge NAMES"
+
+unfoldable pub risk_name_text : List ℕ
+risk_name_text = codes "NAME is 1 to 16 letters, digits, _, - and ., the first a letter or a digit"
+
+-- the form of a line of a risk of this kind, and what is wrong in it
+abbrev pub risk_wrong_text : List ℕ → List ℕ → List ℕ
+risk_wrong_text kind wrong = codes "risk NAME " ++ kind ++ form_text (Names ∷ []) ++ codes ": " ++ wrong
+
+-- which words are in the form of what isn't: the name comes before the list
+unfoldable pub risk_wrong : List ℕ → List ℕ → Option (List ℕ)
+risk_wrong word list = if is_err (name word) then Some risk_name_text else (if is_right Names list then None else Some (range_of Names))
+
+abbrev pub risk_parts_hint : List ℕ → List ℕ → List ℕ → Option (List ℕ)
+risk_parts_hint word kind list = option_map (risk_wrong_text kind) (risk_wrong word list)
+
+-- of words of another number, or of another kind than failures have, what is taken there
+abbrev pub risk_form_text : List (List ℕ) → List ℕ
+risk_form_text others = if list_any is_comment others then comment_text else risk_text
+
+-- of a word, a kind and a list
+abbrev pub kind_hint : List (List ℕ) → List ℕ × List ℕ × List ℕ → Option (List ℕ)
+kind_hint others p = if is_failing p.1 then risk_parts_hint p.0 p.1 p.2 else Some (risk_form_text others)
+
+abbrev pub risk_hint : List (List ℕ) → Option (List ℕ)
+risk_hint others = option_map_or (kind_hint others) (three_of others) (Some (risk_form_text others))
+
 -- ---- the hint of a line
 abbrev pub promise_hint : List ℕ → List (List ℕ) → Option (List ℕ)
 promise_hint word others = if is_finally word then finally_hint others else scoped_hint word others
 
+abbrev pub said_hint : List ℕ → List (List ℕ) → Option (List ℕ)
+said_hint word others = if is_risk word then risk_hint others else promise_hint word others
+
 -- of a line by its words, by whether all its bytes are plain, and by what is told where they aren't
 abbrev pub worded_hint : Bool → List ℕ → List (List ℕ) → Option (List ℕ)
 worded_hint plain bytes [] = if plain then None else Some bytes
-worded_hint plain bytes (word ∷ others) = if is_comment word then None else (if plain then promise_hint word others else Some bytes)
+worded_hint plain bytes (word ∷ others) = if is_comment word then None else (if plain then said_hint word others else Some bytes)
 
 abbrev pub hint_of : List ℕ → Option (List ℕ)
 hint_of line = if nat_lt 4096 (length line) then Some too_long else worded_hint (list_all is_plain line) (byte_text line) (words line)

@@ -12,7 +12,7 @@ rows = map row_of all_kinds
 
 -- the words that stand before an expectation
 abbrev pub fronts : List (List ℕ)
-fronts = codes "after" ∷ codes "always" ∷ codes "finally" ∷ []
+fronts = codes "after" ∷ codes "always" ∷ codes "finally" ∷ codes "risk" ∷ []
 
 -- whether a word of a policy is as near to another one: it but for its case, or at most one or two changes from it
 abbrev pub is_near : Near → List ℕ → List ℕ → Bool

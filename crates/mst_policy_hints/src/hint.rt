@@ -2,11 +2,12 @@ ghost use Rattle.std.specs.Prelude.{◌≡◌, ◌++◌, ◌∷◌, Some, OnOk};
 ghost use Rattle.mst_hints.specs.Hints.{hint_line, too_long};
 ghost use Rattle.mst_lang.specs.Words.{words};
 ghost use Rattle.mst_policy.specs.Reading.{is_leaving as are_leaving};
-ghost use Rattle.mst_policy_hints.specs.Hints.{after_hint, after_text, alone_text, behind_hint, behind_scope_hint, byte_text as byte_text_of, expected_hint, failing_text, finally_hint, finally_text, form_hint, form_of as form_of_words, formless_text, all_forms_text, has_form as has_form_of, hint_of, number_text, promise_hint, scope_text, scoped_hint, words_text, wrong_text};
+ghost use Rattle.mst_policy_hints.specs.Hints.{after_hint, after_text, alone_text, behind_hint, behind_scope_hint, byte_text as byte_text_of, expected_hint, failing_text, finally_hint, finally_text, form_hint, form_of as form_of_words, formless_text, all_forms_text, has_form as has_form_of, hint_of, number_text, promise_hint, said_hint, scope_text, scoped_hint, words_text, wrong_text};
 
 use crate::bytes::byte_text;
 use crate::form::{first_wrong, form_of, is_expectation, push_form, push_forms};
-use crate::unknown::{is_failing, is_finally, push_unknown};
+use crate::risk::push_risk_hint;
+use crate::unknown::{is_event, is_finally, is_risk, push_unknown};
 use mst_hints::{has_comment, push_count, push_start, push_text, word_count};
 use mst_ids::{push_bytes, push_end};
 use mst_lang::{LONGEST, are_plain, next_word};
@@ -34,7 +35,7 @@ pub fn push_hint(of: &[u8], number: u64, line: &[u8], out: &mut Vec<u8>) -> Resu
         Some(([b'#', ..], _)) => Ok(()),
         Some((word, others)) => {
             if plain {
-                push_promise_hint(of, number, line, word, others, out)
+                push_said_hint(of, number, line, word, others, out)
             } else {
                 push_byte(of, number, line, out)
             }
@@ -60,6 +61,25 @@ fn push_too_long(of: &[u8], number: u64, out: &mut Vec<u8>) -> Result<(), AllocE
 }
 
 /// Appends the hint of a line of plain words, of which this is the first, if there is one.
+fn push_said_hint(
+    of: &[u8],
+    number: u64,
+    line: &[u8],
+    word: &[u8],
+    others: &[u8],
+    out: &mut Vec<u8>,
+) -> Result<(), AllocError>
+    requires { words line.now ≡ word.now ∷ words others.now }
+    ensures { OnOk result (out.new.items ≡ out.old.items ++ hint_line of.now number (said_hint word.now (words others.now))) }
+{
+    if is_risk(word) {
+        push_risk_hint(of, number, others, out)
+    } else {
+        push_promise_hint(of, number, line, word, others, out)
+    }
+}
+
+/// The same of a line that promises something.
 fn push_promise_hint(
     of: &[u8],
     number: u64,
@@ -177,7 +197,7 @@ fn push_after_hint(of: &[u8], number: u64, text: &[u8], out: &mut Vec<u8>) -> Re
         return push_after(of, number, out);
     };
     match next_word(behind) {
-        Some((list, others)) if is_failing(failing) => {
+        Some((list, others)) if is_event(failing) => {
             push_behind_hint(of, number, failing, list, others, out)
         }
         _ => push_after(of, number, out),
@@ -192,7 +212,7 @@ fn push_after(of: &[u8], number: u64, out: &mut Vec<u8>) -> Result<(), AllocErro
     push_text(
         of,
         number,
-        "after takes lan NAMES or bridge NAMES, and an expectation behind it",
+        "after takes lan NAMES, bridge NAMES or risk NAMES, and an expectation behind it",
         out,
     )?;
     Ok(())

@@ -10,6 +10,7 @@ mod form;
 mod hint;
 pub mod laws;
 mod near;
+mod risk;
 mod unknown;
 
 pub use hint::push_hint;

@@ -81,6 +81,8 @@ fn front_near(near: Near, word: &[u8]) -> Option<&'static [u8]>
         Some(b"always")
     } else if is_near(near, b"finally", word) {
         Some(b"finally")
+    } else if is_near(near, b"risk", word) {
+        Some(b"risk")
     } else {
         None
     }

@@ -1,6 +1,6 @@
 ghost use Rattle.std.specs.Prelude.{◌≡◌, ◌++◌, OnOk};
 ghost use Rattle.mst_hints.specs.Hints.{besides};
-ghost use Rattle.mst_policy_hints.specs.Hints.{is_failing as is_failing_word, is_finally as is_finally_word, is_scope as is_scope_word, said_failing, is_script_word as is_script_word_of, said_nearest, said_of, said_scope, unknown_text};
+ghost use Rattle.mst_policy_hints.specs.Hints.{is_event as is_event_word, is_failing as is_failing_word, is_finally as is_finally_word, is_risk as is_risk_word, said_risk, is_scope as is_scope_word, said_failing, is_script_word as is_script_word_of, said_nearest, said_of, said_scope, unknown_text};
 
 use crate::near::nearest;
 use mst_hints::{is_command, push_question, push_saying};
@@ -12,6 +12,20 @@ pub(crate) fn is_failing(word: &[u8]) -> bool
     ensures { result ≡ is_failing_word word.now }
 {
     word == b"lan".as_slice() || word == b"bridge".as_slice()
+}
+
+/// Whether a word is `risk`.
+pub(crate) fn is_risk(word: &[u8]) -> bool
+    ensures { result ≡ is_risk_word word.now }
+{
+    word == b"risk".as_slice()
+}
+
+/// Whether it may stand behind `after`: a kind of failures, or `risk`.
+pub(crate) fn is_event(word: &[u8]) -> bool
+    ensures { result ≡ is_event_word word.now }
+{
+    is_failing(word) || is_risk(word)
 }
 
 /// Appends what is said of a word that is no expectation.
@@ -43,6 +57,18 @@ fn push_said(word: &[u8], out: &mut Vec<u8>) -> Result<(), AllocError>
 {
     if is_finally(word) {
         push_saying(b"finally comes first", out)
+    } else {
+        push_said_risk(word, out)
+    }
+}
+
+/// Appends that a line of a risk begins with that word, or what else is said of it.
+#[tactic(auto, unfolding(crate::specs::Hints::nothing_before_text))]
+fn push_said_risk(word: &[u8], out: &mut Vec<u8>) -> Result<(), AllocError>
+    ensures { OnOk result (out.new.items ≡ out.old.items ++ besides (said_risk word.now)) }
+{
+    if is_risk(word) {
+        push_saying(b"a line of a risk begins with risk", out)
     } else {
         push_said_scope(word, out)
     }
