@@ -1,13 +1,14 @@
 -- A settled network: its tables, its view and its trees, of which it is known that they belong together.
-use Rattle.std.specs.Prelude.{ℕ, ◌==◌, Option}
+use Rattle.std.specs.Prelude.{ℕ, ◌==◌, List, [], ◌∷◌, Option}
 use Rattle.std.specs.List.{find}
-use Rattle.std.specs.Option.{option_map, option_map_or, option_and_then}
+use Rattle.std.specs.Option.{option_map, option_and_then}
 use Rattle.std.specs.FinMap as fin
 use Rattle.mst_ids.specs.declared.name.PortName.{PortName}
 use Rattle.mst_lang.specs.declared.line.Edit.{Edit}
 use Rattle.mst_outcome.specs.Assignment.{vector_of, designated_of}
 use Rattle.mst_net.specs.tables.Tables.{Net, Numbers}
-use Rattle.mst_net.specs.tables.Contents.{Contents, Tables, tables_of, ahead_of}
+use Rattle.mst_net.specs.tables.After.{effect}
+use Rattle.mst_net.specs.tables.Contents.{Contents, PerKind, Tables, numbers_after}
 use Rattle.mst_view.specs.Viewed.{Viewed}
 use Rattle.mst_forest.specs.Agrees.{Agrees, AreOf}
 use Rattle.mst_forest.specs.Forest.{Forest, msti_vector, msti_designated}
@@ -23,9 +24,17 @@ pub record SettledNet : Type 0 where
 abbrev pub settled_net : Tables → Viewed → Forest → SettledNet
 settled_net t v f = record { net = t.net; numbers = t.numbers; view = v; forest = f }
 
--- the tables of a network, or as they will be once an edit is made
-abbrev pub tables_with : Contents → Option Edit → Tables
-tables_with c edit = option_map_or (ahead_of c) edit (tables_of c)
+-- the tables of a network as they will be once edits are made that add no record, one after another: its records keep their numbers
+abbrev pub net_with : Net → List Edit → Net
+net_with net [] = net
+net_with net (edit ∷ edits) = net_with (effect edit net) edits
+
+abbrev pub numbers_with : PerKind → Numbers → List Edit → Numbers
+numbers_with next numbers [] = numbers
+numbers_with next numbers (edit ∷ edits) = numbers_with next (numbers_after edit next numbers) edits
+
+abbrev pub tables_with : Contents → List Edit → Tables
+tables_with c edits = record { net = net_with c.net edits; numbers = numbers_with c.next c.numbers edits }
 
 -- ---- the outcome, by name
 -- the name of the port of the view that has a number

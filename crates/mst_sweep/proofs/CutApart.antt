@@ -1,5 +1,5 @@
--- A VID of which every logical port is a member is cut just where a failure takes apart what enabled ports link.
-use Rattle.std.proofs.Common.{◌≡◌, ℕ, ◌==◌, ◌&&◌, not, Bool, true, false, List, [], ◌∷◌, filter, Option, Some, None, Ok, refl, sym, ap, subst, ◌∙◌, true≢false}
+-- A VID of which every logical port is a member is cut just where failures take apart what enabled ports link.
+use Rattle.std.proofs.Common.{◌≡◌, ℕ, ◌==◌, ◌&&◌, not, Bool, true, false, List, [], ◌∷◌, filter, Option, Some, None, refl, sym, ap, subst, ◌∙◌, true≢false}
 use Rattle.std.specs.Prelude.{◌↔◌, if◌then◌else◌}
 use Rattle.std.specs.Cmp.Lexicographic.{bytes_decides}
 use Rattle.std.specs.FinMap as fin
@@ -9,7 +9,7 @@ use Rattle.std.proofs.lemmas.Bool.{eqb-true, eq-eqb}
 use Rattle.mst_graph.specs.Islands.{Island, Link, AreJoined, link_ends}
 use Rattle.mst_graph.specs.Walks.{Walk, Node, bridge_at, lan_at}
 use Rattle.mst_graph.proofs.Members.{in_map, from_map, in_filter, from_filter, passing}
-use Rattle.mst_net.specs.tables.After.{after, effect}
+use Rattle.mst_net.specs.tables.After.{effect}
 use Rattle.mst_net.specs.tables.Tables.{Net, IsNetwork, BridgeRow, port_eq}
 use Rattle.mst_view.specs.Aggregation.{plugs, same_name}
 use Rattle.mst_view.specs.View.{LogicalPort, IsUnrestricted, logical_port, as_port, view_ports, bridge_names}
@@ -23,13 +23,13 @@ use Rattle.mst_vlan.proofs.roles_lemmas.Carried.{carried}
 use Rattle.mst_graph.specs.Lists.{has_any}
 use Rattle.mst_facts.proofs.Lists.{find-found}
 use Rattle.mst_sweep.specs.Apart.{AllAreMembers, AreLinked, ComeApart}
-use Rattle.mst_sweep.specs.Failures.{edit_of}
+use Rattle.mst_sweep.specs.Failures.{edit_of, failed}
 use Rattle.mst_sweep.specs.Parts.{home, stays_at, staying, are_together, came_apart, leads, part, part_led, all_parts, AreParts}
 use Rattle.mst_sweep.specs.declared.failure.Failure.{Failure}
 use Rattle.mst_sweep.specs.declared.failure.Failure.TheVariants.{Lan, Bridge}
 use Rattle.mst_sweep.specs.declared.parts.Stays.{Stays}
 use Rattle.mst_sweep.proofs.Joined.{has_home, home_on, home_joined, joined_home}
-use Rattle.mst_sweep.proofs.Failed.{made}
+use Rattle.mst_sweep.proofs.Together.{failed_network}
 use Rattle.mst_sweep.proofs.Positions.{any_passes, has_first, has_text, from_text}
 
 -- ---- booleans
@@ -121,22 +121,32 @@ module _ (net : Net) (o : Outcome) (vid : ℕ) (members : AllAreMembers net vid)
       (λ k h. let r = link_enabled k h in record { edge = r.0; kind = r.1; from = ap (λ (k : Link (List ℕ) (List ℕ)). bridge_at k.bridge) r.2; to = ap (λ (k : Link (List ℕ) (List ℕ)). lan_at k.lan) r.2 })
       walk
 
--- ---- what a failure leaves: all members stay members, and no role is restricted
-kept_free : (failure : Failure) (a : Net) → IsUnrestricted a → IsUnrestricted (effect (edit_of failure) a)
-kept_free (Lan lan) a free p h =
+-- ---- what failures leave: all members stay members, and no role is restricted
+one_free : (failure : Failure) (a : Net) → IsUnrestricted a → IsUnrestricted (effect (edit_of failure) a)
+one_free (Lan lan) a free p h =
     let q = from_map (as_port (effect (edit_of (Lan lan)) a)) (filter (λ p. port_eq (logical_port a p).port p.port) (plugs a)) p h in
     subst (λ (p : LogicalPort). p.settings.is_restricted ≡ false) q.2 (free (as_port a q.0) (in_map (as_port a) (filter (λ p. port_eq (logical_port a p).port p.port) (plugs a)) q.0 q.1))
-kept_free (Bridge bridge) a free p h =
+one_free (Bridge bridge) a free p h =
     let q = from_map (as_port (effect (edit_of (Bridge bridge)) a)) (filter (λ p. port_eq (logical_port a p).port p.port) (plugs a)) p h in
     subst (λ (p : LogicalPort). p.settings.is_restricted ≡ false) q.2 (free (as_port a q.0) (in_map (as_port a) (filter (λ p. port_eq (logical_port a p).port p.port) (plugs a)) q.0 q.1))
 
-kept_members : (failure : Failure) (a : Net) (vid : ℕ) → AllAreMembers a vid → AllAreMembers (effect (edit_of failure) a) vid
-kept_members (Lan lan) a vid all p h =
+one_members : (failure : Failure) (a : Net) (vid : ℕ) → AllAreMembers a vid → AllAreMembers (effect (edit_of failure) a) vid
+one_members (Lan lan) a vid all p h =
     let q = from_map (as_port (effect (edit_of (Lan lan)) a)) (filter (λ p. port_eq (logical_port a p).port p.port) (plugs a)) p h in
     subst (λ (p : LogicalPort). is_member a vid p ≡ true) q.2 (all (as_port a q.0) (in_map (as_port a) (filter (λ p. port_eq (logical_port a p).port p.port) (plugs a)) q.0 q.1))
-kept_members (Bridge bridge) a vid all p h =
+one_members (Bridge bridge) a vid all p h =
     let q = from_map (as_port (effect (edit_of (Bridge bridge)) a)) (filter (λ p. port_eq (logical_port a p).port p.port) (plugs a)) p h in
     subst (λ (p : LogicalPort). is_member a vid p ≡ true) q.2 (all (as_port a q.0) (in_map (as_port a) (filter (λ p. port_eq (logical_port a p).port p.port) (plugs a)) q.0 q.1))
+
+pub kept_free : (those : List Failure) (a : Net) → IsUnrestricted a → IsUnrestricted (failed those a)
+kept_free [] a free = free
+kept_free (Lan lan ∷ others) a free = kept_free others (effect (edit_of (Lan lan)) a) (one_free (Lan lan) a free)
+kept_free (Bridge bridge ∷ others) a free = kept_free others (effect (edit_of (Bridge bridge)) a) (one_free (Bridge bridge) a free)
+
+pub kept_members : (those : List Failure) (a : Net) (vid : ℕ) → AllAreMembers a vid → AllAreMembers (failed those a) vid
+kept_members [] a vid all = all
+kept_members (Lan lan ∷ others) a vid all = kept_members others (effect (edit_of (Lan lan)) a) vid (one_members (Lan lan) a vid all)
+kept_members (Bridge bridge ∷ others) a vid all = kept_members others (effect (edit_of (Bridge bridge)) a) vid (one_members (Bridge bridge) a vid all)
 
 -- ---- the law
 pub stays_is : (olds news : List (Island (List ℕ) (List ℕ))) (name : List ℕ) (s : Stays) → stays_at olds news name ≡ Some s → (home olds name ≡ Some s.before) × (home news name ≡ Some s.after)
@@ -217,18 +227,19 @@ module _ (net : Net) (o : Outcome) (vid : ℕ) (active : ActiveLink) (ok : IsNet
   linked_homes x y first second walk =
       joined_home net o vid islands are x y first second (linked_joined net o vid members (λ x y. active net o vid ok is free (bridge_at x) (bridge_at y)) x y walk)
 
-pub cut_by_failure : (a b : Net) (o p : Outcome) (failure : Failure) (vid : ℕ) → ActiveLink → IsNetwork a → IsNetwork b → IsOutcome a o → IsOutcome b p → after (edit_of failure) a ≡ Ok b → IsUnrestricted a → AllAreMembers a vid
-    → (parts : List (List (List ℕ))) → AreParts a o b p vid parts → (has_any parts ≡ true) ↔ ComeApart a b
-cut_by_failure a b o p failure vid active ok failed is are e free all parts h =
-    let is_made = made (edit_of failure) a b e in
-    let also_free : IsUnrestricted b = subst IsUnrestricted is_made (kept_free failure a free) in
-    let also_all : AllAreMembers b vid = subst (λ b. AllAreMembers b vid) is_made (kept_members failure a vid all) in
+pub cut_by_failures : (a : Net) (o p : Outcome) (those : List Failure) (vid : ℕ) → ActiveLink → IsNetwork a → IsOutcome a o → IsOutcome (failed those a) p → IsUnrestricted a → AllAreMembers a vid
+    → (parts : List (List (List ℕ))) → AreParts a o (failed those a) p vid parts → (has_any parts ≡ true) ↔ ComeApart a (failed those a)
+cut_by_failures a o p those vid active ok is are free all parts h =
+    let b = failed those a in
+    let still = failed_network those a ok in
+    let also_free : IsUnrestricted b = kept_free those a free in
+    let also_all : AllAreMembers b vid = kept_members those a vid all in
     let olds = h.0 in
     let news = h.1 in
     let cut = cut_apart a b o p vid olds news (has_home a o vid olds h.2) (has_home b p vid news h.3) (home_on a o vid olds h.2) (home_on b p vid news h.3)
-    (homes_linked a o vid active ok is free all olds h.2) (homes_linked b p vid active failed are also_free also_all news h.3)
-    (linked_homes a o vid active ok is free all olds h.2) (linked_homes b p vid active failed are also_free also_all news h.3) in
+    (homes_linked a o vid active ok is free all olds h.2) (homes_linked b p vid active still are also_free also_all news h.3)
+    (linked_homes a o vid active ok is free all olds h.2) (linked_homes b p vid active still are also_free also_all news h.3) in
     let apart = apart_cut a b o p vid olds news (has_home a o vid olds h.2) (has_home b p vid news h.3) (home_on a o vid olds h.2) (home_on b p vid news h.3)
-    (homes_linked a o vid active ok is free all olds h.2) (homes_linked b p vid active failed are also_free also_all news h.3)
-    (linked_homes a o vid active ok is free all olds h.2) (linked_homes b p vid active failed are also_free also_all news h.3) in
+    (homes_linked a o vid active ok is free all olds h.2) (homes_linked b p vid active still are also_free also_all news h.3)
+    (linked_homes a o vid active ok is free all olds h.2) (linked_homes b p vid active still are also_free also_all news h.3) in
     (λ g. cut (ap has_any (sym h.4) ∙ g), λ g. ap has_any h.4 ∙ apart g)

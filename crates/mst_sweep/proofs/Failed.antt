@@ -1,15 +1,13 @@
--- What a failure leaves as it is.
-use Rattle.std.proofs.Common.{◌≡◌, ℕ, Bool, true, false, cond, List, map, filter, Option, Some, None, Ok, Err, refl, sym, ap, subst, ◌∙◌}
+-- What failures leave as it is.
+use Rattle.std.proofs.Common.{◌≡◌, ℕ, Bool, true, false, cond, List, [], ◌∷◌, map, filter, Option, Some, None, refl, sym, ap, ◌∙◌}
 use Rattle.std.specs.FinMap as fin
 use Rattle.std.specs.List.{find}
-use Rattle.std.specs.Option.{option_map, option_map_or, unwrap_or}
-use Rattle.mst_lang.specs.declared.line.Edit.{Edit}
+use Rattle.std.specs.Option.{option_map, unwrap_or}
 use Rattle.mst_lang.specs.declared.line.BridgeChange.TheVariants.{Power}
 use Rattle.mst_lang.specs.declared.line.LanChange.TheVariants.{State}
 use Rattle.mst_lang.specs.declared.line.LanState.TheVariants.{Down}
 use Rattle.mst_lang.specs.declared.line.Power.TheVariants.{Off}
-use Rattle.mst_net.specs.tables.declared.refusal.Refusal.{Refusal}
-use Rattle.mst_net.specs.tables.After.{after, effect, refusal_of, bridge_with, lan_with}
+use Rattle.mst_net.specs.tables.After.{effect, bridge_with, lan_with}
 use Rattle.mst_net.specs.tables.Tables.{Net, BridgeRow, port_eq}
 use Rattle.mst_net.proofs.tables_lemmas.Changed.{get_changed}
 use Rattle.mst_net.proofs.tables_lemmas.Keys.{names}
@@ -19,7 +17,7 @@ use Rattle.mst_view.specs.View.{LogicalPort, logical_lan, logical_port, as_port,
 use Rattle.mst_vlan.proofs.forest_lemmas.Lists.{mapped_twice}
 use Rattle.mst_sweep.specs.declared.failure.Failure.{Failure}
 use Rattle.mst_sweep.specs.declared.failure.Failure.TheVariants.{Lan, Bridge}
-use Rattle.mst_sweep.specs.Failures.{edit_of}
+use Rattle.mst_sweep.specs.Failures.{edit_of, failed}
 use Rattle.mst_sweep.specs.Left.{AreLeft, lan_names}
 
 -- the names of logical ports are those of plugs
@@ -58,12 +56,17 @@ left_by (Bridge bridge) a = record {
   settings = refl;
 }
 
-pub made : (edit : Edit) (a b : Net) → after edit a ≡ Ok b → effect edit a ≡ b
-made edit a b e = go (refusal_of edit a) e
-  where
-    go : (r : Option Refusal) → option_map_or Err r (Ok (effect edit a)) ≡ Ok b → effect edit a ≡ b
-    go None e = cc
-    go (Some r) e = cc
+-- what is left as it is by one and then by others
+left_then : (a b c : Net) → AreLeft a b → AreLeft b c → AreLeft a c
+left_then a b c x y = record {
+  bridges = x.bridges ∙ y.bridges;
+  kinds = λ name. x.kinds name ∙ y.kinds name;
+  ports = x.ports ∙ y.ports;
+  lans = x.lans ∙ y.lans;
+  settings = x.settings ∙ y.settings;
+}
 
-pub are_left : (failure : Failure) (a b : Net) → after (edit_of failure) a ≡ Ok b → AreLeft a b
-are_left failure a b e = subst (AreLeft a) (made (edit_of failure) a b e) (left_by failure a)
+pub are_left : (failures : List Failure) (a : Net) → AreLeft a (failed failures a)
+are_left [] a = record { bridges = refl; kinds = λ name. refl; ports = refl; lans = refl; settings = refl }
+are_left (Lan lan ∷ others) a = let one = effect (edit_of (Lan lan)) a in left_then a one (failed others one) (left_by (Lan lan) a) (are_left others one)
+are_left (Bridge bridge ∷ others) a = let one = effect (edit_of (Bridge bridge)) a in left_then a one (failed others one) (left_by (Bridge bridge) a) (are_left others one)

@@ -29,4 +29,4 @@ pub mod PairParts
 pub mod OnePairs
 pub mod PartsJoined
 pub mod SweptParts
-mod MadeBoth
+mod Made

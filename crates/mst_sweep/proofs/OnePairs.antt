@@ -15,7 +15,8 @@ use Rattle.mst_sweep.specs.Parts.{all_parts}
 use Rattle.mst_rows.specs.Rows.{Row}
 use Rattle.mst_sweep.specs.declared.cuts.CutBy.{CutBy}
 use Rattle.mst_sweep.specs.declared.cuts.CutBy.TheVariants.{Both}
-use Rattle.mst_sweep.specs.Pairs.{Pair, PairIslands, Outcomes, ArePairIslands, ArePairParts, ArePairRows, IsPairTold, IsPairsOf, failed, last_of_pairs, pair_rows, stays_with_both}
+use Rattle.mst_sweep.specs.Failures.{failed}
+use Rattle.mst_sweep.specs.Pairs.{Pair, PairIslands, Outcomes, ArePairIslands, ArePairParts, ArePairRows, IsPairTold, IsPairsOf, last_of_pairs, pair_rows, stays_with_both}
 use Rattle.mst_sweep.specs.SweepText.{Told}
 use Rattle.mst_sweep.proofs.CutsBy.{one_list, one_cut, cut_vids, cut_rows, some_cuts}
 use Rattle.mst_sweep.proofs.OneSweep.{zip_same}

@@ -36,7 +36,8 @@ use Rattle.mst_sweep.specs.Cuts.{parts_at}
 use Rattle.mst_sweep.specs.CutClasses.{IsKeptAlone}
 use Rattle.mst_sweep.specs.Left.{AreLeft}
 use Rattle.mst_sweep.specs.Parts.{home, staying, stays_at, all_parts, AreParts}
-use Rattle.mst_sweep.specs.Pairs.{Pair, PairIslands, Outcomes, ArePairIslands, ArePairParts, are_in_one, failed, stay_joined, stays_with_both}
+use Rattle.mst_sweep.specs.Failures.{failed}
+use Rattle.mst_sweep.specs.Pairs.{Pair, PairIslands, Outcomes, ArePairIslands, ArePairParts, are_in_one, stay_joined, stays_with_both}
 use Rattle.mst_sweep.specs.Seen.{first_at, has_places, place_alone, places_before, same_places, seen_with_both}
 use Rattle.mst_sweep.specs.declared.with_both.Places.{Places}
 use Rattle.mst_sweep.specs.declared.parts.Stays.{Stays}

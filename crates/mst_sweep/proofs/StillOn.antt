@@ -9,7 +9,7 @@ use Rattle.mst_vlan.proofs.forest_lemmas.Lists.{all_contained, no_some, some_is}
 use Rattle.mst_vlan.proofs.forest_lemmas.Views.{bridges_are, entry_there}
 use Rattle.mst_vlan.specs.Reach.{bridges_on}
 use Rattle.mst_sweep.specs.Failing.{fails_bridge, off_if}
-use Rattle.mst_sweep.specs.Pairs.{failed}
+use Rattle.mst_sweep.specs.Failures.{failed}
 use Rattle.mst_sweep.specs.declared.failure.Failure.{Failure}
 use Rattle.mst_sweep.proofs.Together.{bridge_failed}
 
@@ -33,7 +33,13 @@ on_if fails None row e on = absurd (no_some row e)
 on_if true (Some old) row e on = absurd (true≢false (sym on ∙ ap (λ (r : BridgeRow). r.is_on) (sym (some_is (off_if true old) row e))))
 on_if false (Some old) row e on = (old, refl, ap (λ (r : BridgeRow). r.is_on) (some_is old row e) ∙ on, refl)
 
--- so it is on with others that aren't
+-- so a bridge that is on with failures isn't one that failed
+pub not_failed : (fs : List Failure) (net : Net) (name : List ℕ) → Contains (bridges_on (failed fs net)) name → list_any (fails_bridge name) fs ≡ false
+not_failed fs net name h =
+    let r = on_row (failed fs net) name h in
+    (on_if (list_any (fails_bridge name) fs) (fin.get net.bridges name) r.0 (sym (bridge_failed fs net.bridges name) ∙ r.1) r.2).3
+
+-- and is on with others that aren't
 module _ (net : Net) (name : List ℕ) (fs gs : List Failure) (fewer : list_any (fails_bridge name) fs ≡ false → list_any (fails_bridge name) gs ≡ false) where
   pub still_on : Contains (bridges_on (failed fs net)) name → Contains (bridges_on (failed gs net)) name
   still_on h =

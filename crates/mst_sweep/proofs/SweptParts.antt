@@ -7,7 +7,7 @@ use Rattle.std.proofs.lemmas.List.Elements.{Contains-append_left, Contains-appen
 use Rattle.std.proofs.lemmas.List.Sums.{sum_by-append, sum_by-cons}
 use Rattle.mst_net.specs.tables.Tables.{Net}
 use Rattle.mst_vlan.specs.forest.Outcome.{Outcome}
-use Rattle.mst_sweep.specs.Failures.{failures}
+use Rattle.mst_sweep.specs.Failures.{alone, failures}
 use Rattle.mst_rows.specs.Rows.{Row}
 use Rattle.mst_sweep.specs.SweepText.{Told, IsTold, sweep_row, IsSweep, AreRowsOf}
 use Rattle.mst_sweep.specs.Pairs.{pairs_of, last_of_pairs, IsPairTold, IsPairs, ArePairsParts}
@@ -89,10 +89,10 @@ module _ {A : Type 0} (Tells : A → Told → Type 0) (last : List A → ℕ →
       )
 
 -- of the failures of a network
-pub joined : (net : Net) (o : Outcome) → ((told others : List Told) → AllZip (IsTold net o) (failures net) told → AllZip (IsTold net o) (failures net) others → told ≡ others)
+pub joined : (net : Net) (o : Outcome) → ((told others : List Told) → AllZip (λ failure. IsTold net o (alone failure)) (failures net) told → AllZip (λ failure. IsTold net o (alone failure)) (failures net) others → told ≡ others)
     → (count : ℕ) → 0 < count → (parts : List ToldOfPart) (rows : List Row) (cuts : ℕ) → AreSweepParts net o count parts → IsSweep net o rows cuts
     → (flat_map (λ (p : ToldOfPart). but_last_row p.rows) parts ≡ but_last_row rows) × (sum_by (λ (p : ToldOfPart). p.cuts) parts ≡ cuts)
-joined net o one count some parts rows cuts are x = all_joined (IsTold net o) sweep_row (failures net) one count some parts rows cuts are x
+joined net o one count some parts rows cuts are x = all_joined (λ failure. IsTold net o (alone failure)) sweep_row (failures net) one count some parts rows cuts are x
 
 -- and of pairs of them
 pub pairs_joined : (net : Net) (o : Outcome) → ((told others : List Told) → AllZip (IsPairTold net o) (pairs_of (failures net)) told → AllZip (IsPairTold net o) (pairs_of (failures net)) others → told ≡ others)

@@ -1,4 +1,4 @@
--- A network with failures: it is one, its records stay but for what fails, and so does all that failures leave.
+-- A network with failures: it is one, and its records stay but for what fails.
 use Rattle.std.proofs.Common.{◌≡◌, ℕ, Bool, true, false, cond, ◌||◌, List, [], ◌∷◌, Option, Some, None, refl, sym, ap, ◌∙◌}
 use Rattle.std.specs.FinMap as fin
 use Rattle.std.specs.List.{list_any}
@@ -8,7 +8,7 @@ use Rattle.mst_lang.specs.declared.line.BridgeChange.TheVariants.{Power}
 use Rattle.mst_lang.specs.declared.line.LanChange.TheVariants.{State}
 use Rattle.mst_lang.specs.declared.line.LanState.TheVariants.{Down}
 use Rattle.mst_lang.specs.declared.line.Power.TheVariants.{Off}
-use Rattle.mst_net.specs.tables.After.{effect, bridge_with, lan_with, change_bridge, change_lan, change}
+use Rattle.mst_net.specs.tables.After.{bridge_with, lan_with, change_bridge, change_lan, change}
 use Rattle.mst_net.specs.tables.Contents.{IsNumbered}
 use Rattle.mst_net.specs.tables.Tables.{Net, Numbers, BridgeRow, LanRow, IsNetwork}
 use Rattle.mst_net.proofs.tables_lemmas.AfterLemmas.{bridge_changed, lan_changed}
@@ -18,11 +18,8 @@ use Rattle.mst_net.proofs.tables_lemmas.NamesInOrder.{names_stay}
 use Rattle.mst_view.specs.Aggregation.{same_name}
 use Rattle.mst_sweep.specs.declared.failure.Failure.{Failure}
 use Rattle.mst_sweep.specs.declared.failure.Failure.TheVariants.{Lan, Bridge}
-use Rattle.mst_sweep.specs.Failures.{edit_of}
+use Rattle.mst_sweep.specs.Failures.{failed, lans_failed, bridges_failed}
 use Rattle.mst_sweep.specs.Failing.{fails_lan, fails_bridge, down_if, off_if}
-use Rattle.mst_sweep.specs.Left.{AreLeft}
-use Rattle.mst_sweep.specs.Pairs.{failed, lans_failed, bridges_failed}
-use Rattle.mst_sweep.proofs.Failed.{left_by}
 
 -- ---- it is a network
 pub failed_network : (fs : List Failure) (net : Net) → IsNetwork net → IsNetwork (failed fs net)
@@ -103,31 +100,3 @@ bridge_failed (Bridge bridge ∷ fs) bridges name =
     bridge_failed fs (change bridges bridge (bridge_with (Power Off))) name
     ∙ ap (option_map (off_if (list_any (fails_bridge name) fs))) (get_changed names bridges bridge (bridge_with (Power Off)) name)
     ∙ off_twice (same_name bridge name) (list_any (fails_bridge name) fs) (fin.get bridges name)
-
--- ---- what failures leave
-pub left_then : (a b c : Net) → AreLeft a b → AreLeft b c → AreLeft a c
-left_then a b c x y = record {
-  bridges = x.bridges ∙ y.bridges;
-  kinds = λ name. x.kinds name ∙ y.kinds name;
-  ports = x.ports ∙ y.ports;
-  lans = x.lans ∙ y.lans;
-  settings = x.settings ∙ y.settings;
-}
-
-pub failed_left : (fs : List Failure) (net : Net) → AreLeft net (failed fs net)
-failed_left [] net = record { bridges = refl; kinds = λ name. refl; ports = refl; lans = refl; settings = refl }
-failed_left (Lan lan ∷ fs) net =
-    left_then net (effect (edit_of (Lan lan)) net) (failed (Lan lan ∷ fs) net) (left_by (Lan lan) net) (failed_left fs (effect (edit_of (Lan lan)) net))
-failed_left (Bridge bridge ∷ fs) net =
-    left_then net (effect (edit_of (Bridge bridge)) net) (failed (Bridge bridge ∷ fs) net) (left_by (Bridge bridge) net) (failed_left fs (effect (edit_of (Bridge bridge)) net))
-
--- ---- one failure, and one more, as edits
-pub one_failed : (f : Failure) (net : Net) → effect (edit_of f) net ≡ failed (f ∷ []) net
-one_failed (Lan lan) net = refl
-one_failed (Bridge bridge) net = refl
-
-pub both_failed : (f g : Failure) (net : Net) → effect (edit_of g) (failed (f ∷ []) net) ≡ failed (f ∷ g ∷ []) net
-both_failed (Lan lan) (Lan other) net = refl
-both_failed (Lan lan) (Bridge bridge) net = refl
-both_failed (Bridge bridge) (Lan lan) net = refl
-both_failed (Bridge bridge) (Bridge other) net = refl

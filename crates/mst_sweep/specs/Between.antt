@@ -7,7 +7,8 @@ use Rattle.mst_vlan.specs.forest.Agrees.{AreOf}
 use Rattle.mst_vlan.specs.forest.Forest.{IsForest}
 use Rattle.mst_vlan.specs.forest.Outcome.{Outcome}
 use Rattle.mst_sweep.specs.CutClasses.{AreKeptAlone, kept_of}
-use Rattle.mst_sweep.specs.Pairs.{Pair, Outcomes, failed}
+use Rattle.mst_sweep.specs.Failures.{failed}
+use Rattle.mst_sweep.specs.Pairs.{Pair, Outcomes}
 use Rattle.mst_sweep.specs.declared.single.Single.{Single}
 
 -- it is so of all networks that these plans are of, with the numbers of their records and their settled outcomes

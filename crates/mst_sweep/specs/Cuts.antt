@@ -19,6 +19,8 @@ use Rattle.mst_graph.specs.Lists.{has_any}
 use Rattle.mst_sweep.specs.declared.cuts.CutBy.{CutBy}
 use Rattle.mst_sweep.specs.declared.cuts.CutBy.TheVariants.{One, Both, Step, Edits}
 use Rattle.mst_sweep.specs.declared.cuts.Cuts.{Cuts}
+use Rattle.mst_sweep.specs.declared.event.Cause.{Cause}
+use Rattle.mst_sweep.specs.declared.event.Cause.TheVariants as cause
 use Rattle.mst_sweep.specs.declared.failure.Failure.{Failure}
 use Rattle.mst_sweep.specs.declared.failure.Failure.TheVariants.{Lan, Bridge}
 use Rattle.mst_sweep.specs.Parts.{AreParts}
@@ -28,13 +30,18 @@ abbrev pub failing : Failure → Cell
 failing (Lan lan) = cell.failed_lan lan
 failing (Bridge bridge) = cell.failed_bridge bridge
 
+-- what an event is told by
+abbrev pub cause_cell : Cause → Cell
+cause_cell (cause.One failure) = failing failure
+cause_cell (cause.Risk name) = cell.failed_risk name
+
 -- VIDs, as their longest runs
 abbrev pub runs_of : List ℕ → List (ℕ × ℕ)
 runs_of vids = runs_from 0 (set_where (is_among vids))
 
 -- `cut VIDS parts P P ..`, of VIDs that have these parts: the record has what fails, or the number of the step, too
 abbrev pub cut_row : CutBy → List (ℕ × ℕ) → List (List (List ℕ)) → Row
-cut_row (One failure) runs parts = row_of (kind.Sweep line.Cut) (failing failure ∷ cell.vids runs ∷ cell.groups parts ∷ [])
+cut_row (One event) runs parts = row_of (kind.Sweep line.Cut) (cause_cell event ∷ cell.vids runs ∷ cell.groups parts ∷ [])
 cut_row (Both first second) runs parts = row_of (kind.Sweep line.CutByPair) (failing first ∷ failing second ∷ cell.vids runs ∷ cell.groups parts ∷ [])
 cut_row (Step step) runs parts = row_of (kind.Step step_line.Cut) (cell.number step ∷ cell.vids runs ∷ cell.groups parts ∷ [])
 cut_row Edits runs parts = row_of (kind.Advise advise_line.Cut) (cell.vids runs ∷ cell.groups parts ∷ [])
@@ -58,8 +65,8 @@ pub record AreCutsBy (HasParts : ℕ → List (List (List ℕ)) → Type 0) (by 
   pub are : rows ≡ flat_map (group_rows by parts) groups
 
 -- these are the VIDs that a change cuts, and these are their rows
-abbrev pub AreCuts : Net → Outcome → Net → Outcome → Failure → List ℕ → List Row → Type 0
-AreCuts a o b p failure vids rows = AreCutsBy (AreParts a o b p) (One failure) vids rows
+abbrev pub AreCuts : Net → Outcome → Net → Outcome → Cause → List ℕ → List Row → Type 0
+AreCuts a o b p event vids rows = AreCutsBy (AreParts a o b p) (One event) vids rows
 
 -- ---- as they are kept
 -- parts, by the names of their bridges

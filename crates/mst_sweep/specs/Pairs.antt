@@ -1,49 +1,25 @@
 -- What pairs of failures of a network do: the VIDs of which both together part bridges that either alone leaves joined.
-use Rattle.std.specs.Prelude.{◌≡◌, ℕ, ◌==◌, ◌&&◌, Bool, false, List, [], ◌∷◌, ◌++◌, length, map, filter_map, Option, Ok, if◌then◌else◌}
+use Rattle.std.specs.Prelude.{◌≡◌, ℕ, ◌==◌, ◌&&◌, Bool, false, List, [], ◌∷◌, ◌++◌, length, map, filter_map, Option, if◌then◌else◌}
 use Rattle.std.specs.List.{AllZip, position_from, range_with_len}
 use Rattle.std.specs.Option.{option_and_then, option_map, option_map_or}
-use Rattle.std.specs.FinMap as fin
-use Rattle.mst_ids.specs.Names.{name_cmp}
 use Rattle.mst_kinds.specs.declared.kind.Kind.TheVariants as kind
 use Rattle.mst_kinds.specs.declared.sweep_line.SweepLine.TheVariants as line
 use Rattle.mst_rows.specs.Cells as cell
 use Rattle.mst_rows.specs.Rows.{Row, row_of}
 use Rattle.mst_graph.specs.Islands.{Island}
-use Rattle.mst_lang.specs.declared.line.BridgeChange.TheVariants.{Power}
-use Rattle.mst_lang.specs.declared.line.LanChange.TheVariants.{State}
-use Rattle.mst_lang.specs.declared.line.Power.TheVariants.{Off}
-use Rattle.mst_lang.specs.declared.line.LanState.TheVariants.{Down}
-use Rattle.mst_net.specs.tables.After.{after, change, bridge_with, lan_with}
-use Rattle.mst_net.specs.tables.Tables.{Net, BridgeRow, LanRow}
+use Rattle.mst_net.specs.tables.Tables.{Net}
 use Rattle.mst_vlan.specs.forest.Outcome.{Outcome, IsOutcome}
 use Rattle.mst_vlan.specs.Reach.{AreIslandsOf}
 use Rattle.mst_view.specs.View.{bridge_names}
 use Rattle.mst_graph.specs.Lists.{has_any}
 use Rattle.mst_sweep.specs.declared.failure.Failure.{Failure}
-use Rattle.mst_sweep.specs.declared.failure.Failure.TheVariants.{Lan, Bridge}
-use Rattle.mst_sweep.specs.Failures.{edit_of, failures}
+use Rattle.mst_sweep.specs.Failures.{failed, failures}
 use Rattle.mst_sweep.specs.Parts.{home, all_parts}
 use Rattle.mst_sweep.specs.declared.parts.Stays.{Stays}
 use Rattle.mst_sweep.specs.declared.cuts.CutBy.TheVariants.{Both}
 use Rattle.mst_sweep.specs.Cuts.{AreCutsBy, failing, runs_of}
 use Rattle.mst_sweep.specs.SweepText.{Told, AreRowsOf}
 use Rattle.mst_sweep.specs.SweepParts.{PartOf, ToldOfPart, part_of}
-
--- ---- failures together
--- LANs of which those that fail are down, and bridges of which those that fail are off
-abbrev pub lans_failed : List Failure → fin.FinMap name_cmp LanRow → fin.FinMap name_cmp LanRow
-lans_failed [] lans = lans
-lans_failed (Lan lan ∷ others) lans = lans_failed others (change lans lan (lan_with (State Down)))
-lans_failed (Bridge bridge ∷ others) lans = lans_failed others lans
-
-abbrev pub bridges_failed : List Failure → fin.FinMap name_cmp BridgeRow → fin.FinMap name_cmp BridgeRow
-bridges_failed [] bridges = bridges
-bridges_failed (Lan lan ∷ others) bridges = bridges_failed others bridges
-bridges_failed (Bridge bridge ∷ others) bridges = bridges_failed others (change bridges bridge (bridge_with (Power Off)))
-
--- a network with these failures
-abbrev pub failed : List Failure → Net → Net
-failed all net = record net { lans = lans_failed all net.lans; bridges = bridges_failed all net.bridges }
 
 -- ---- pairs
 pub record Pair : Type 0 where
@@ -57,12 +33,6 @@ with_each first others = map (λ second. record { first = first; second = second
 abbrev pub pairs_of : List Failure → List Pair
 pairs_of [] = []
 pairs_of (first ∷ others) = with_each first others ++ pairs_of others
-
--- the networks of the one, of the other and of both failures are those that their edits make, of both one after the other
-pub record AreMade (net : Net) (pair : Pair) : Type 0 where
-  pub first : after (edit_of pair.first) net ≡ Ok (failed (pair.first ∷ []) net)
-  pub second : after (edit_of pair.second) net ≡ Ok (failed (pair.second ∷ []) net)
-  pub both : after (edit_of pair.second) (failed (pair.first ∷ []) net) ≡ Ok (failed (pair.first ∷ pair.second ∷ []) net)
 
 -- the settled outcomes of a network, of it with the one and with the other failure of a pair, and with both
 pub record Outcomes : Type 0 where

@@ -17,6 +17,7 @@ ghost use Rattle.mst_sweep.specs.Pairs.{pair_row, pair_rows, pairs_row, ArePairR
 use crate::baseline::{Baseline, first_vid, homes_before};
 use crate::breaking::{breaking, carriage_if_many};
 use crate::cuts::{CutBy, Cuts, cuts_of, homes_after, put_cuts};
+use crate::event::failure_value;
 use crate::failure::Failure;
 use crate::pairs::pairs;
 use crate::parts::all_parts;
@@ -150,15 +151,11 @@ fn put_pair_row<'a, R: Rows>(
     ensures { (grown : R) (rows : List Row) → R.grew grown out.old rows
         → OnOk result (R.grew grown out.new (rows ++ pair_row (record { first = first.now; second = second.now }) (runs_from 0 cut.now) ∷ [])) }
 {
-    let one = match first {
-        Failure::Lan(lan) => Value::FailedLan(lan),
-        Failure::Bridge(bridge) => Value::FailedBridge(bridge),
-    };
-    let other = match second {
-        Failure::Lan(lan) => Value::FailedLan(lan),
-        Failure::Bridge(bridge) => Value::FailedBridge(bridge),
-    };
-    let values = [one, other, Value::Vids(cut)];
+    let values = [
+        failure_value(first),
+        failure_value(second),
+        Value::Vids(cut),
+    ];
     put::<R>(Kind::Sweep(SweepLine::Pair), &values, out)
 }
 

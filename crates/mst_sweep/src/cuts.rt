@@ -15,7 +15,7 @@ ghost use Rattle.mst_sweep.specs.Parts.{AreParts};
 ghost use Rattle.mst_sweep.specs.Cuts.{cut_row, group_row, group_rows, names_of, parts_at as parts_of_vid, rows_of, AreCuts, AreCutsBy};
 ghost use Rattle.mst_sweep.specs.declared.cuts.CutBy.{CutBy as CutByOf};
 ghost use Rattle.mst_sweep.specs.declared.cuts.CutBy.TheVariants.{One as OneOf, Both as BothOf, Step as StepOf, Edits as EditsOf};
-ghost use Rattle.mst_sweep.specs.declared.failure.Failure.{Failure as FailureOf};
+ghost use Rattle.mst_sweep.specs.declared.event.Cause.{Cause as CauseOf};
 ghost use Rattle.mst_sweep.specs.CutClasses.{AreClasses};
 ghost use Rattle.mst_sweep.specs.Baseline.{AreHomes, IsBaseline};
 ghost use Rattle.mst_sweep.specs.Breaking.{HasNoParts, IsCarriageOf};
@@ -23,6 +23,7 @@ ghost use Rattle.mst_sweep.specs.Touched.{AreWhereTouched};
 
 use crate::baseline::{Baseline, first_vid, homes_before};
 use crate::breaking::{breaking, carriage_if_many};
+use crate::event::{Cause, cause_value, failure_value};
 use crate::failure::Failure;
 use crate::homes::{homes_by, homes_of};
 use crate::parts::{all_parts, staying};
@@ -39,8 +40,8 @@ use std::alloc::{AllocError, Global};
 /// What cuts VIDs.
 #[derive(Clone, Copy)]
 pub enum CutBy {
-    /// A failure.
-    One(Failure),
+    /// What fails at once, by what it is told by.
+    One(Cause),
     /// Two failures together.
     Both(Failure, Failure),
     /// The step of this number, of a change.
@@ -213,21 +214,17 @@ fn copies(alloc: Global, each: &[Vec<Vec<Name>>]) -> Result<Vec<Vec<Vec<Name>>>,
     Ok(copies)
 }
 
-/// Puts the row of VIDs that a failure cuts, with these parts.
+/// Puts the row of VIDs that an event cuts, with these parts.
 fn put_cut_by_one<'a, R: Rows>(
-    failure: &'a Failure,
+    cause: &'a Cause,
     vids: &'a VidSet,
     parts: &'a [Vec<Name>],
     out: &mut R,
 ) -> Result<(), AllocError>
     ensures { (first : R) (rows : List Row) → R.grew first out.old rows
-        → OnOk result (R.grew first out.new (rows ++ cut_row (OneOf failure.now) (runs_from 0 vids.now) (map (λ names. names.items) parts.now) ∷ [])) }
+        → OnOk result (R.grew first out.new (rows ++ cut_row (OneOf cause.now) (runs_from 0 vids.now) (map (λ names. names.items) parts.now) ∷ [])) }
 {
-    let failing = match failure {
-        Failure::Lan(lan) => Value::FailedLan(lan),
-        Failure::Bridge(bridge) => Value::FailedBridge(bridge),
-    };
-    let values = [failing, Value::Vids(vids), Value::Groups(parts)];
+    let values = [cause_value(cause), Value::Vids(vids), Value::Groups(parts)];
     put::<R>(Kind::Sweep(SweepLine::Cut), &values, out)
 }
 
@@ -242,15 +239,12 @@ fn put_cut_by_both<'a, R: Rows>(
     ensures { (grown : R) (rows : List Row) → R.grew grown out.old rows
         → OnOk result (R.grew grown out.new (rows ++ cut_row (BothOf first.now second.now) (runs_from 0 vids.now) (map (λ names. names.items) parts.now) ∷ [])) }
 {
-    let one = match first {
-        Failure::Lan(lan) => Value::FailedLan(lan),
-        Failure::Bridge(bridge) => Value::FailedBridge(bridge),
-    };
-    let other = match second {
-        Failure::Lan(lan) => Value::FailedLan(lan),
-        Failure::Bridge(bridge) => Value::FailedBridge(bridge),
-    };
-    let values = [one, other, Value::Vids(vids), Value::Groups(parts)];
+    let values = [
+        failure_value(first),
+        failure_value(second),
+        Value::Vids(vids),
+        Value::Groups(parts),
+    ];
     put::<R>(Kind::Sweep(SweepLine::CutByPair), &values, out)
 }
 
@@ -292,7 +286,7 @@ fn put_cut<R: Rows>(
         → OnOk result (R.grew first out.new (rows ++ cut_row by.now (runs_from 0 vids.now) (map (λ names. names.items) parts.now) ∷ [])) }
 {
     match by {
-        CutBy::One(failure) => put_cut_by_one(failure, vids, parts, out),
+        CutBy::One(cause) => put_cut_by_one(cause, vids, parts, out),
         CutBy::Both(first, second) => put_cut_by_both(first, second, vids, parts, out),
         CutBy::Step(step) => put_cut_by_step(*step, vids, parts, out),
         CutBy::Edits => put_cut_by_edits(vids, parts, out),
@@ -432,11 +426,11 @@ pub fn cuts_of(
     })
 }
 
-/// The VIDs that a failure cuts. `AllocError`: memory was wanted and refused.
+/// The VIDs that failures cut. `AllocError`: memory was wanted and refused.
 ///
 /// Islands are made once for VIDs that no table and no set of VLANs tells apart, and only where a link of a VID that joined
-/// bridges goes. A failure leaves tables and sets. `touched` are the places of the ports that have other roles.
-pub(crate) fn cuts_by_failure(
+/// bridges goes. Failures leave tables and sets. `touched` are the places of the ports that have other roles.
+pub(crate) fn cuts_by_failures(
     alloc: Global,
     old: &Planned,
     new: &Planned,
@@ -450,7 +444,7 @@ pub(crate) fn cuts_by_failure(
     requires baseline { IsBaseline old.now.view.now old.now.forest.now baseline.now }
     ensures numbered { IfOk result (λ cuts. NumberEach baseline.now.classes.numbers.items (vec_len cuts.parts)) }
     ensures cut { IfOk result (λ cuts. OfNetworks old.now new.now (λ a before b afterwards.
-        AreLeft a b → (failure : FailureOf) → AreCuts a before b afterwards failure cuts.vids.items (rows_of (OneOf failure) baseline.now.classes.numbers.items cuts))) }
+        AreLeft a b → (cause : CauseOf) → AreCuts a before b afterwards cause cuts.vids.items (rows_of (OneOf cause) baseline.now.classes.numbers.items cuts))) }
 {
     let parts = parts_of_firsts(alloc, old, new, baseline, both, touched)?;
     cuts_of(alloc, &baseline.classes, parts)

@@ -43,8 +43,8 @@ fn any_fails_lan(failures: &[Failure], name: &Name) -> bool
     failures.iter().any(|failure| fails_lan(failure, name))
 }
 
-/// Whether one of them is of this bridge.
-fn any_fails_bridge(failures: &[Failure], name: &Name) -> bool
+/// Whether one of these failures is of this bridge.
+pub fn any_fails_bridge(failures: &[Failure], name: &Name) -> bool
     ensures { result ≡ list_any (fails_bridge_of name.now) failures.now }
 {
     failures.iter().any(|failure| fails_bridge(failure, name))
@@ -80,7 +80,7 @@ fn down_if(lan: Lan, fails: bool) -> Lan
 
 impl Contents for Failing<'_> {
     ghost use Rattle.mst_net.specs.tables.Contents.{Tables};
-    ghost use Rattle.mst_sweep.specs.Pairs.{failed};
+    ghost use Rattle.mst_sweep.specs.Failures.{failed};
 
     ghost tables = { λ f. record { net = failed f.failures.now f.network.now.net; numbers = f.network.now.numbers } };
 

@@ -1,14 +1,12 @@
-ghost use Rattle.std.specs.Prelude.{◌≡◌, ◌≤◌, ◌<◌, ◌∷◌, Ok, length, slice_index_or};
+ghost use Rattle.std.specs.Prelude.{◌≡◌, ◌≤◌, ◌<◌, ◌∷◌, length, slice_index_or};
 ghost use Rattle.std.specs.List.{Contains, count_by};
 ghost use Rattle.mst_ids.specs.declared.name.PortName.{PortName};
-ghost use Rattle.mst_net.specs.tables.After.{after};
 ghost use Rattle.mst_vlan.specs.forest.Agrees.{Known};
 ghost use Rattle.mst_vlan.specs.forest.InUse.{AreInUse, seen_mstis};
 ghost use Rattle.mst_view.specs.View.{port_names};
 ghost use Rattle.mst_vlan.specs.roles.RoleNumbers.{role_number};
 ghost use Rattle.mst_sweep.specs.Between.{OfNetworks};
-ghost use Rattle.mst_sweep.specs.declared.failure.Failure.{Failure as FailureOf};
-ghost use Rattle.mst_sweep.specs.Failures.{edit_of};
+ghost use Rattle.mst_sweep.specs.Left.{AreLeft};
 ghost use Rattle.mst_sweep.specs.Moved.{takes_part as takes, is_other_role, port_moved as port_moved_in, moved_ports as all_moved_ports};
 ghost use Rattle.mst_sweep.specs.Seen.{seen_port_moved};
 ghost use Rattle.mst_sweep.specs.Touched.{AreTouched};
@@ -50,11 +48,11 @@ fn port_moved(
     changes_role(old_role, new_role)
 }
 
-/// Whether the port at a place has another role in a tree afterwards. A failure leaves all ports in their places.
+/// Whether the port at a place has another role in a tree afterwards. Failures leave all ports in their places.
 fn role_moved_at(old: &Planned, new: &Planned, tree: Tree, place: usize) -> bool
     requires { place < length old.now.view.now.ports }
-    ensures { (failure : FailureOf) → OfNetworks old.now new.now (λ a before b afterwards.
-        after (edit_of failure) a ≡ Ok b → (name : PortName) → slice_index_or (port_names a) place name ≡ name → result ≡ port_moved_in a before b afterwards tree name) }
+    ensures { OfNetworks old.now new.now (λ a before b afterwards.
+        AreLeft a b → (name : PortName) → slice_index_or (port_names a) place name ≡ name → result ≡ port_moved_in a before b afterwards tree name) }
 {
     let Some(afterwards) = new.view.ports().get(place) else {
         return false;
@@ -69,8 +67,8 @@ fn moved_at(old: &Planned, new: &Planned, tree: Tree, touched: &[bool], place: u
     requires tree { Contains (0 ∷ seen_mstis old.now.view.now) tree }
     requires as_long { length touched.now ≡ length old.now.view.now.ports }
     requires touched { AreTouched old.now.view.now old.now.forest.now new.now.view.now new.now.forest.now touched.now }
-    ensures { (failure : FailureOf) → OfNetworks old.now new.now (λ a before b afterwards.
-        after (edit_of failure) a ≡ Ok b → (name : PortName) → slice_index_or (port_names a) place name ≡ name → result ≡ port_moved_in a before b afterwards tree name) }
+    ensures { OfNetworks old.now new.now (λ a before b afterwards.
+        AreLeft a b → (name : PortName) → slice_index_or (port_names a) place name ≡ name → result ≡ port_moved_in a before b afterwards tree name) }
 {
     if touched[place] {
         role_moved_at(old, new, tree, place)
@@ -85,8 +83,8 @@ fn moved_in(old: &Planned, new: &Planned, tree: Tree, touched: &[bool]) -> u64
     requires as_long { length touched.now ≡ length old.now.view.now.ports }
     requires touched { AreTouched old.now.view.now old.now.forest.now new.now.view.now new.now.forest.now touched.now }
     ensures few { result ≤ length old.now.view.now.ports }
-    ensures moved { (failure : FailureOf) → OfNetworks old.now new.now (λ a before b afterwards.
-        after (edit_of failure) a ≡ Ok b → result ≡ count_by (port_moved_in a before b afterwards tree) (port_names a)) }
+    ensures moved { OfNetworks old.now new.now (λ a before b afterwards.
+        AreLeft a b → result ≡ count_by (port_moved_in a before b afterwards tree) (port_names a)) }
 {
     let mut count = 0;
     for place in 0..old.view.ports().len() {
@@ -110,8 +108,8 @@ fn moved_in_tree(
     requires as_long { length touched.now ≡ length old.now.view.now.ports }
     requires touched { AreTouched old.now.view.now old.now.forest.now new.now.view.now new.now.forest.now touched.now }
     ensures few { result ≤ 16384 }
-    ensures moved { (failure : FailureOf) → OfNetworks old.now new.now (λ a before b afterwards.
-        after (edit_of failure) a ≡ Ok b → result ≡ count_by (port_moved_in a before b afterwards tree) (port_names a)) }
+    ensures moved { OfNetworks old.now new.now (λ a before b afterwards.
+        AreLeft a b → result ≡ count_by (port_moved_in a before b afterwards tree) (port_names a)) }
 {
     if !is_had(used, tree) {
         return 0;
@@ -121,14 +119,14 @@ fn moved_in_tree(
     moved_in(old, new, tree, touched)
 }
 
-/// How many pairs of a tree and a logical port have another role after a failure, neither being Disabled.
+/// How many pairs of a tree and a logical port have another role after failures, neither being Disabled.
 ///
 /// For each tree that the old network has it goes over the flags of the ports that are touched, and takes no memory.
 pub(crate) fn moved_ports(old: &Planned, new: &Planned, touched: &[bool]) -> u64
     requires known { Known old.now.view.now old.now.forest.now.regions }
     requires as_long { length touched.now ≡ length old.now.view.now.ports }
     requires touched { AreTouched old.now.view.now old.now.forest.now new.now.view.now new.now.forest.now touched.now }
-    ensures { (failure : FailureOf) → OfNetworks old.now new.now (λ a before b afterwards. after (edit_of failure) a ≡ Ok b → result ≡ all_moved_ports a before b afterwards) }
+    ensures { OfNetworks old.now new.now (λ a before b afterwards. AreLeft a b → result ≡ all_moved_ports a before b afterwards) }
 {
     let used = trees_in_use(old.view);
     let mut count = 0;

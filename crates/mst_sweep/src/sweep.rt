@@ -1,95 +1,69 @@
-ghost use Rattle.std.specs.Prelude.{◌≡◌, ◌++◌, ◌∷◌, [], List, Ok, IfOk, OnOk};
+ghost use Rattle.std.specs.Prelude.{◌≡◌, ◌++◌, ◌∷◌, [], List, IfOk, OnOk};
 ghost use Rattle.std.specs.List.{count_by};
 ghost use Rattle.mst_ids.specs.Vids.{runs_from};
 ghost use Rattle.mst_rows.specs.Rows.{Row};
-ghost use Rattle.mst_net.specs.tables.After.{after};
 ghost use Rattle.mst_vlan.specs.forest.Agrees.{Known};
 ghost use Rattle.mst_sweep.specs.Between.{OfNetworks};
-ghost use Rattle.mst_sweep.specs.Failures.{edit_of};
+ghost use Rattle.mst_sweep.specs.Failures.{failed};
 ghost use Rattle.mst_sweep.specs.Baseline.{IsBaseline};
-ghost use Rattle.mst_sweep.specs.SweepText.{failure_row, AreFailureRows, is_lan as is_lan_of, is_bridge as is_bridge_of, sweep_row};
-ghost use Rattle.mst_sweep.specs.declared.failure.Failure.TheVariants.{Lan as LanOf, Bridge as BridgeOf};
+ghost use Rattle.mst_sweep.specs.SweepText.{event_line, event_row, AreEventRows, is_lan as is_lan_of, is_bridge as is_bridge_of, risks_row, sweep_row};
 
 use crate::baseline::Baseline;
 use crate::both_failed::are_some;
-use crate::cuts::{CutBy, cuts_by_failure, put_cuts};
+use crate::cuts::{CutBy, cuts_by_failures, put_cuts};
+use crate::event::{Cause, Event, cause_value};
 use crate::failure::Failure;
 use crate::pairs::pairs;
 use crate::ports::moved_ports;
 use crate::roots::moved_roots;
 use crate::touched::{places_of, touched};
 use mst_facts::Planned;
-use mst_ids::{Name, Tree, VidSet};
+use mst_ids::{Tree, VidSet};
 use mst_kinds::{Kind, SweepLine};
 use mst_rows::{Rows, Value, put};
 use mst_vlan::set_of;
 use std::alloc::{AllocError, Global};
 
-/// Puts the row of a LAN that fails.
-fn put_failed_lan<'a, R: Rows>(
-    lan: &'a Name,
-    roots: &'a [Tree],
-    ports: u64,
-    cut: &'a VidSet,
-    out: &mut R,
-) -> Result<(), AllocError>
-    ensures { (first : R) (rows : List Row) → R.grew first out.old rows → OnOk result (R.grew first out.new (rows ++ failure_row (LanOf lan.now) roots.now ports (runs_from 0 cut.now) ∷ [])) }
+/// The first word of the row of an event.
+fn line_of(cause: &Cause) -> SweepLine
+    ensures { result ≡ event_line cause.now }
 {
-    let values = [
-        Value::FailedLan(lan),
-        Value::Name(lan),
-        Value::Trees(roots),
-        Value::Number(ports),
-        Value::Vids(cut),
-    ];
-    put::<R>(Kind::Sweep(SweepLine::Lan), &values, out)
-}
-
-/// Puts the row of a bridge that fails.
-fn put_failed_bridge<'a, R: Rows>(
-    bridge: &'a Name,
-    roots: &'a [Tree],
-    ports: u64,
-    cut: &'a VidSet,
-    out: &mut R,
-) -> Result<(), AllocError>
-    ensures { (first : R) (rows : List Row) → R.grew first out.old rows → OnOk result (R.grew first out.new (rows ++ failure_row (BridgeOf bridge.now) roots.now ports (runs_from 0 cut.now) ∷ [])) }
-{
-    let values = [
-        Value::FailedBridge(bridge),
-        Value::Name(bridge),
-        Value::Trees(roots),
-        Value::Number(ports),
-        Value::Vids(cut),
-    ];
-    put::<R>(Kind::Sweep(SweepLine::Bridge), &values, out)
-}
-
-/// Puts the row of a failure.
-fn put_failed<R: Rows>(
-    failure: &Failure,
-    roots: &[Tree],
-    ports: u64,
-    cut: &VidSet,
-    out: &mut R,
-) -> Result<(), AllocError>
-    ensures { (first : R) (rows : List Row) → R.grew first out.old rows → OnOk result (R.grew first out.new (rows ++ failure_row failure.now roots.now ports (runs_from 0 cut.now) ∷ [])) }
-{
-    match failure {
-        Failure::Lan(lan) => put_failed_lan(lan, roots, ports, cut, out),
-        Failure::Bridge(bridge) => put_failed_bridge(bridge, roots, ports, cut, out),
+    match cause {
+        Cause::One(Failure::Lan(_)) => SweepLine::Lan,
+        Cause::One(Failure::Bridge(_)) => SweepLine::Bridge,
+        Cause::Risk(_) => SweepLine::Risk,
     }
 }
 
-/// Puts the rows of a failure: which trees' roots move, how many roles, and which VIDs are cut into which parts, and
+/// Puts the row of an event.
+fn put_event_row<'a, R: Rows>(
+    cause: &'a Cause,
+    roots: &'a [Tree],
+    ports: u64,
+    cut: &'a VidSet,
+    out: &mut R,
+) -> Result<(), AllocError>
+    ensures { (first : R) (rows : List Row) → R.grew first out.old rows → OnOk result (R.grew first out.new (rows ++ event_row cause.now roots.now ports (runs_from 0 cut.now) ∷ [])) }
+{
+    let values = [
+        cause_value(cause),
+        Value::Name(cause.name()),
+        Value::Trees(roots),
+        Value::Number(ports),
+        Value::Vids(cut),
+    ];
+    put::<R>(Kind::Sweep(line_of(cause)), &values, out)
+}
+
+/// Puts the rows of an event: which trees' roots move, how many roles, and which VIDs are cut into which parts, and
 /// answers whether it cuts some. `old` is the plan of the network with what stays the same for all its failures, `new` the
-/// plan of the network that failed. `AllocError`: memory was wanted and refused; some of the rows may have been put.
+/// plan of the network with all failures of the event. `AllocError`: memory was wanted and refused; some of the rows may have been put.
 ///
 /// It looks at the roles of each logical port once for each tree, and makes islands once for each class of VIDs of which a link
 /// that joined bridges goes.
-pub fn put_failure<R: Rows>(
+pub fn put_event<R: Rows>(
     alloc: Global,
-    failure: &Failure,
+    event: &Event,
     old: &Planned,
     baseline: &Baseline,
     new: &Planned,
@@ -99,8 +73,8 @@ pub fn put_failure<R: Rows>(
     requires new { Known new.now.view.now new.now.forest.now.regions }
     requires baseline { IsBaseline old.now.view.now old.now.forest.now baseline.now }
     ensures { IfOk result (λ cuts. OfNetworks old.now new.now (λ a before b afterwards.
-        after (edit_of failure.now) a ≡ Ok b → (failed : List Row) × AreFailureRows a before b afterwards failure.now failed cuts
-        × ((first : R) (rows : List Row) → R.grew first out.old rows → R.grew first out.new (rows ++ failed)))) }
+        failed event.now.failures a ≡ b → (own : List Row) × AreEventRows a before b afterwards event.now.cause own cuts
+        × ((first : R) (rows : List Row) → R.grew first out.old rows → R.grew first out.new (rows ++ own)))) }
 {
     let both = pairs(alloc, old, new)?;
     let roots = moved_roots(alloc, old, new, both.as_slice())?;
@@ -109,10 +83,11 @@ pub fn put_failure<R: Rows>(
     let places = places_of(alloc, touched)?;
     let ports = moved_ports(old, new, touched);
     let where_touched = places.as_slice();
-    let cuts = cuts_by_failure(alloc, old, new, baseline, both.as_slice(), where_touched)?;
+    let cuts = cuts_by_failures(alloc, old, new, baseline, both.as_slice(), where_touched)?;
     let vids = cuts.vids.as_slice();
-    put_failed(failure, roots.as_slice(), ports, &set_of(vids), out)?;
-    put_cuts(&CutBy::One(*failure), &baseline.classes, &cuts, out)?;
+    let cause = event.cause();
+    put_event_row(cause, roots.as_slice(), ports, &set_of(vids), out)?;
+    put_cuts(&CutBy::One(*cause), &baseline.classes, &cuts, out)?;
     Ok(are_some(vids))
 }
 
@@ -148,4 +123,13 @@ pub fn put_last<R: Rows>(failures: &[Failure], cuts: u64, out: &mut R) -> Result
         Value::Number(cuts),
     ];
     put::<R>(Kind::Sweep(SweepLine::Counts), &values, out)
+}
+
+/// Puts the last row of a sweep through risks: how many there are, and how many of them cut some VID. `AllocError`: memory was wanted
+/// and refused; part of the row may have been put.
+pub fn put_last_risk<R: Rows>(risks: &[Event], cuts: u64, out: &mut R) -> Result<(), AllocError>
+    ensures { (first : R) (rows : List Row) → R.grew first out.old rows → OnOk result (R.grew first out.new (rows ++ risks_row risks.now cuts ∷ [])) }
+{
+    let values = [Value::Number(risks.len() as u64), Value::Number(cuts)];
+    put::<R>(Kind::Sweep(SweepLine::RiskCounts), &values, out)
 }

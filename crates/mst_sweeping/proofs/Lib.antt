@@ -2,6 +2,7 @@ pub use Rattle.mst_sweep.proofs as sweep_lemmas
 pub mod Swept
 pub mod SweptParts
 pub mod SweepThere
+mod OneRisks
 pub mod WithFailures
 pub mod Paired
 pub mod OnNamed

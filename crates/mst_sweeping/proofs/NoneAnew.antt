@@ -1,5 +1,5 @@
 -- A failure starts no port anew.
-use Rattle.std.proofs.Common.{◌≡◌, ℕ, ◌==◌, ◌&&◌, ◌||◌, not, nat_eq, Bool, true, false, cond, List, [], ◌∷◌, map, Option, Some, None, Ok, refl, sym, ap, ◌∙◌, eq-eqb}
+use Rattle.std.proofs.Common.{◌≡◌, ℕ, ◌==◌, ◌&&◌, ◌||◌, not, nat_eq, Bool, true, false, cond, List, [], ◌∷◌, map, Option, Some, None, refl, sym, ap, ◌∙◌, eq-eqb}
 use Rattle.std.specs.Prelude.{if◌then◌else◌}
 use Rattle.std.specs.Cmp.Lexicographic.{pointwise, bytes_decides}
 use Rattle.std.specs.FinMap as fin
@@ -8,7 +8,7 @@ use Rattle.std.specs.Option.{option_and_then, option_map, option_map_or}
 use Rattle.mst_ids.specs.declared.name.PortName.{PortName}
 use Rattle.mst_lang.specs.declared.line.BridgeChange.TheVariants.{Power}
 use Rattle.mst_lang.specs.declared.line.Power.TheVariants.{Off}
-use Rattle.mst_net.specs.tables.After.{after, effect, bridge_with, table_of}
+use Rattle.mst_net.specs.tables.After.{effect, bridge_with, table_of}
 use Rattle.mst_net.specs.tables.Tables.{Net, BridgeRow, PortRow, port_eq}
 use Rattle.mst_net.proofs.tables_lemmas.Changed.{get_changed}
 use Rattle.mst_net.proofs.tables_lemmas.Keys.{names}
@@ -16,10 +16,9 @@ use Rattle.mst_view.specs.Aggregation.{same_name}
 use Rattle.mst_view.specs.View.{LogicalPort, view_ports, bridge_names}
 use Rattle.mst_plan.proofs.forest_lemmas.Entries.{all_weaker}
 use Rattle.mst_plan.proofs.forest_lemmas.Lists.{all_there}
-use Rattle.mst_sweep.specs.Failures.{edit_of}
+use Rattle.mst_sweep.specs.Failures.{edit_of, failed}
 use Rattle.mst_sweep.specs.declared.failure.Failure.{Failure}
 use Rattle.mst_sweep.specs.declared.failure.Failure.TheVariants.{Lan, Bridge}
-use Rattle.mst_sweep.proofs.Failed.{made}
 use Rattle.mst_sweeping.specs.Restarts.{is_as_it_was, starts_anew, bridges_anew, is_replugged, own_lan, port_anew, restarts, restarting}
 
 -- ---- bridges
@@ -99,7 +98,11 @@ ports_stay : (failure : Failure) (a : Net) (port : PortName) → is_replugged a 
 ports_stay (Lan lan) a port = own_plug_stays a (effect (edit_of (Lan lan)) a) port refl
 ports_stay (Bridge bridge) a port = own_plug_stays a (effect (edit_of (Bridge bridge)) a) port refl
 
-pub none_restarts : (failure : Failure) (a b : Net) → after (edit_of failure) a ≡ Ok b → restarting a b ≡ []
+by_edit : (failure : Failure) (a : Net) → effect (edit_of failure) a ≡ failed (failure ∷ []) a
+by_edit (Lan lan) a = refl
+by_edit (Bridge bridge) a = refl
+
+pub none_restarts : (failure : Failure) (a b : Net) → failed (failure ∷ []) a ≡ b → restarting a b ≡ []
 none_restarts failure a b e =
-    no_ports a b (λ name. ap (λ n. starts_anew a n name) (sym (made (edit_of failure) a b e)) ∙ stays failure a name)
-    (λ port. ap (λ n. is_replugged a n port) (sym (made (edit_of failure) a b e)) ∙ ports_stay failure a port)
+    let made = sym (by_edit failure a ∙ e) in
+    no_ports a b (λ name. ap (λ n. starts_anew a n name) made ∙ stays failure a name) (λ port. ap (λ n. is_replugged a n port) made ∙ ports_stay failure a port)

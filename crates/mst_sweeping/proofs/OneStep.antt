@@ -14,11 +14,12 @@ use Rattle.mst_plan.proofs.forest_lemmas.Looking.{filter_alike}
 use Rattle.mst_sweep.proofs.vlan_lemmas.classes_lemmas.VidPlaces.{is_vid_there, OneGrouping}
 use Rattle.mst_sweep.proofs.vlan_lemmas.OneList.{OneList}
 use Rattle.mst_sweep.specs.declared.cuts.CutBy.TheVariants as by
+use Rattle.mst_sweep.specs.declared.event.Cause.TheVariants.{One}
 use Rattle.mst_sweep.specs.declared.failure.Failure.{Failure}
 use Rattle.mst_sweep.specs.Cuts.{group_rows, runs_of, AreCutsBy}
 use Rattle.mst_sweep.specs.Moved.{moved_roots, moved_ports}
 use Rattle.mst_sweep.specs.Parts.{AreParts}
-use Rattle.mst_sweep.specs.SweepText.{failure_row, AreFailureRows}
+use Rattle.mst_sweep.specs.SweepText.{event_row, AreEventRows}
 use Rattle.mst_sweep.proofs.CutsBy.{one_list, one_cut}
 use Rattle.mst_sweep.proofs.OneSweep.{one_parts}
 use Rattle.mst_sweeping.specs.declared.step.Deed.{Deed}
@@ -82,9 +83,9 @@ module _ (a b : Net) (o p : Outcome) (one : OneList) (grouping : OneGrouping) wh
         λ i. record { moves = moves i; cuts = cuts i }
 
   -- ---- beside a failure
-  module _ (step : Deed) (failure : Failure) (rows failed : List Row) (told : Stepped) (cuts : Bool) (none : restarting a b ≡ []) (x : AreStepRows [] a o b p step rows told) (y : AreFailureRows a o b p failure failed cuts) where
+  module _ (step : Deed) (failure : Failure) (rows swept : List Row) (told : Stepped) (cuts : Bool) (none : restarting a b ≡ []) (x : AreStepRows [] a o b p step rows told) (y : AreEventRows a o b p (One failure) swept cuts) where
     -- the VIDs that the step cuts are cut by the failure, into the same parts
-    by_failure : AreCutsBy (AreParts a o b p) (by.One failure) x.cut (flat_map (group_rows (by.One failure) x.are_cut.parts) x.are_cut.groups)
+    by_failure : AreCutsBy (AreParts a o b p) (by.One (One failure)) x.cut (flat_map (group_rows (by.One (One failure)) x.are_cut.parts) x.are_cut.groups)
     by_failure = record {
       parts = x.are_cut.parts;
       are_parts = λ vid v. parts_for_all [] a b o p vid (x.are_cut.parts vid) refl (x.are_cut.are_parts vid v);
@@ -95,12 +96,12 @@ module _ (a b : Net) (o p : Outcome) (one : OneList) (grouping : OneGrouping) wh
     }
 
     same_cut : x.cut ≡ y.vids
-    same_cut = one_cut (AreParts a o b p) (one_parts a b o p one) grouping (by.One failure) x.cut y.vids (flat_map (group_rows (by.One failure) x.are_cut.parts) x.are_cut.groups) y.cut by_failure y.are_cuts
+    same_cut = one_cut (AreParts a o b p) (one_parts a b o p one) grouping (by.One (One failure)) x.cut y.vids (flat_map (group_rows (by.One (One failure)) x.are_cut.parts) x.are_cut.groups) y.cut by_failure y.are_cuts
 
-    same_rows : flat_map (group_rows (by.One failure) x.are_cut.parts) x.are_cut.groups ≡ y.cut
-    same_rows = one_list (AreParts a o b p) (one_parts a b o p one) grouping (by.One failure) x.cut y.vids (flat_map (group_rows (by.One failure) x.are_cut.parts) x.are_cut.groups) y.cut by_failure y.are_cuts
+    same_rows : flat_map (group_rows (by.One (One failure)) x.are_cut.parts) x.are_cut.groups ≡ y.cut
+    same_rows = one_list (AreParts a o b p) (one_parts a b o p one) grouping (by.One (One failure)) x.cut y.vids (flat_map (group_rows (by.One (One failure)) x.are_cut.parts) x.are_cut.groups) y.cut by_failure y.are_cuts
 
-    pub as_failure : IsAsInSweep step failure rows told failed cuts
+    pub as_failure : IsAsInSweep step failure rows told swept cuts
     as_failure = record {
       roots = moved_roots a o b p;
       ports = moved_ports a o b p;
@@ -116,6 +117,6 @@ module _ (a b : Net) (o p : Outcome) (one : OneList) (grouping : OneGrouping) wh
           ((λ i. x.are_cut.are i ++ rows_behind step (turning a o b p) (none i))
           ∙ ap (λ none. flat_map (group_rows (cut_by step) x.are_cut.parts) x.are_cut.groups ++ (turn_rows step (turning a o b p) ++ none)) (no_restarts step)
           ∙ ap (λ turns. flat_map (group_rows (cut_by step) x.are_cut.parts) x.are_cut.groups ++ turns) (append-nil (turn_rows step (turning a o b p))));
-      of_failure = y.are ∙ (λ i. failure_row failure (moved_roots a o b p) (moved_ports a o b p) (runs_of (sym same_cut i)) ∷ sym same_rows i);
+      of_failure = y.are ∙ (λ i. event_row (One failure) (moved_roots a o b p) (moved_ports a o b p) (runs_of (sym same_cut i)) ∷ sym same_rows i);
       both_cut = x.cuts ∙ ap has_any same_cut ∙ sym y.some;
     }

@@ -1,5 +1,5 @@
 -- What failures one after another do.
-use Rattle.std.proofs.Common.{◌≡◌, ℕ, ◌+◌, ◌≤◌, Bool, true, false, cond, List, [], ◌∷◌, ◌++◌, Result, Ok, Err, IfOk, refl, sym, subst, ◌∙◌, append-nil, append_assoc, arith}
+use Rattle.std.proofs.Common.{◌≡◌, ℕ, ◌+◌, ◌≤◌, Bool, true, false, cond, List, [], ◌∷◌, ◌++◌, map, Result, Ok, Err, IfOk, refl, sym, subst, ◌∙◌, append-nil, append_assoc, arith}
 use Rattle.std.specs.List.{AllZip}
 use Rattle.std.proofs.lemmas.Grind.{flat_map-append}
 use Rattle.std.proofs.lemmas.List.Sums.{sum_by-append}
@@ -53,6 +53,16 @@ module _ {A : Type 0} (Tells : A → Told → Type 0) where
     counted = are.counted;
     is = λ i. are.is i ++ last (e i) cuts ∷ [];
   }
+
+-- what is told of what a function makes of things is told of these
+zip_made : {A B C : Type 0} (R : B → C → Type 0) (f : A → B) (xs : List A) (ys : List C) → AllZip R (map f xs) ys → AllZip (λ x. R (f x)) xs ys
+zip_made R f [] [] h = h
+zip_made R f [] (y ∷ ys) h = h
+zip_made R f (x ∷ xs) [] h = h
+zip_made R f (x ∷ xs) (y ∷ ys) h = (h.0, zip_made R f xs ys h.1)
+
+pub told_made : {A B : Type 0} (Tells : B → Told → Type 0) (f : A → B) (xs : List A) (cuts : ℕ) (rows : List Row) → AreToldBy Tells (map f xs) cuts rows → AreToldBy (λ x. Tells (f x)) xs cuts rows
+told_made Tells f xs cuts rows are = record { told = are.told; each = zip_made Tells f xs are.told are.each; counted = are.counted; is = are.is }
 
 -- ---- rows that are put
 module _ {P : Type 0} (grew : P → P → List Row → Type 0) where

@@ -8,8 +8,8 @@ use Rattle.mst_sweep.specs.declared.baseline.Baseline.{Baseline}
 use Rattle.mst_sweep.specs.Baseline.{IsBaseline}
 use Rattle.mst_sweep.specs.CutClasses.{AreKeptAlone, kept_of}
 use Rattle.mst_sweep.specs.declared.failure.Failure.{Failure}
-use Rattle.mst_sweep.specs.Failures.{failures}
-use Rattle.mst_sweep.specs.Pairs.{Pair, IsPairTold, IsPairsPart, failed}
+use Rattle.mst_sweep.specs.Failures.{failed, failures}
+use Rattle.mst_sweep.specs.Pairs.{Pair, IsPairTold, IsPairsPart}
 use Rattle.mst_sweep.specs.SweepParts.{PartOf, ToldOfPart}
 use Rattle.mst_sweep.specs.declared.single.Single.{Single}
 use Rattle.mst_plan.specs.Plan.{IsPlan}

@@ -12,10 +12,11 @@ use Rattle.mst_plan.specs.forest.Outcome.{Outcome}
 use Rattle.mst_graph.specs.Lists.{has_any}
 use Rattle.mst_sweep.specs.declared.cuts.CutBy.{CutBy}
 use Rattle.mst_sweep.specs.declared.cuts.CutBy.TheVariants as by
+use Rattle.mst_sweep.specs.declared.event.Cause.TheVariants.{One}
 use Rattle.mst_sweep.specs.declared.failure.Failure.{Failure}
 use Rattle.mst_sweep.specs.Cuts.{AreCutsBy, group_rows, runs_of}
 use Rattle.mst_sweep.specs.Moved.{moved_roots, moved_ports}
-use Rattle.mst_sweep.specs.SweepText.{failure_row}
+use Rattle.mst_sweep.specs.SweepText.{event_row}
 use Rattle.mst_policy.specs.Leaving.{Leaving}
 use Rattle.mst_sweeping.specs.MovedVids.{ArePartsBut, AreVidsWhere, IsJoinedBut, IsMoved}
 use Rattle.mst_sweeping.specs.Restarts.{restarting}
@@ -99,5 +100,5 @@ pub record IsAsInSweep (step : Deed) (failure : Failure) (rows : List Row) (told
   pub groups : List (List ℕ)
   pub turning : List (ℕ × List (List ℕ))
   pub of_step : rows ≡ deed_row step roots ports moved cut joined ∷ flat_map (group_rows (cut_by step) parts) groups ++ turn_rows step turning
-  pub of_failure : failed ≡ failure_row failure roots ports cut ∷ flat_map (group_rows (by.One failure) parts) groups
+  pub of_failure : failed ≡ event_row (One failure) roots ports cut ∷ flat_map (group_rows (by.One (One failure)) parts) groups
   pub both_cut : told.cuts ≡ cuts

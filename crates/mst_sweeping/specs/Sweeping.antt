@@ -1,14 +1,12 @@
--- What each single failure of a network does.
-use Rattle.std.specs.Prelude.{◌≡◌, ◌++◌, ℕ, List, [], ◌∷◌, Ok}
+-- What each single failure of a network does, and each risk.
+use Rattle.std.specs.Prelude.{◌≡◌, ◌++◌, ℕ, List}
 use Rattle.std.specs.List.{AllZip, count_by, flat_map, range_with_len}
-use Rattle.mst_net.specs.tables.After.{after}
 use Rattle.mst_net.specs.tables.Tables.{Net, Numbers}
 use Rattle.mst_rows.specs.Rows.{Row}
 use Rattle.mst_plan.specs.forest.Outcome.{Outcome, IsOutcome}
 use Rattle.mst_sweep.specs.declared.failure.Failure.{Failure}
-use Rattle.mst_sweep.specs.Failures.{edit_of}
-use Rattle.mst_sweep.specs.Pairs.{failed}
-use Rattle.mst_sweep.specs.SweepText.{Told, IsTold, IsSweep}
+use Rattle.mst_sweep.specs.Failures.{Event}
+use Rattle.mst_sweep.specs.SweepText.{Told, IsTold, IsRiskSweep, IsSweep}
 use Rattle.mst_sweep.specs.SweepParts.{PartOf, ToldOfPart, IsSweepPart}
 use Rattle.mst_sweep.specs.declared.failure.Failure.TheVariants.{Lan, Bridge}
 use Rattle.mst_view.specs.Viewed.{Viewed}
@@ -38,17 +36,19 @@ pub record AreToldBy {A : Type 0} (Tells : A → Told → Type 0) (things : List
   pub counted : cuts ≡ count_by (λ t. t.cuts) told
   pub is : rows ≡ flat_map (λ t. t.rows) told
 
--- so do these failures
-abbrev pub AreTold : Net → Outcome → List Failure → ℕ → List Row → Type 0
-AreTold net o failures cuts rows = AreToldBy (IsTold net o) failures cuts rows
+-- so do these events
+abbrev pub AreTold : Net → Outcome → List Event → ℕ → List Row → Type 0
+AreTold net o events cuts rows = AreToldBy (IsTold net o) events cuts rows
+
+-- these are the rows of what each of these risks does, with a last one that counts them, and this is the number of those that cut some VID
+pub record SweepsRisks (net : Net) (risks : List Event) (cuts : ℕ) (rows : List Row) : Type 0 where
+  pub outcome : Outcome
+  pub is_outcome : IsOutcome net outcome
+  pub told : IsRiskSweep net outcome risks rows cuts
 
 -- by what a printer tells of its rows: whatever rows were put into the old one, with these behind them they are in the one now
 abbrev pub Puts : {P : Type 0} → (P → P → List Row → Type 0) → P → P → List Row → Type 0
 Puts {P} grew old now rows = (first : P) (before : List Row) → grew first old before → grew first now (before ++ rows)
-
--- nothing refuses the edit of a failure: it makes the network with it
-abbrev pub CanFail : Net → Failure → Type 0
-CanFail net failure = after (edit_of failure) net ≡ Ok (failed (failure ∷ []) net)
 
 -- it is the view of a network that differs from this one in what fails at most
 abbrev pub IsViewBut : Failure → Net → Numbers → Viewed → Type 0

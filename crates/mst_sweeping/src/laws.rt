@@ -1,5 +1,5 @@
 //! Laws of what failures do. Their functions do nothing: a caller has their clauses.
-ghost use Rattle.std.specs.Prelude.{◌≡◌, ◌↔◌, ◌≤◌, ℕ, List, [], Bool, true, false, Ok};
+ghost use Rattle.std.specs.Prelude.{◌≡◌, ◌↔◌, ◌≤◌, ◌∷◌, ℕ, List, [], Bool, true, false};
 ghost use Rattle.std.specs.List.{flat_map, sum_by, Contains};
 ghost use Rattle.mst_net.specs.tables.Tables.{Net, IsNetwork};
 ghost use Rattle.mst_rows.specs.Rows.{Row};
@@ -7,14 +7,14 @@ ghost use Rattle.mst_view.specs.View.{bridge_names};
 ghost use Rattle.mst_graph.specs.Lists.{has_any};
 ghost use Rattle.mst_policy.specs.Leaving.{are_left, Leaving as LeavingOf};
 ghost use Rattle.mst_sweeping.specs.Pairing.{SweepsPairs, SweepPairsParts};
-ghost use Rattle.mst_sweeping.specs.Sweeping.{Sweeps, SweepsPart, SweepParts};
+ghost use Rattle.mst_sweeping.specs.Sweeping.{Sweeps, SweepsPart, SweepParts, SweepsRisks};
 ghost use Rattle.mst_sweep.specs.SweepParts.{PartOf, ToldOfPart, whole_part, but_last_row};
-ghost use Rattle.mst_net.specs.tables.After.{after};
 ghost use Rattle.mst_plan.specs.forest.Outcome.{Outcome, IsOutcome};
-ghost use Rattle.mst_sweep.specs.Failures.{edit_of};
+ghost use Rattle.mst_sweep.specs.Failures.{Event as EventOf, failed};
+ghost use Rattle.mst_sweep.specs.declared.event.Cause.TheVariants.{One};
 ghost use Rattle.mst_sweep.specs.declared.failure.Failure.{Failure as FailureOf};
 ghost use Rattle.mst_sweep.specs.Parts.{AreParts};
-ghost use Rattle.mst_sweep.specs.SweepText.{AreFailureRows};
+ghost use Rattle.mst_sweep.specs.SweepText.{AreEventRows};
 ghost use Rattle.mst_sweeping.specs.MovedVids.{ArePartsBut};
 ghost use Rattle.mst_ids.specs.declared.name.PortName.{PortName as PortNameOf};
 ghost use Rattle.mst_sweeping.specs.Restarts.{IsLeftAlone, IsPluggedOver, restarting};
@@ -26,7 +26,7 @@ ghost use Rattle.mst_sweeping.specs.declared.step.Stepped.{Stepped as SteppedOf}
 use mst_graph::laws::group_lists;
 use mst_ids::Vid;
 use mst_plan::forest_laws::{has_outcome, one_outcome};
-use mst_sweep::laws::one_failure;
+use mst_sweep::laws::one_event;
 use mst_sweep::vlan_laws::islands_of_vid;
 
 /// Each network has rows of what each single failure does, and one list of them and one number of those that cut some VID.
@@ -35,7 +35,7 @@ pub fn one_sweep()
     ensures one { (net : Net) (rows other : List Row) (c d : ℕ) → IsNetwork net → Sweeps net c rows → Sweeps net d other → (rows ≡ other) × (c ≡ d) }
 {
     has_outcome();
-    one_failure();
+    one_event();
     mst_sweep::laws::one_sweep();
 }
 
@@ -51,7 +51,7 @@ pub fn sweep_parts()
 {
     has_outcome();
     one_outcome();
-    one_failure();
+    one_event();
     mst_sweep::laws::sweep_parts();
 }
 
@@ -65,6 +65,15 @@ pub fn pair_parts()
 {
     one_outcome();
     mst_sweep::laws::pairs();
+}
+
+/// A sweep through risks has rows and a number of those that cut some VID, and one of each, whatever the risks are called.
+pub fn one_risk_sweep()
+    ensures some { (net : Net) (risks : List EventOf) → IsNetwork net → (cuts : ℕ) × (rows : List Row) × SweepsRisks net risks cuts rows }
+    ensures one { (net : Net) (risks : List EventOf) (rows other : List Row) (c d : ℕ) → IsNetwork net → SweepsRisks net risks c rows → SweepsRisks net risks d other → (rows ≡ other) × (c ≡ d) }
+{
+    has_outcome();
+    one_event();
 }
 
 /// A step has one list of rows, whichever settled outcomes it is made by, and moves some VID by each or by none, and cuts some by each or by
@@ -99,8 +108,8 @@ pub fn parts_without_leaving()
 /// Where a failure makes the one network of the other and nothing is meant to leave, a step that does the same tells the same roots, number of ports and VIDs that are cut
 /// as the failure in a sweep does, and these VIDs have the same parts; behind these it tells the bridges that turn, and nothing else.
 pub fn as_in_sweep()
-    ensures { (a b : Net) (o p q r : Outcome) (failure : FailureOf) → IsNetwork a → IsNetwork b → IsOutcome a o → IsOutcome b p → IsOutcome a q → IsOutcome b r → after (edit_of failure) a ≡ Ok b
-        → (step : DeedOf) (rows failed : List Row) (told : SteppedOf) (cuts : Bool) → AreStepRows [] a o b p step rows told → AreFailureRows a q b r failure failed cuts → IsAsInSweep step failure rows told failed cuts }
+    ensures { (a b : Net) (o p q r : Outcome) (failure : FailureOf) → IsNetwork a → IsNetwork b → IsOutcome a o → IsOutcome b p → IsOutcome a q → IsOutcome b r → failed (failure ∷ []) a ≡ b
+        → (step : DeedOf) (rows swept : List Row) (told : SteppedOf) (cuts : Bool) → AreStepRows [] a o b p step rows told → AreEventRows a q b r (One failure) swept cuts → IsAsInSweep step failure rows told swept cuts }
 {
     one_outcome();
     islands_of_vid();

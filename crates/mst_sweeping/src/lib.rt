@@ -24,11 +24,11 @@ mod told;
 mod turns;
 
 pub use between::put_between;
-pub use failing::{trees_failed, without_failure};
+pub use failing::{trees_failed, without_failures};
 pub use links::Link;
 pub use mst_plan::{Plan, plan_beside, view};
-pub use mst_sweep::{Carriage, Failure, SweepPart, failures};
+pub use mst_sweep::{Carriage, Cause, Event, Failure, SweepPart, edits_of, failures};
 pub use pairing::sweep_pairs;
 pub use plugs::Plugs;
 pub use step::{Deed, PolicyCounts, Step, Stepped, Walked, put_last, put_step};
-pub use sweeping::sweep_network;
+pub use sweeping::{sweep_network, sweep_risks};

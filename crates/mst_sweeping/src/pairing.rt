@@ -7,9 +7,10 @@ ghost use Rattle.mst_sweeping.specs.Pairing.{SweepsPairs, AreSingles, HasHomes, 
 ghost use Rattle.mst_sweeping.specs.Sweeping.{Puts};
 ghost use Rattle.mst_rows.specs.Rows.{Row};
 ghost use Rattle.mst_sweep.specs.Baseline.{IsBaseline};
-ghost use Rattle.mst_sweep.specs.Pairs.{failed, with_each};
+ghost use Rattle.mst_sweep.specs.Failures.{failed};
+ghost use Rattle.mst_sweep.specs.Pairs.{with_each};
 
-use crate::failing::{renew, trees_ahead, trees_failed, without_failure};
+use crate::failing::{renew, trees_ahead, trees_failed, without_failures};
 use crate::sweeping::baseline_of;
 use mst_config::laws::regions_stay;
 use mst_net::Network;
@@ -21,6 +22,7 @@ use mst_sweep::{
 };
 use mst_view::View;
 use std::alloc::{AllocError, Global};
+use std::slice::from_ref;
 
 /// What pairs are looked at by: the network, its plan, and what each failure does alone.
 #[derive(Drop)]
@@ -97,7 +99,7 @@ fn single_of(
     ensures single { IfOk result (λ single. (is : IsForest network.now.net network.now.numbers plan.now.forest) → IsSingle network.now.net network.now.numbers is.outcome baseline.now single) }
     ensures seen { OnOk result (IsView network.now.net network.now.numbers seen.new) }
 {
-    let forest = trees_failed(alloc, network, plan, failure, seen)?;
+    let forest = trees_failed(alloc, network, plan, from_ref(failure), seen)?;
     let old = Planned {
         view: &plan.view,
         forest: &plan.forest,
@@ -107,7 +109,7 @@ fn single_of(
         forest: &forest,
     };
     let kept = kept_alone(alloc, failure, &old, baseline, &new)?;
-    without_failure(alloc, network, failure, seen)?;
+    without_failures(alloc, network, from_ref(failure), seen)?;
     Ok(kept)
 }
 
@@ -174,14 +176,20 @@ fn put_run<R: Rows>(
     if others.is_empty() {
         return Ok(0);
     }
-    let forest = trees_failed(alloc, pairing.network, pairing.plan, &one.failure, seen)?;
+    let forest = trees_failed(
+        alloc,
+        pairing.network,
+        pairing.plan,
+        from_ref(&one.failure),
+        seen,
+    )?;
     let mut cuts = 0;
     for other in others {
         if put_second(alloc, pairing, one, &forest, other, seen, out)? {
             cuts += 1;
         }
     }
-    without_failure(alloc, pairing.network, &one.failure, seen)?;
+    without_failures(alloc, pairing.network, from_ref(&one.failure), seen)?;
     Ok(cuts)
 }
 

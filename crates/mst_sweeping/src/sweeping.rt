@@ -1,19 +1,22 @@
-ghost use Rattle.std.specs.Prelude.{List, IfOk, OnOk};
-ghost use Rattle.std.specs.List.{AllByRecursion};
+ghost use Rattle.std.specs.Prelude.{◌≤◌, List, IfOk, OnOk, length, map};
 ghost use Rattle.mst_rows.specs.Rows.{Row};
 ghost use Rattle.mst_plan.specs.forest.Agrees.{Known};
 ghost use Rattle.mst_plan.specs.forest.Forest.{IsForest};
 ghost use Rattle.mst_sweep.specs.Baseline.{IsBaseline};
+ghost use Rattle.mst_sweep.specs.Failures.{alone};
 ghost use Rattle.mst_sweep.specs.SweepText.{IsTold};
 ghost use Rattle.mst_view.specs.Viewed.{IsView};
 ghost use Rattle.mst_plan.specs.Plan.{IsPlan};
-ghost use Rattle.mst_sweeping.specs.Sweeping.{SweepsPart, AreTold, CanFail, Puts};
+ghost use Rattle.mst_sweeping.specs.Sweeping.{SweepsPart, SweepsRisks, AreTold, Puts};
 
-use crate::failing::{trees_failed, without_failure};
+use crate::failing::{trees_failed, without_failures};
 use mst_net::Network;
 use mst_plan::{Plan, view};
 use mst_rows::Rows;
-use mst_sweep::{Baseline, Failure, Planned, SweepPart, failures, put_failure, put_last};
+use mst_sweep::{
+    Baseline, Event, Failure, Planned, SweepPart, events_of, failures, put_event, put_last,
+    put_last_risk,
+};
 use mst_view::View;
 use std::alloc::{AllocError, Global};
 
@@ -50,7 +53,7 @@ pub(crate) fn baseline_of(alloc: Global, plan: &Plan) -> Result<Baseline, AllocE
     Baseline::new(alloc, &planned)
 }
 
-/// Puts what each of these failures does, but for the last row, and answers how many of them cut some VID. The view is the
+/// Puts what each of these failures does alone, but for the last row, and answers how many of them cut some VID. The view is the
 /// network's.
 fn sweep_failures<R: Rows>(
     alloc: Global,
@@ -63,40 +66,60 @@ fn sweep_failures<R: Rows>(
 ) -> Result<u64, AllocError>
     requires of { IsPlan network.now.net network.now.numbers plan.now }
     requires baseline { IsBaseline plan.now.view plan.now.forest baseline.now }
-    requires failures { AllByRecursion (CanFail network.now.net) failures.now }
     requires seen { IsView network.now.net network.now.numbers seen.old }
     ensures { IfOk result (λ cuts. (is : IsForest network.now.net network.now.numbers plan.now.forest)
-        → (rows : List Row) × AreTold network.now.net is.outcome failures.now cuts rows × Puts R.grew out.old out.new rows) }
+        → (rows : List Row) × AreTold network.now.net is.outcome (map alone failures.now) cuts rows × Puts R.grew out.old out.new rows) }
+{
+    let events = events_of(alloc, failures)?;
+    sweep_events(alloc, network, plan, baseline, events.as_slice(), seen, out)
+}
+
+/// Puts what each of these events does, and answers how many of them cut some VID. The view is the network's, and stays so.
+fn sweep_events<R: Rows>(
+    alloc: Global,
+    network: &Network,
+    plan: &Plan,
+    baseline: &Baseline,
+    events: &[Event],
+    seen: &mut View,
+    out: &mut R,
+) -> Result<u64, AllocError>
+    requires of { IsPlan network.now.net network.now.numbers plan.now }
+    requires baseline { IsBaseline plan.now.view plan.now.forest baseline.now }
+    requires seen { IsView network.now.net network.now.numbers seen.old }
+    ensures told { IfOk result (λ cuts. (is : IsForest network.now.net network.now.numbers plan.now.forest)
+        → (rows : List Row) × AreTold network.now.net is.outcome events.now cuts rows × Puts R.grew out.old out.new rows) }
+    ensures few { IfOk result (λ cuts. cuts ≤ length events.now) }
+    ensures seen { OnOk result (IsView network.now.net network.now.numbers seen.new) }
 {
     let mut cuts = 0;
-    for failure in failures {
-        if put_failed(alloc, network, plan, baseline, failure, seen, out)? {
+    for event in events {
+        if put_failed(alloc, network, plan, baseline, event, seen, out)? {
             cuts += 1;
         }
     }
     Ok(cuts)
 }
 
-/// Puts what a failure does, and answers whether it cuts some VID. The view is the network's, and stays so: it is renewed for
-/// the failure, and then back.
+/// Puts what an event does, and answers whether it cuts some VID. The view is the network's, and stays so: it is renewed for
+/// the failures of the event, and then back.
 fn put_failed<R: Rows>(
     alloc: Global,
     network: &Network,
     plan: &Plan,
     baseline: &Baseline,
-    failure: &Failure,
+    event: &Event,
     seen: &mut View,
     out: &mut R,
 ) -> Result<bool, AllocError>
     requires of { IsPlan network.now.net network.now.numbers plan.now }
     requires baseline { IsBaseline plan.now.view plan.now.forest baseline.now }
-    requires failure { CanFail network.now.net failure.now }
     requires seen { IsView network.now.net network.now.numbers seen.old }
     ensures told { IfOk result (λ cuts. (is : IsForest network.now.net network.now.numbers plan.now.forest)
-        → (rows : List Row) × IsTold network.now.net is.outcome failure.now (record { rows = rows; cuts = cuts }) × Puts R.grew out.old out.new rows) }
+        → (rows : List Row) × IsTold network.now.net is.outcome event.now (record { rows = rows; cuts = cuts }) × Puts R.grew out.old out.new rows) }
     ensures seen { OnOk result (IsView network.now.net network.now.numbers seen.new) }
 {
-    let forest = trees_failed(alloc, network, plan, failure, seen)?;
+    let forest = trees_failed(alloc, network, plan, event.failures(), seen)?;
     let old = Planned {
         view: &plan.view,
         forest: &plan.forest,
@@ -105,7 +128,27 @@ fn put_failed<R: Rows>(
         view: seen,
         forest: &forest,
     };
-    let cuts = put_failure(alloc, failure, &old, baseline, &new, out)?;
-    without_failure(alloc, network, failure, seen)?;
+    let cuts = put_event(alloc, event, &old, baseline, &new, out)?;
+    without_failures(alloc, network, event.failures(), seen)?;
+    Ok(cuts)
+}
+
+/// Puts what each of these risks does to a network, by its plan, each as soon as it is known, and a last row that counts them, and answers
+/// how many of them cut some VID. `AllocError`: memory was wanted and refused; some of the rows may have been put.
+pub fn sweep_risks<R: Rows>(
+    alloc: Global,
+    network: &Network,
+    plan: &Plan,
+    risks: &[Event],
+    out: &mut R,
+) -> Result<u64, AllocError>
+    requires { IsPlan network.now.net network.now.numbers plan.now }
+    ensures told { IfOk result (λ cuts. (rows : List Row) × SweepsRisks network.now.net risks.now cuts rows × Puts R.grew out.old out.new rows) }
+    ensures few { IfOk result (λ cuts. cuts ≤ length risks.now) }
+{
+    let baseline = baseline_of(alloc, plan)?;
+    let mut seen = view(alloc, network)?;
+    let cuts = sweep_events(alloc, network, plan, &baseline, risks, &mut seen, out)?;
+    put_last_risk(risks, cuts, out)?;
     Ok(cuts)
 }

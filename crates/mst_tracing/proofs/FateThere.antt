@@ -1,34 +1,19 @@
 -- Something becomes of a path after each failure.
-use Rattle.std.proofs.Common.{◌≡◌, ◌≢◌, ◌⊎◌, inl, inr, ℕ, Bool, true, false, cond, List, [], ◌∷◌, ◌++◌, map, filter, Option, Some, None, refl}
-use Rattle.std.specs.List.{AllByRecursion, AllZip, flat_map, fold}
+use Rattle.std.proofs.Common.{inl, inr, ℕ, List, [], ◌∷◌, ◌++◌, map, Option, refl}
+use Rattle.std.specs.List.{AllZip, flat_map, fold}
 use Rattle.mst_net.specs.tables.Tables.{Net, IsNetwork}
-use Rattle.mst_path.specs.Paths.{Hop, IsPathOf, path_told}
+use Rattle.mst_path.specs.Paths.{Hop, IsPathOf}
 use Rattle.mst_path.specs.declared.trace.Trace.{Trace}
 use Rattle.mst_roles.specs.forest.Outcome.{Outcome, IsOutcome}
 use Rattle.mst_rows.specs.Rows.{Row}
-use Rattle.mst_sweeping.specs.Sweeping.{CanFail}
-use Rattle.mst_sweeping.specs.sweep.Failures.{failures}
-use Rattle.mst_sweeping.specs.sweep.Pairs.{failed}
+use Rattle.mst_sweeping.specs.sweep.Failures.{failures, failed}
 use Rattle.mst_sweeping.specs.sweep.declared.failure.Failure.{Failure}
-use Rattle.mst_sweeping.proofs.SweepThere.{can_fail}
 use Rattle.mst_sweeping.proofs.sweep_lemmas.Together.{failed_network}
 use Rattle.mst_tracing.specs.Fates.{AreFates, HasPathIn, IsFate, IsFateTold, Told, counted_with, counts_row, looked_at, none_counted}
 use Rattle.mst_tracing.specs.declared.always.Fate.{Fate}
 use Rattle.mst_tracing.specs.declared.always.Fates.{Fates}
 use Rattle.mst_tracing.proofs.Fated.{other_fate, same_fate}
 use Rattle.mst_tracing.proofs.OneFate.{told_or_not}
-
--- what holds of all holds of those that pass a test
-all_kept : (P : Failure → Type 0) (test : Failure → Bool) (those : List Failure) → AllByRecursion P those → AllByRecursion P (filter test those)
-all_kept P test [] h = tt
-all_kept P test (f ∷ fs) h = go (test f) (all_kept P test fs h.1)
-  where
-    go : (b : Bool) → AllByRecursion P (filter test fs) → AllByRecursion P (cond b (f ∷ filter test fs) (filter test fs))
-    go true rest = (h.0, rest)
-    go false rest = rest
-
-pub all_looked_at : (P : Failure → Type 0) (t : Trace) (those : List Failure) → AllByRecursion P those → AllByRecursion P (looked_at t those)
-all_looked_at P t those = all_kept P _ those
 
 abbrev pub HasOutcome : Type 0
 HasOutcome = (net : Net) → IsNetwork net → (o : Outcome) × IsOutcome net o
@@ -47,19 +32,19 @@ module _ (outcomes : HasOutcome) (paths : HasPath) where
     fate_there : (failure : Failure) (now : Option (List Hop)) → (fate : Fate) × (rows : List Row) × IsFate t failure before now fate rows
     fate_there failure now = elim (told_or_not before now) [ inl e ↦ (_, _, same_fate t failure before now e) | inr n ↦ (_, _, other_fate t failure before now n) ]
 
-    told_there : (those : List Failure) → AllByRecursion (CanFail net) those → (told : List Told) × AllZip (λ failure one. IsFateTold net t before failure one.fate one.rows) those told
-    told_there [] can = ([], tt)
-    told_there (f ∷ fs) can =
+    told_there : (those : List Failure) → (told : List Told) × AllZip (λ failure one. IsFateTold net t before failure one.fate one.rows) those told
+    told_there [] = ([], tt)
+    told_there (f ∷ fs) =
         let new : Net = failed (f ∷ []) net in
         let path = path_in new t (failed_network (f ∷ []) net is) in
         let fate = fate_there f path.0 in
-        let rest = told_there fs can.1 in (
+        let rest = told_there fs in (
           record { fate = fate.0; rows = fate.1 } ∷ rest.0,
-          (record { failed = new; made = can.0; path = path.0; has_path = path.1; told = fate.2 }, rest.1),
+          (record { path = path.0; has_path = path.1; told = fate.2 }, rest.1),
         )
 
     pub fates_there : (fates : Fates) × (rows : List Row) × AreFates net t before fates rows
     fates_there =
-        let told = told_there (looked_at t (failures net)) (all_looked_at (CanFail net) t (failures net) (can_fail net is)) in
+        let told = told_there (looked_at t (failures net)) in
         let fates : Fates = fold counted_with none_counted (map (λ (one : Told). one.fate) told.0) in
         (fates, flat_map (λ (one : Told). one.rows) told.0 ++ counts_row t fates ∷ [], record { told = told.0; each = told.1; counted = refl; are = refl })

@@ -1,19 +1,15 @@
 -- What becomes of a path after failures is one thing.
-use Rattle.std.proofs.Common.{◌≡◌, ◌≢◌, ◌⊎◌, inl, inr, ℕ, Bool, true, false, List, [], ◌∷◌, ◌++◌, map, Option, Some, None, Ok, Result, refl, sym, ap, subst, ◌∙◌}
-use Rattle.std.specs.List.{AllByRecursion, AllZip}
+use Rattle.std.proofs.Common.{◌≡◌, ◌≢◌, ◌⊎◌, inl, inr, ℕ, Bool, true, false, List, [], ◌∷◌, Option, Some, None, refl, sym, ap, subst, ◌∙◌}
+use Rattle.std.specs.List.{AllZip}
 use Rattle.mst_ids.specs.declared.name.PortName.{PortName}
-use Rattle.mst_net.specs.tables.After.{after}
 use Rattle.mst_net.specs.tables.Tables.{Net, IsNetwork, port_eq}
-use Rattle.mst_net.specs.tables.declared.refusal.Refusal.{Refusal}
 use Rattle.mst_path.specs.Paths.{Hop, HopTold, IsPathOf, hop_told, hops_told, path_told}
 use Rattle.mst_path.specs.declared.trace.Trace.{Trace}
 use Rattle.mst_path.proofs.Names.{name_cases}
 use Rattle.mst_roles.specs.forest.Outcome.{Outcome, IsOutcome}
 use Rattle.mst_rows.specs.Rows.{Row}
 use Rattle.mst_view.proofs.Names.{own_port, same_ports}
-use Rattle.mst_sweeping.specs.Sweeping.{CanFail}
-use Rattle.mst_sweeping.specs.sweep.Failures.{edit_of}
-use Rattle.mst_sweeping.specs.sweep.Pairs.{failed}
+use Rattle.mst_sweeping.specs.sweep.Failures.{failed}
 use Rattle.mst_sweeping.specs.sweep.declared.failure.Failure.{Failure}
 use Rattle.mst_sweeping.proofs.sweep_lemmas.Together.{failed_network}
 use Rattle.mst_tracing.specs.Fates.{HasPathIn, IsFate, IsFateTold, Told}
@@ -86,26 +82,21 @@ module _ (outcomes : OneOutcome) (paths : OnePath) where
       paths net p.outcome t.vid t.from t.to path other is p.is_path (subst (λ o. IsPathOf net o t.vid t.from t.to other) same q.is_path)
 
   module _ (net : Net) (is : IsNetwork net) (t : Trace) (before : Option (List Hop)) where
-    made : (a b : Net) → (let r : Result Net Refusal = Ok a in r) ≡ Ok b → a ≡ b
-    made a b e = cc
-
-    one_told : (failure : Failure) → CanFail net failure → (x y : Fate) (rows others : List Row) → IsFateTold net t before failure x rows → IsFateTold net t before failure y others → (x ≡ y) × (rows ≡ others)
-    one_told failure can x y rows others p q =
-        let first : p.failed ≡ failed (failure ∷ []) net = made p.failed (failed (failure ∷ []) net) (sym p.made ∙ can) in
-        let second : q.failed ≡ failed (failure ∷ []) net = made q.failed (failed (failure ∷ []) net) (sym q.made ∙ can) in
-        let same : q.path ≡ p.path = one_path_in (failed (failure ∷ []) net) t q.path p.path (failed_network (failure ∷ []) net is) (subst (λ n. HasPathIn n t q.path) second q.has_path) (subst (λ n. HasPathIn n t p.path) first p.has_path) in
+    one_told : (failure : Failure) → (x y : Fate) (rows others : List Row) → IsFateTold net t before failure x rows → IsFateTold net t before failure y others → (x ≡ y) × (rows ≡ others)
+    one_told failure x y rows others p q =
+        let same : q.path ≡ p.path = one_path_in (failed (failure ∷ []) net) t q.path p.path (failed_network (failure ∷ []) net is) q.has_path p.has_path in
         one_fate t failure before p.path x y rows others p.told (subst (λ path. IsFate t failure before path y others) same q.told)
 
-    pub one_list : (those : List Failure) → AllByRecursion (CanFail net) those → (told others : List Told) → AllZip (λ failure one. IsFateTold net t before failure one.fate one.rows) those told
+    pub one_list : (those : List Failure) → (told others : List Told) → AllZip (λ failure one. IsFateTold net t before failure one.fate one.rows) those told
         → AllZip (λ failure one. IsFateTold net t before failure one.fate one.rows) those others → told ≡ others
-    one_list [] can [] [] p q = refl
-    one_list [] can [] (y ∷ ys) p q = absurd q
-    one_list [] can (x ∷ xs) others p q = absurd p
-    one_list (f ∷ fs) can [] others p q = absurd p
-    one_list (f ∷ fs) can (x ∷ xs) [] p q = absurd q
-    one_list (f ∷ fs) can (x ∷ xs) (y ∷ ys) p q =
-        let one = one_told f can.0 x.fate y.fate x.rows y.rows p.0 q.0 in
-        let rest = one_list fs can.1 xs ys p.1 q.1 in
+    one_list [] [] [] p q = refl
+    one_list [] [] (y ∷ ys) p q = absurd q
+    one_list [] (x ∷ xs) others p q = absurd p
+    one_list (f ∷ fs) [] others p q = absurd p
+    one_list (f ∷ fs) (x ∷ xs) [] p q = absurd q
+    one_list (f ∷ fs) (x ∷ xs) (y ∷ ys) p q =
+        let one = one_told f x.fate y.fate x.rows y.rows p.0 q.0 in
+        let rest = one_list fs xs ys p.1 q.1 in
         let first = one.0 in
         let second = one.1 in
         λ i. record { fate = first i; rows = second i } ∷ rest i

@@ -1,19 +1,17 @@
 -- What is told of a path is there, and is one thing.
-use Rattle.std.proofs.Common.{◌≡◌, ℕ, Bool, true, false, ◌||◌, nat_lt, List, [], ◌∷◌, ◌++◌, map, Option, refl, sym, ap, subst, ◌∙◌}
+use Rattle.std.proofs.Common.{◌≡◌, Bool, true, false, ◌||◌, nat_lt, List, [], ◌∷◌, ◌++◌, map, Option, refl, sym, ap, subst, ◌∙◌}
 use Rattle.std.specs.List.{flat_map, fold}
 use Rattle.mst_net.specs.tables.Tables.{Net, IsNetwork}
 use Rattle.mst_path.specs.PathRows.{path_rows}
 use Rattle.mst_path.specs.Paths.{Hop}
 use Rattle.mst_rows.specs.Rows.{Row}
-use Rattle.mst_sweeping.specs.Sweeping.{CanFail}
 use Rattle.mst_sweeping.specs.sweep.Failures.{failures}
-use Rattle.mst_sweeping.proofs.SweepThere.{can_fail}
 use Rattle.mst_tracing.specs.Fates.{AreFates, HasPathIn, Told, counted_with, counts_row, looked_at, none_counted}
-use Rattle.mst_tracing.specs.Tracing.{AreAlways, AreTold, AreToldIf, Traces, is_none}
+use Rattle.mst_tracing.specs.Tracing.{AreToldIf, Traces, is_none}
 use Rattle.mst_tracing.specs.declared.always.Fates.{Fates}
 use Rattle.mst_tracing.specs.declared.asked.Asked.{Asked}
 use Rattle.mst_path.specs.declared.trace.Trace.{Trace}
-use Rattle.mst_tracing.proofs.FateThere.{HasOutcome, HasPath, all_looked_at, fates_there, path_in}
+use Rattle.mst_tracing.proofs.FateThere.{HasOutcome, HasPath, fates_there, path_in}
 use Rattle.mst_tracing.proofs.OneFate.{OneOutcome, OnePath, one_list, one_path_in}
 
 pub trace_there : HasOutcome → HasPath → (net : Net) (asked : Asked) → IsNetwork net → (is_broken : Bool) × (rows : List Row) × Traces net asked is_broken rows
@@ -35,7 +33,7 @@ module _ (outcomes : OneOutcome) (paths : OnePath) (net : Net) (asked : Asked) (
   one_fates : (path : Option (List Hop)) (x y : Fates) (rows others : List Row) → AreFates net asked.trace path x rows → AreFates net asked.trace path y others → (x ≡ y) × (rows ≡ others)
   one_fates path x y rows others p q =
       let t : Trace = asked.trace in
-      let told : p.told ≡ q.told = one_list outcomes paths net is t path (looked_at t (failures net)) (all_looked_at (CanFail net) t (failures net) (can_fail net is)) p.told q.told p.each q.each in
+      let told : p.told ≡ q.told = one_list outcomes paths net is t path (looked_at t (failures net)) p.told q.told p.each q.each in
       let fates : x ≡ y = p.counted ∙ ap (λ (l : List Told). fold counted_with none_counted (map (λ (one : Told). one.fate) l)) told ∙ sym q.counted in (
         fates,
         p.are ∙ (λ i. flat_map (λ (one : Told). one.rows) (told i) ++ counts_row t (fates i) ∷ []) ∙ sym q.are,

@@ -1,5 +1,5 @@
 -- The two bridges of a path: whether they are there, and whether they fail.
-use Rattle.std.specs.Prelude.{Bool, false, ◌&&◌, ◌||◌, List, Option, None, Some, if◌then◌else◌}
+use Rattle.std.specs.Prelude.{Bool, false, ◌&&◌, ◌||◌, Option, None, Some, if◌then◌else◌}
 use Rattle.mst_net.specs.tables.After.{has_bridge}
 use Rattle.mst_net.specs.tables.Tables.{Net}
 use Rattle.mst_net.specs.tables.declared.refusal.Refusal.{Refusal}

@@ -1,9 +1,8 @@
 -- What becomes of a path after single failures.
-use Rattle.std.specs.Prelude.{◌≡◌, ◌≢◌, ◌++◌, ◌+◌, ℕ, not, List, [], ◌∷◌, length, map, filter, Option, None, Some, Ok}
+use Rattle.std.specs.Prelude.{◌≡◌, ◌≢◌, ◌++◌, ◌+◌, ℕ, not, List, [], ◌∷◌, length, map, filter, Option, None, Some}
 use Rattle.std.specs.List.{AllZip, flat_map, fold}
 use Rattle.mst_kinds.specs.declared.kind.Kind.TheVariants as kind
 use Rattle.mst_kinds.specs.declared.path_line.PathLine.TheVariants as line
-use Rattle.mst_net.specs.tables.After.{after}
 use Rattle.mst_net.specs.tables.Tables.{Net}
 use Rattle.mst_path.specs.PathRows.{trace_cells}
 use Rattle.mst_path.specs.Paths.{Hop, IsPathOf, bridges_met, path_told}
@@ -12,7 +11,7 @@ use Rattle.mst_roles.specs.forest.Outcome.{Outcome, IsOutcome}
 use Rattle.mst_rows.specs.Cells as cell
 use Rattle.mst_rows.specs.Rows.{Row, row_of}
 use Rattle.mst_sweeping.specs.sweep.Cuts.{failing}
-use Rattle.mst_sweeping.specs.sweep.Failures.{edit_of, failures}
+use Rattle.mst_sweeping.specs.sweep.Failures.{failed, failures}
 use Rattle.mst_sweeping.specs.sweep.declared.failure.Failure.{Failure}
 use Rattle.mst_sweeping.specs.sweep.declared.failure.Failure.TheVariants.{Lan, Bridge}
 use Rattle.mst_tracing.specs.Ends.{is_of_end}
@@ -57,12 +56,10 @@ pub record HasPathIn (net : Net) (t : Trace) (path : Option (List Hop)) : Type 0
   pub is_outcome : IsOutcome net outcome
   pub is_path : IsPathOf net outcome t.vid t.from t.to path
 
--- what becomes of it after a failure of the network: the edit makes the network that failed
+-- what becomes of it in the network with a failure
 pub record IsFateTold (net : Net) (t : Trace) (before : Option (List Hop)) (failure : Failure) (is : Fate) (rows : List Row) : Type 0 where
-  pub failed : Net
-  pub made : after (edit_of failure) net ≡ Ok failed
   pub path : Option (List Hop)
-  pub has_path : HasPathIn failed t path
+  pub has_path : HasPathIn (failed (failure ∷ []) net) t path
   pub told : IsFate t failure before path is rows
 
 -- ---- all failures

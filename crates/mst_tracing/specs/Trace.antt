@@ -1,5 +1,5 @@
 -- What asking the network that a script leaves for a path promises, where it prints in this form.
-use Rattle.std.specs.Prelude.{◌≡◌, ◌+◌, ◌++◌, ℕ, Bool, true, false, List, Option, None, Some, is_some, if◌then◌else◌}
+use Rattle.std.specs.Prelude.{◌≡◌, ◌+◌, ◌++◌, ℕ, Bool, true, List, Option, None, Some, is_some, if◌then◌else◌}
 use Rattle.mst_drive.specs.Words.{Telling}
 use Rattle.mst_io.specs.Written.{Reads}
 use Rattle.mst_io.specs.declared.outcome.Outcome.{Outcome}

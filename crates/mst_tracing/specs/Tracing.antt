@@ -1,5 +1,5 @@
 -- What is told of the path that is asked for.
-use Rattle.std.specs.Prelude.{◌≡◌, ◌++◌, ◌<◌, ◌||◌, Bool, true, false, nat_lt, List, [], Option, None, Some, if◌then◌else◌}
+use Rattle.std.specs.Prelude.{◌≡◌, ◌++◌, ◌||◌, Bool, true, false, nat_lt, List, [], Option, None, Some, if◌then◌else◌}
 use Rattle.mst_kinds.specs.declared.query.Query.TheVariants.{Path, PathAlways}
 use Rattle.mst_net.specs.tables.Tables.{Net}
 use Rattle.mst_path.specs.PathRows.{path_rows, trace_cells}

@@ -3,8 +3,8 @@ ghost use Rattle.mst_rows.specs.Rows.{Row};
 ghost use Rattle.mst_view.specs.Viewed.{IsView};
 ghost use Rattle.mst_path.specs.Places.{named_path};
 ghost use Rattle.mst_sweeping.specs.plan.Plan.{IsPlan};
-ghost use Rattle.mst_sweeping.specs.sweep.Pairs.{failed};
-ghost use Rattle.mst_sweeping.specs.Sweeping.{CanFail, Puts};
+ghost use Rattle.mst_sweeping.specs.sweep.Failures.{failed};
+ghost use Rattle.mst_sweeping.specs.Sweeping.{Puts};
 ghost use Rattle.mst_tracing.specs.Fates.{AreFates, HasPathIn, IsFate, IsFateTold, counted_with, looked_at as looked_at_of, none_counted};
 
 use crate::ends::is_of_end;
@@ -13,9 +13,10 @@ use mst_net::Network;
 use mst_path::{Hop, Trace, is_same, path};
 use mst_roles::Settled;
 use mst_rows::Rows;
-use mst_sweeping::{Failure, Plan, failures, trees_failed, view, without_failure};
+use mst_sweeping::{Failure, Plan, failures, trees_failed, view, without_failures};
 use mst_view::View;
 use std::alloc::{AllocError, Global};
+use std::slice::from_ref;
 
 /// What becomes of a path after single failures.
 #[derive(Clone, Copy)]
@@ -78,14 +79,13 @@ fn path_failed(
     seen: &mut View,
 ) -> Result<Option<Vec<Hop>>, AllocError>
     requires of { IsPlan network.now.net network.now.numbers plan.now }
-    requires failure { CanFail network.now.net failure.now }
     requires seen { IsView network.now.net network.now.numbers seen.old }
     ensures path { IfOk result (λ path. HasPathIn (failed (failure.now ∷ []) network.now.net) trace.now (named_path path)) }
     ensures seen { OnOk result (IsView (failed (failure.now ∷ []) network.now.net) network.now.numbers seen.new) }
 {
-    let trees = trees_failed(alloc, network, plan, failure, seen)?;
-    let edit = failure.edit();
-    let failed = Settled::ahead(network, &edit, seen, &trees);
+    let trees = trees_failed(alloc, network, plan, from_ref(failure), seen)?;
+    let edits = [failure.edit()];
+    let failed = Settled::ahead(network, &edits, seen, &trees);
     failed.known();
     path(alloc, &failed, trace)
 }
@@ -129,13 +129,12 @@ fn put_failed<R: Rows>(
     out: &mut R,
 ) -> Result<Fate, AllocError>
     requires of { IsPlan network.now.net network.now.numbers plan.now }
-    requires failure { CanFail network.now.net failure.now }
     requires seen { IsView network.now.net network.now.numbers seen.old }
     ensures told { IfOk result (λ fate. (rows : List Row) × IsFateTold network.now.net trace.now (named_path before.now) failure.now fate rows × Puts R.grew out.old out.new rows) }
     ensures seen { OnOk result (IsView network.now.net network.now.numbers seen.new) }
 {
     let after = path_failed(alloc, network, plan, failure, trace, seen)?;
-    without_failure(alloc, network, failure, seen)?;
+    without_failures(alloc, network, from_ref(failure), seen)?;
     put_fate(alloc, trace, failure, before, &after, out)
 }
 

@@ -8,12 +8,13 @@ use Rattle.mst_vlan.specs.classes.Classes.{HasOnly}
 use Rattle.mst_sweep.specs.Baseline.{AreHomes}
 use Rattle.mst_sweep.specs.CutClasses.{IsKeptAlone, kept_of}
 use Rattle.mst_sweep.specs.Cuts.{names_of}
-use Rattle.mst_sweep.specs.Pairs.{Pair, Outcomes, ArePairParts, failed}
+use Rattle.mst_sweep.specs.Failures.{failed}
+use Rattle.mst_sweep.specs.Pairs.{Pair, Outcomes, ArePairParts}
 use Rattle.mst_sweep.specs.Parts.{all_parts, AreParts}
 use Rattle.mst_sweep.specs.Seen.{places_before, seen_with_both}
 use Rattle.mst_sweep.proofs.PairParts.{alone, class_alike, no_parts_alone, seen_parts}
 use Rattle.mst_sweep.proofs.Stay.{homes_moved, parts_moved, told_too}
-use Rattle.mst_sweep.proofs.Together.{failed_left}
+use Rattle.mst_sweep.proofs.Failed.{are_left}
 use Rattle.mst_sweep.proofs.both_failed.parts_by_pair.Goals as goal
 
 pub returns-then-not-breaks : goal.returns-then-not-breaks
@@ -22,7 +23,7 @@ returns-then-not-breaks c net n is are one other of so first second vid valid cl
     let pair : Pair = record { first = c.args.first.now.failure; second = c.args.second.now.failure } in
     let outcomes : Outcomes = record { none = is.outcome; first = one; second = other; both = are.outcome } in
     let both = failed (pair.first ∷ pair.second ∷ []) net in
-    let left = failed_left (pair.first ∷ pair.second ∷ []) net in
+    let left = are_left (pair.first ∷ pair.second ∷ []) net in
     let told : HasOnly c.args.old.now.view.now s.tables s.sets = record { tables_there = s.have_tables; sets_there = s.have_sets } in
     let alike = class_alike s.tables s.sets s.numbers s.tell c.args.baseline.now.classes s.classes vid valid c.args.class class in
     let none = c.requires.others c.if-not-breaks.true net both n n is are of so left in
@@ -43,7 +44,7 @@ returns c = IfOk-weaker c.all_parts.result _ _
     let pair : Pair = record { first = c.args.first.now.failure; second = c.args.second.now.failure } in
     let outcomes : Outcomes = record { none = is.outcome; first = one; second = other; both = are.outcome } in
     let both = failed (pair.first ∷ pair.second ∷ []) net in
-    let left = failed_left (pair.first ∷ pair.second ∷ []) net in
+    let left = are_left (pair.first ∷ pair.second ∷ []) net in
     let list = c.islands_of_vid.ensures.one in
     let classes : List ℕ = c.args.baseline.now.classes.numbers.items in
     let i : ℕ = c.args.class in

@@ -2,7 +2,6 @@ use Rattle.std.proofs.Common.{◌≡◌, List, sym, subst}
 use Rattle.mst_sweep.specs.Failures.{failures}
 use Rattle.mst_sweep.specs.Pairs.{Pair, pairs_of, IsPairsOf, IsPairsPart, IsPairTold, last_of_pairs}
 use Rattle.mst_sweep.specs.SweepParts.{part_of}
-use Rattle.mst_sweep.proofs.MadeBoth.{pair_made}
 use Rattle.mst_sweep.proofs.OnePairs.{all_pairs_told, pairs_there}
 use Rattle.mst_sweep.proofs.OneSweep.{one_rows, one_count}
 use Rattle.mst_sweep.proofs.PartsJoined.{lengths_near}
@@ -40,6 +39,3 @@ returns-clause-whole g net o rows cuts =
       λ x. subst (λ (all : List Pair). IsPairsOf net o all rows cuts) same x,
       λ x. subst (λ (all : List Pair). IsPairsOf net o all rows cuts) (sym same) x,
     )
-
-pub returns-clause-made : goal.returns-clause-made
-returns-clause-made g net pair h = pair_made net pair h

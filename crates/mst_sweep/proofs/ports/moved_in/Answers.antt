@@ -3,7 +3,6 @@ use Rattle.std.specs.List.{count_by}
 use Rattle.std.proofs.lemmas.List.{take_all}
 use Rattle.mst_view.specs.View.{port_names}
 use Rattle.mst_sweep.specs.Moved.{port_moved}
-use Rattle.mst_sweep.proofs.Failed.{are_left}
 use Rattle.mst_sweep.proofs.Moved.{as_named, count_step}
 use Rattle.mst_sweep.proofs.ports.moved_in.Goals as goal
 use Rattle.mst_sweep.proofs.ports.moved_in.Goals.{then-moved_at, else-moved_at}
@@ -20,24 +19,24 @@ loop-place-preserved c =
         | then-moved_at w ↦ let few = l.invariant.few in let count = w.count-is in omega arith
         | else-moved_at w ↦ let few = l.invariant.few in let count = w.count-is in omega arith
       ];
-      moved = λ failure a b n k is are of so e.
+      moved = λ a b n k is are of so e.
           let v = c.args.old.now.view.now in
           let w = c.args.new.now.view.now in
-          let many : length (port_names a) ≡ length v.ports = as_named a b n k v w c.args.old.now.forest.now c.args.new.now.forest.now of so is are c.args.tree (are_left failure a b e).ports in
+          let many : length (port_names a) ≡ length v.ports = as_named a b n k v w c.args.old.now.forest.now c.args.new.now.forest.now of so is are c.args.tree e.ports in
           let here : l.place < length c.ports-place-end.result.now = c.loop-place-test.true in
           let same : length c.ports-place-end.result.now ≡ length v.ports = ap length c.ports-place-end.ensures in
           let below : l.place < length (port_names a) = omega arith in
-          count_step (port_moved a is.outcome b are.outcome c.args.tree) (port_names a) l.place c.moved_at.result l.count c.if-moved_at.count below (c.moved_at.ensures failure a b n k is are of so e)
-          (l.invariant.moved failure a b n k is are of so e) after;
+          count_step (port_moved a is.outcome b are.outcome c.args.tree) (port_names a) l.place c.moved_at.result l.count c.if-moved_at.count below (c.moved_at.ensures a b n k is are of so e)
+          (l.invariant.moved a b n k is are of so e) after;
     }
 
 pub returns-clause-moved : goal.returns-clause-moved
-returns-clause-moved c failure a b n k is are of so e =
+returns-clause-moved c a b n k is are of so e =
     let l = c.loop-place in
     let v = c.args.old.now.view.now in
     let w = c.args.new.now.view.now in
-    let many : length (port_names a) ≡ length v.ports = as_named a b n k v w c.args.old.now.forest.now c.args.new.now.forest.now of so is are c.args.tree (are_left failure a b e).ports in
+    let many : length (port_names a) ≡ length v.ports = as_named a b n k v w c.args.old.now.forest.now c.args.new.now.forest.now of so is are c.args.tree e.ports in
     let past : length c.ports-place-end.result.now ≤ l.place = c.loop-place-test.false in
     let same : length c.ports-place-end.result.now ≡ length v.ports = ap length c.ports-place-end.ensures in
     let all : length (port_names a) ≤ l.place = omega arith in
-    l.invariant.moved failure a b n k is are of so e ∙ ap (count_by (port_moved a is.outcome b are.outcome c.args.tree)) (take_all l.place (port_names a) all)
+    l.invariant.moved a b n k is are of so e ∙ ap (count_by (port_moved a is.outcome b are.outcome c.args.tree)) (take_all l.place (port_names a) all)

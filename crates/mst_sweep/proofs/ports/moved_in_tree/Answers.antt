@@ -6,7 +6,7 @@ use Rattle.mst_sweep.proofs.Untouched.{had_listed}
 use Rattle.mst_sweep.proofs.ports.moved_in_tree.Goals as goal
 
 pub returns-then-not-is_had-clause-moved : goal.returns-then-not-is_had-clause-moved
-returns-then-not-is_had-clause-moved c failure a b n k is are of so e =
+returns-then-not-is_had-clause-moved c a b n k is are of so e =
     let tree = c.args.tree in
     let v = c.args.old.now.view.now in
     let x = unused_by v tree (sym (c.is_had.ensures v c.requires.used) ∙ c.if-not-is_had.true) in

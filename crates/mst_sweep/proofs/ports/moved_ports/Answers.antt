@@ -18,14 +18,14 @@ loop-number-preserved c = record {
         let below = c.loop-number-test.true in
         absurd (w.in_default.ensures {u = tt} (omega arith))
   ];
-  moved = λ failure a b n k is are of so e.
+  moved = λ a b n k is are of so e.
       let l = c.loop-number in
       let of_tree : ℕ → ℕ = λ tree. count_by (port_moved a is.outcome b are.outcome tree) (port_names a) in
-      let before = l.invariant.moved failure a b n k is are of so e in
+      let before = l.invariant.moved a b n k is are of so e in
       elim c.match-new.branch [
         | in-Some w ↦
             let same : w.in-Some.tree ≡ l.number = (w.in-Some.ensures {u = tt}).1 in
-            let moved : w.moved_in_tree-count.result ≡ of_tree l.number = w.moved_in_tree-count.ensures.moved failure a b n k is are of so e ∙ ap of_tree same in
+            let moved : w.moved_in_tree-count.result ≡ of_tree l.number = w.moved_in_tree-count.ensures.moved a b n k is are of so e ∙ ap of_tree same in
             w.count-is ∙ (λ i. before i + moved i) ∙ sym (sums_more of_tree l.number)
         | in_default w ↦
             let below = c.loop-number-test.true in
@@ -34,5 +34,5 @@ loop-number-preserved c = record {
 }
 
 pub returns : goal.returns
-returns c failure a b n k is are of so e =
-    c.loop-number.invariant.moved failure a b n k is are of so e ∙ sums_all (λ tree. count_by (port_moved a is.outcome b are.outcome tree) (port_names a)) c.loop-number.number (omega arith)
+returns c a b n k is are of so e =
+    c.loop-number.invariant.moved a b n k is are of so e ∙ sums_all (λ tree. count_by (port_moved a is.outcome b are.outcome tree) (port_names a)) c.loop-number.number (omega arith)

@@ -8,7 +8,7 @@ use Rattle.mst_sweeping.proofs.SweptParts.{each_zipped}
 use Rattle.mst_sweeping.proofs.laws.sweep_parts.Goals as goal
 
 pub returns-clause-some : goal.returns-clause-some
-returns-clause-some c net part is = has_part net is c.has_outcome.ensures c.one_failure.ensures.some part
+returns-clause-some c net part is = has_part net is c.has_outcome.ensures c.one_event.ensures.some part
 
 pub returns-clause-one : goal.returns-clause-one
 returns-clause-one c net part rows other n m ok a b = c.sweep_parts.ensures.one net a.outcome b.outcome part rows other n m ok a.is_outcome b.is_outcome a.told b.told

@@ -1,6 +1,8 @@
 use Rattle.std.proofs.Common.{◌≡◌, ◌+◌, ◌==◌, true, ◌∷◌, [], ◌++◌, List, length, map, take, refl, sym, ap, subst, ◌∙◌, arith}
 use Rattle.std.proofs.lemmas.Bool.{eqb-true}
 use Rattle.std.proofs.lemmas.List.{take_all, take_more, map-append}
+use Rattle.mst_view.specs.Viewed.{IsView}
+use Rattle.mst_sweep.specs.Failures.{failed}
 use Rattle.mst_sweep.specs.declared.single.Single.{Single}
 use Rattle.mst_sweep.specs.declared.failure.Failure.{Failure}
 use Rattle.mst_sweep.specs.Pairs.{IsPairTold, with_each}
@@ -18,7 +20,9 @@ pub loop-other-init : goal.loop-other-init
 loop-other-init g c = record {
   told = λ is one others. ([], none_told (IsPairTold c.args.pairing.now.network.now.net is.plan.forest.outcome), none_put g.R.Rows.grew c.args.out.now);
   few = omega arith;
-  seen = c.in_ok-forest.ensures.seen;
+  seen =
+      subst (λ (fs : List Failure). IsView (failed fs c.args.pairing.now.network.now.net) c.args.pairing.now.network.now.numbers c.trees_failed.new.seen)
+      c.from_ref.ensures.value c.in_ok-forest.ensures.seen;
 }
 
 pub loop-other-preserved : goal.loop-other-preserved

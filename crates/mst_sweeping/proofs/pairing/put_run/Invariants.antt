@@ -2,7 +2,8 @@ use Rattle.std.proofs.Common.{◌≤◌, ◌∷◌, [], List, map, take}
 use Rattle.std.specs.List.{AllByRecursion}
 use Rattle.mst_view.specs.Viewed.{IsView}
 use Rattle.mst_rows.specs.Rows.{Row}
-use Rattle.mst_sweep.specs.Pairs.{failed, with_each}
+use Rattle.mst_sweep.specs.Failures.{failed}
+use Rattle.mst_sweep.specs.Pairs.{with_each}
 use Rattle.mst_sweeping.specs.Pairing.{IsPairing, IsSingle, ArePairsTold}
 use Rattle.mst_sweeping.specs.Sweeping.{Puts}
 use Rattle.mst_sweeping.proofs.pairing.put_run.Given as goal

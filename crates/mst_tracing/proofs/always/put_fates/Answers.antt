@@ -1,17 +1,11 @@
-use Rattle.std.proofs.Common.{◌≡◌, ◌+◌, ◌∷◌, [], ◌++◌, List, length, take, sym, ap, subst, ◌∙◌, arith}
-use Rattle.std.specs.List.{AllByRecursion}
+use Rattle.std.proofs.Common.{◌+◌, ◌∷◌, [], ◌++◌, List, length, take, sym, ap, subst, ◌∙◌, arith}
 use Rattle.std.proofs.lemmas.List.{take_all, take_more}
 use Rattle.mst_path.specs.Places.{named_path}
-use Rattle.mst_sweeping.specs.Sweeping.{CanFail}
-use Rattle.mst_sweeping.specs.sweep.Failures.{failures}
 use Rattle.mst_sweeping.specs.sweep.declared.failure.Failure.{Failure}
-use Rattle.mst_sweeping.proofs.Paired.{at_place}
-use Rattle.mst_sweeping.proofs.SweepThere.{can_fail}
 use Rattle.mst_sweeping.proofs.Swept.{none_put, put_then}
-use Rattle.mst_tracing.specs.Fates.{AreFates, counts_row, looked_at}
+use Rattle.mst_tracing.specs.Fates.{counts_row, looked_at}
 use Rattle.mst_tracing.specs.declared.always.Fates.{Fates}
 use Rattle.mst_tracing.proofs.Fated.{AreFew, AreSoFar, all_fates, none_few, none_so_far, one_few, one_more}
-use Rattle.mst_tracing.proofs.FateThere.{all_looked_at}
 use Rattle.mst_tracing.proofs.always.put_fates.Goals as goal
 
 pub loop-failure-init : goal.loop-failure-init
@@ -46,15 +40,6 @@ loop-failure-preserved g c =
       few = subst (λ (f : Fates). AreFew f (i + 1)) (sym c.count.ensures) (one_few c.loop-failure.fates i fate inv.few);
       seen = c.in_ok-fate.ensures.seen;
     }
-
-pub put_failed-requires-clause-failure : goal.put_failed-requires-clause-failure
-put_failed-requires-clause-failure g c =
-    let net = c.args.network.now.net in
-    let t = c.args.trace.now in
-    let all_are = c.as_slice.ensures.value ∙ c.in_ok-all.ensures net c.args.network.now.numbers c.requires.of.view in
-    let are = c.as_slice-failure-items.ensures.value ∙ c.in_ok-failures.ensures ∙ ap (looked_at t) all_are in
-    at_place (CanFail net) c.as_slice-failure-items.result.now c.loop-failure.failure-index c.failure-item.result c.failure-item.is c.loop-failure-test.true
-    (subst (AllByRecursion (CanFail net)) (sym are) (all_looked_at (CanFail net) t (failures net) (can_fail net c.requires.of.network)))
 
 pub count-requires-clause-failures : goal.count-requires-clause-failures
 count-requires-clause-failures g c =

@@ -1,4 +1,4 @@
-use Rattle.std.proofs.Common.{◌≡◌, None, ap, sym, ◌∙◌}
+use Rattle.std.proofs.Common.{ap, sym, ◌∙◌}
 use Rattle.mst_net.specs.tables.Contents.{Contents}
 use Rattle.mst_tracing.specs.Ends.{untraced_of}
 use Rattle.mst_tracing.proofs.WholeTrace.{untraced_told}

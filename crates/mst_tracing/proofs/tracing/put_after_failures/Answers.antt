@@ -1,7 +1,5 @@
-use Rattle.std.proofs.Common.{◌≡◌, Bool, List, [], refl, sym, ap, subst, ◌∙◌}
-use Rattle.std.proofs.lemmas.Result.{IfOk-weaker}
+use Rattle.std.proofs.Common.{Bool, [], refl, sym, subst}
 use Rattle.mst_net.specs.tables.Contents.{Contents}
-use Rattle.mst_net.specs.tables.Tables.{Net}
 use Rattle.mst_path.specs.Places.{named_path}
 use Rattle.mst_sweeping.proofs.Swept.{none_put}
 use Rattle.mst_tracing.specs.Fates.{AreFates}

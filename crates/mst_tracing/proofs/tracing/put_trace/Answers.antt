@@ -1,4 +1,4 @@
-use Rattle.std.proofs.Common.{ap, subst, sym, refl, ◌++◌, append_assoc}
+use Rattle.std.proofs.Common.{subst, refl, ◌++◌, append_assoc}
 use Rattle.std.proofs.lemmas.Result.{IfOk-weaker}
 use Rattle.mst_net.specs.tables.Tables.{Net}
 use Rattle.mst_path.specs.PathRows.{path_rows}

@@ -1,10 +1,10 @@
--- The networks of one failure and of two are those that their edits make, one after the other.
+-- The network with some failures is the one that their edits make, one after another.
 use Rattle.std.proofs.Common.{◌≡◌, ◌∷◌, [], true, List, Option, Some, None, Ok, Err, is_some, not, map, refl, ap, subst, ◌∙◌, inl, inr, ℕ}
 use Rattle.std.specs.FinMap as fin
-use Rattle.std.specs.List.{Contains, filter}
+use Rattle.std.specs.List.{AllByRecursion, Contains, filter}
 use Rattle.std.specs.Option.{option_map, option_map_or}
 use Rattle.std.proofs.lemmas.List.Elements.{Contains-append_cases}
-use Rattle.mst_graph.proofs.Members.{here, there, from_map, from_filter, in_none}
+use Rattle.mst_graph.proofs.Members.{from_map, from_filter}
 use Rattle.mst_net.specs.tables.After.{after, first_of, has_bridge, has_lan}
 use Rattle.mst_net.specs.tables.Tables.{Net, BridgeRow, LanRow}
 use Rattle.mst_net.specs.tables.declared.refusal.Refusal.TheVariants.{E04, E06}
@@ -14,8 +14,7 @@ use Rattle.mst_vlan.proofs.forest_lemmas.Lists.{all_contained}
 use Rattle.mst_vlan.specs.Reach.{bridges_on}
 use Rattle.mst_sweep.specs.declared.failure.Failure.{Failure}
 use Rattle.mst_sweep.specs.declared.failure.Failure.TheVariants.{Lan, Bridge}
-use Rattle.mst_sweep.specs.Failures.{edit_of, failures}
-use Rattle.mst_sweep.specs.Pairs.{AreMade, Pair, failed, pairs_of, with_each}
+use Rattle.mst_sweep.specs.Failures.{AreMade, edit_of, failed, failures, then_made}
 use Rattle.mst_sweep.proofs.Together.{bridge_failed, lan_failed}
 
 -- what fails is there
@@ -56,31 +55,26 @@ one_made : (net : Net) (failure : Failure) → IsThere net failure → after (ed
 one_made net (Lan lan) h = ap (λ has. option_map_or Err (first_of ((not has, E06) ∷ [])) (Ok (failed (Lan lan ∷ []) net))) h
 one_made net (Bridge bridge) h = ap (λ has. option_map_or Err (first_of ((not has, E04) ∷ [])) (Ok (failed (Bridge bridge ∷ []) net))) h
 
-one_by_one : (net : Net) (first second : Failure) → failed (second ∷ []) (failed (first ∷ []) net) ≡ failed (first ∷ second ∷ []) net
-one_by_one net (Lan lan) (Lan other) = refl
-one_by_one net (Lan lan) (Bridge bridge) = refl
-one_by_one net (Bridge bridge) (Lan lan) = refl
-one_by_one net (Bridge bridge) (Bridge other) = refl
+all_still : (gone : List Failure) (net : Net) (fs : List Failure) → AllByRecursion (IsThere net) fs → AllByRecursion (IsThere (failed gone net)) fs
+all_still gone net [] h = tt
+all_still gone net (f ∷ fs) h = (still_there gone net f h.0, all_still gone net fs h.1)
 
--- ---- pairs
-of_both : (fs : List Failure) (pair : Pair) → Contains (pairs_of fs) pair → Contains fs pair.first × Contains fs pair.second
-of_both [] pair h = absurd (in_none pair h)
-of_both (f ∷ fs) pair h = elim (Contains-append_cases (with_each f fs) (pairs_of fs) pair h) [
-  | inl x ↦
-      let e = from_map (λ (second : Failure). record { first = f; second = second }) fs pair x in
-      (subst (λ (p : Pair). Contains (f ∷ fs) p.first) e.2 (here f fs), subst (λ (p : Pair). Contains (f ∷ fs) p.second) e.2 (there f e.0 fs e.1))
-  | inr y ↦
-      let both = of_both fs pair y in
-      (there f pair.first fs both.0, there f pair.second fs both.1)
-]
+all_there : (net : Net) (fs : List Failure) → AllByRecursion (Contains (failures net)) fs → AllByRecursion (IsThere net) fs
+all_there net [] h = tt
+all_there net (f ∷ fs) h = (failure_there net f h.0, all_there net fs h.1)
 
-pub pair_made : (net : Net) (pair : Pair) → Contains (pairs_of (failures net)) pair → AreMade net pair
-pair_made net pair h =
-    let both = of_both (failures net) pair h in
-    let first = failure_there net pair.first both.0 in
-    let second = failure_there net pair.second both.1 in
-    record {
-      first = one_made net pair.first first;
-      second = one_made net pair.second second;
-      both = one_made (failed (pair.first ∷ []) net) pair.second (still_there (pair.first ∷ []) net pair.second second) ∙ ap Ok (one_by_one net pair.first pair.second);
-    }
+-- all of them, one after another, make the network with all
+all_made : (fs : List Failure) (net : Net) → AllByRecursion (IsThere net) fs → AreMade net fs
+all_made [] net h = refl
+all_made (Lan lan ∷ fs) net h =
+    let one = failed (Lan lan ∷ []) net in
+    ap (then_made (map edit_of fs)) (one_made net (Lan lan) h.0) ∙ all_made fs one (all_still (Lan lan ∷ []) net fs h.1)
+all_made (Bridge bridge ∷ fs) net h =
+    let one = failed (Bridge bridge ∷ []) net in
+    ap (then_made (map edit_of fs)) (one_made net (Bridge bridge) h.0) ∙ all_made fs one (all_still (Bridge bridge ∷ []) net fs h.1)
+
+pub failures_made : (net : Net) (fs : List Failure) → AllByRecursion (Contains (failures net)) fs → AreMade net fs
+failures_made net fs h = all_made fs net (all_there net fs h)
+
+pub failure_made : (net : Net) (failure : Failure) → Contains (failures net) failure → after (edit_of failure) net ≡ Ok (failed (failure ∷ []) net)
+failure_made net failure h = one_made net failure (failure_there net failure h)
