@@ -1,5 +1,5 @@
 -- Whether the logical port of a name forwards in a tree: a port that is there is the only one of its name, and so it hasn't stopped.
-use Rattle.std.proofs.Common.{◌≡◌, ℕ, ◌&&◌, ◌||◌, Bool, true, false, true≢false, not, List, Some, None, refl, sym, ap, subst, ◌∙◌}
+use Rattle.std.proofs.Common.{◌≡◌, ℕ, ◌&&◌, ◌||◌, Bool, true, false, true≢false, not, List, [], Some, None, refl, sym, ap, subst, ◌∙◌}
 use Rattle.std.specs.List.{Contains, find}
 use Rattle.std.proofs.lemmas.Bool.{and_parts, and_from}
 use Rattle.mst_graph.proofs.Members.{from_filter, in_filter, passing}
@@ -49,7 +49,7 @@ module _ (s : SettledNet) (is : IsSettledNet s) (tree : ℕ) (name : PortName) w
   its = is_port_named s.net (this_port name)
 
   abbrev IsWanted : Type 0
-  IsWanted = Holds s.net (outcome_of s) s.net None nothing_before (expect.Role tree (this_port name) forwarding)
+  IsWanted = Holds s.net (outcome_of s) s.net [] nothing_before (expect.Role tree (this_port name) forwarding)
 
   -- one of these has the name
   has_name : (p : LogicalPort) → its p ≡ true → p.name ≡ name

@@ -1,5 +1,5 @@
 -- What settings make of a network, and whether it has what is wanted.
-use Rattle.std.specs.Prelude.{◌≡◌, List, Result, Ok, Err, None, fold}
+use Rattle.std.specs.Prelude.{◌≡◌, List, [], Result, Ok, Err, fold}
 use Rattle.mst_net.specs.tables.After.{after}
 use Rattle.mst_net.specs.tables.Tables.{Net, IsNetwork}
 use Rattle.mst_net.specs.tables.declared.refusal.Refusal.{Refusal}
@@ -28,4 +28,4 @@ pub record Make (net : Net) (settings : List Setting) (now : Net) (p : Outcome) 
 
 -- a goal holds in a network with a settled outcome
 abbrev pub Has : Goal → Net → Outcome → Type 0
-Has goal net o = Holds net o net None nothing_before (expectation_of goal)
+Has goal net o = Holds net o net [] nothing_before (expectation_of goal)

@@ -89,9 +89,9 @@ fn try_ahead<R: Rows>(
     ensures { IfOk result (λ found. (is : IsPlan network.now.net network.now.numbers plan.now)
         → (rows : List Row) × Tries goal.now network.now.net is.forest.outcome (setting.now ∷ []) found rows × Puts R.grew out.old out.new rows) }
 {
-    let edit = edit_of(*setting);
+    let edits = [edit_of(*setting)];
     let next = plan_beside(alloc, &network.ahead(ready), plan, false)?;
-    let settled = Settled::ahead(network, &edit, &next.view, &next.forest);
+    let settled = Settled::ahead(network, &edits, &next.view, &next.forest);
     put_if_had(alloc, goal, from_ref(setting), plan, &next, &settled, out)
 }
 

@@ -26,7 +26,7 @@ use std::alloc::{AllocError, Global};
 
 /// Whether a goal holds in a settled network: what a line of a policy says that expects it. `AllocError`: memory was wanted and refused.
 pub fn holds(alloc: Global, plan: &Settled, goal: &Goal) -> Result<bool, AllocError>
-    ensures { IfOk result (λ holds. IsTrue holds ↔ Holds plan.now.net (outcome_of plan.now) plan.now.net None nothing_before (expectation_of goal.now)) }
+    ensures { IfOk result (λ holds. IsTrue holds ↔ Holds plan.now.net (outcome_of plan.now) plan.now.net [] nothing_before (expectation_of goal.now)) }
 {
     match goal {
         Goal::Root { tree, bridge } => is_root(alloc, plan, *tree, bridge),
@@ -36,7 +36,7 @@ pub fn holds(alloc: Global, plan: &Settled, goal: &Goal) -> Result<bool, AllocEr
 
 /// Whether a bridge is the one root of a tree in its region.
 fn is_root(alloc: Global, plan: &Settled, tree: Tree, bridge: &Name) -> Result<bool, AllocError>
-    ensures { IfOk result (λ holds. IsTrue holds ↔ Holds plan.now.net (outcome_of plan.now) plan.now.net None nothing_before (expect.Root tree bridge.now None)) }
+    ensures { IfOk result (λ holds. IsTrue holds ↔ Holds plan.now.net (outcome_of plan.now) plan.now.net [] nothing_before (expect.Root tree bridge.now None)) }
 {
     plan.known();
     told_where_broken();
@@ -64,13 +64,13 @@ fn reasons_alone<'a, 'b>(
     requires kept { AreKept plan.now before.now homes.now }
     requires lan { HasItsLan plan.now.net expectation.now }
     requires leaving { leaving.now ≡ [] }
-    ensures { IfOk result (λ reasons. (first : Net) → IsBefore first before.now → AreReasons plan.now.net (outcome_of plan.now) first None nothing_before expectation.now reasons.items) }
+    ensures { IfOk result (λ reasons. (first : Net) → IsBefore first before.now → AreReasons plan.now.net (outcome_of plan.now) first [] nothing_before expectation.now reasons.items) }
 {
     let judged = Judged {
         plan,
         before,
         homes,
-        gone: None,
+        lost: &[],
         prior: None,
         leaving,
     };
@@ -89,7 +89,7 @@ fn are_none(reasons: &[Reason]) -> bool
 
 /// Whether the logical port of this name, if there is one, forwards in a tree.
 fn is_forwarding(plan: &Settled, tree: Tree, name: &PortName) -> bool
-    ensures { IsTrue result ↔ Holds plan.now.net (outcome_of plan.now) plan.now.net None nothing_before (expect.Role tree (this_port name.now) forwarding) }
+    ensures { IsTrue result ↔ Holds plan.now.net (outcome_of plan.now) plan.now.net [] nothing_before (expect.Role tree (this_port name.now) forwarding) }
 {
     plan.known();
     match port_named(plan, name) {

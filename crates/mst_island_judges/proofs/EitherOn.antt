@@ -22,7 +22,8 @@ use Rattle.mst_judged.specs.reasons.sweep.vlan.Reach.{bridges_on, vid_links}
 use Rattle.mst_judged.specs.reasons.Holds.{AreTogether, IsReached}
 use Rattle.mst_judged.specs.reasons.Seen.{names_in}
 use Rattle.mst_judged.specs.Islands.{AreReachParts}
-use Rattle.mst_judged.specs.reasons.Named.{Gone, is_named, named}
+use Rattle.mst_judged.specs.reasons.sweep.declared.failure.Failure.{Failure}
+use Rattle.mst_judged.specs.reasons.Named.{is_named, named}
 use Rattle.mst_judged.specs.reasons.Reasons.{AreBoth, Parts, either_on, has_both, is_in}
 use Rattle.mst_island_judges.specs.Seen.{are_of_both, is_other, others_in, seen_either}
 use Rattle.mst_judged.proofs.reasons_lemmas.Things.{any_passes, filter_twice}
@@ -58,18 +59,18 @@ module _ (net : Net) where
       let k = from_filter (λ (e : List ℕ × BridgeRow). e.1.is_on) (fin.entries net.bridges) e.0 e.1 in
       subst (Contains (fin.keys net.bridges)) e.2 (in_map (λ (e : List ℕ × BridgeRow). e.0) (fin.entries net.bridges) e.0 k.0)
 
-module _ (net : Net) (numbers : Numbers) (v : Viewed) (view : IsView net numbers v) (gone : Gone) (names : List NameItem) (others : Option (List NameItem)) where
+module _ (net : Net) (numbers : Numbers) (v : Viewed) (view : IsView net numbers v) (lost : List Failure) (names : List NameItem) (others : Option (List NameItem)) where
   abbrev one : List ℕ → Bool
-  one = is_named gone names
+  one = is_named lost names
 
   abbrev other : List ℕ → Bool
-  other = is_other gone names others
+  other = is_other lost names others
 
   abbrev ones : List (List ℕ)
-  ones = named net gone names
+  ones = named net lost names
 
   abbrev rest : List (List ℕ)
-  rest = others_in net gone names others
+  rest = others_in net lost names others
 
   abbrev listed : List ℕ → Bool
   listed x = is_in ones x || is_in rest x
@@ -83,19 +84,19 @@ module _ (net : Net) (numbers : Numbers) (v : Viewed) (view : IsView net numbers
       ∙ ap (map (λ (e : List ℕ × BridgeRow). e.0)) (filter_mapped (λ (e : List ℕ × BridgeRow). e.1.is_on) named_bridge v.bridges)
       ∙ mapped_twice (λ (e : List ℕ × BridgeRow). e.0) named_bridge (filter on v.bridges)
 
-  same_test : (b : BridgeInView) → Contains v.bridges b → (on b && listed b.name) ≡ seen_either gone names others b
+  same_test : (b : BridgeInView) → Contains v.bridges b → (on b && listed b.name) ≡ seen_either lost names others b
   same_test b h = let k = name_there net numbers v view b h in λ i. on b && (in_those net one b.name k i || in_those net other b.name k i)
 
-  pub either_seen : names_in (filter (seen_either gone names others) v.bridges) ≡ either_on net ones rest
+  pub either_seen : names_in (filter (seen_either lost names others) v.bridges) ≡ either_on net ones rest
   either_seen =
       ap names_in
       (sym
       (filter_twice (λ (b : BridgeInView). listed b.name) on v.bridges
-      ∙ filter_alike (λ (b : BridgeInView). on b && listed b.name) (seen_either gone names others) v.bridges (all_weaker (Contains v.bridges) _ same_test v.bridges (all_there v.bridges))))
+      ∙ filter_alike (λ (b : BridgeInView). on b && listed b.name) (seen_either lost names others) v.bridges (all_weaker (Contains v.bridges) _ same_test v.bridges (all_there v.bridges))))
       ∙ sym (filter_mapped listed (λ (b : BridgeInView). b.name) (filter on v.bridges))
       ∙ ap (filter listed) (sym on_names)
 
-  module _ (o : Outcome) (vid : ℕ) (all : Parts) (are : AreReachParts net o (names_in (filter (seen_either gone names others) v.bridges)) vid all) where
+  module _ (o : Outcome) (vid : ℕ) (all : Parts) (are : AreReachParts net o (names_in (filter (seen_either lost names others) v.bridges)) vid all) where
     abbrev either : List (List ℕ)
     either = either_on net ones rest
 
@@ -112,15 +113,15 @@ module _ (net : Net) (numbers : Numbers) (v : Viewed) (view : IsView net numbers
         (subst (λ bridges. AreGroups (IsReached net o vid) bridges all) either_seen are)
 
     -- which parts have bridges of both lists
-    same_both : (part : List (List ℕ)) → Contains all part → are_of_both gone names others part ≡ has_both ones rest part
+    same_both : (part : List (List ℕ)) → Contains all part → are_of_both lost names others part ≡ has_both ones rest part
     same_both part k =
         let in_net = λ (x : List ℕ) (h : Contains part x). on_there net x (is_on x (in_whole (groups.in_order part k) x h)) in
         λ i. any_alike one (is_in ones) part (λ x h. sym (in_those net one x (in_net x h))) i
         && any_alike other (is_in rest) part (λ x h. sym (in_those net other x (in_net x h))) i
 
-    pub are_both : AreBoth net o ones rest vid (filter (are_of_both gone names others) all)
+    pub are_both : AreBoth net o ones rest vid (filter (are_of_both lost names others) all)
     are_both = record {
       all = all;
       are_parts = groups;
-      are = filter_alike (are_of_both gone names others) (has_both ones rest) all (all_weaker (Contains all) _ same_both all (all_there all));
+      are = filter_alike (are_of_both lost names others) (has_both ones rest) all (all_weaker (Contains all) _ same_both all (all_there all));
     }

@@ -19,10 +19,10 @@ use std::alloc::{AllocError, Global};
 
 /// Whether a bridge is one of the others: of another list, or where there is none not of the first.
 fn is_other(judged: &Judged, names: &NameList, others: Option<&NameList>, bridge: &Name) -> bool
-    ensures { result ≡ is_other_of judged.now.gone names.now (option_copied others.entry) bridge.now }
+    ensures { result ≡ is_other_of judged.now.lost.now names.now (option_copied others.entry) bridge.now }
 {
     match others {
-        Some(list) => is_named(&judged.gone, list, bridge),
+        Some(list) => is_named(judged.lost, list, bridge),
         None => !names.has(bridge),
     }
 }
@@ -34,10 +34,10 @@ fn is_either(
     others: Option<&NameList>,
     bridge: &BridgeInView,
 ) -> bool
-    ensures { result ≡ seen_either judged.now.gone names.now (option_copied others.entry) bridge.now }
+    ensures { result ≡ seen_either judged.now.lost.now names.now (option_copied others.entry) bridge.now }
 {
     bridge.bridge.is_on()
-        && (is_named(&judged.gone, names, &bridge.name)
+        && (is_named(judged.lost, names, &bridge.name)
             || is_other(judged, names, others, &bridge.name))
 }
 
@@ -48,7 +48,7 @@ fn either_on(
     names: &NameList,
     others: Option<&NameList>,
 ) -> Result<Vec<BridgeInView>, AllocError>
-    ensures { IfOk result (λ bridges. bridges.items ≡ filter (seen_either judged.now.gone names.now (option_copied others.entry)) judged.now.plan.now.view.bridges) }
+    ensures { IfOk result (λ bridges. bridges.items ≡ filter (seen_either judged.now.lost.now names.now (option_copied others.entry)) judged.now.plan.now.view.bridges) }
 {
     judged
         .plan
@@ -62,15 +62,15 @@ fn either_on(
 
 /// Whether some of these bridges is one of these names.
 fn has_some(judged: &Judged, names: &NameList, part: &[Name]) -> bool
-    ensures { result ≡ list_any (is_named_of judged.now.gone names.now) part.now }
+    ensures { result ≡ list_any (is_named_of judged.now.lost.now names.now) part.now }
 {
     part.iter()
-        .any(|bridge| is_named(&judged.gone, names, bridge))
+        .any(|bridge| is_named(judged.lost, names, bridge))
 }
 
 /// Whether some of these bridges is one of the others.
 fn has_other(judged: &Judged, names: &NameList, others: Option<&NameList>, part: &[Name]) -> bool
-    ensures { result ≡ list_any (is_other_of judged.now.gone names.now (option_copied others.entry)) part.now }
+    ensures { result ≡ list_any (is_other_of judged.now.lost.now names.now (option_copied others.entry)) part.now }
 {
     part.iter()
         .any(|bridge| is_other(judged, names, others, bridge))
@@ -78,7 +78,7 @@ fn has_other(judged: &Judged, names: &NameList, others: Option<&NameList>, part:
 
 /// Whether a part has bridges of both.
 fn is_of_both(judged: &Judged, names: &NameList, others: Option<&NameList>, part: &[Name]) -> bool
-    ensures { result ≡ are_of_both judged.now.gone names.now (option_copied others.entry) part.now }
+    ensures { result ≡ are_of_both judged.now.lost.now names.now (option_copied others.entry) part.now }
 {
     has_some(judged, names, part) && has_other(judged, names, others, part)
 }
@@ -91,7 +91,7 @@ fn of_both(
     others: Option<&NameList>,
     parts: Vec<Vec<Name>>,
 ) -> Result<Vec<Vec<Name>>, AllocError>
-    ensures { IfOk result (λ both. names_of both ≡ filter (are_of_both judged.now.gone names.now (option_copied others.entry)) (names_of parts)) }
+    ensures { IfOk result (λ both. names_of both ≡ filter (are_of_both judged.now.lost.now names.now (option_copied others.entry)) (names_of parts)) }
 {
     let mut both = Vec::new(alloc);
     for part in parts {
@@ -114,9 +114,9 @@ fn body_at(
     flag: bool,
 ) -> Result<Vec<Vec<Name>>, AllocError>
     requires kept { AreKept judged.now.plan.now judged.now.before.now judged.now.homes.now }
-    requires bridges { bridges.now ≡ filter (seen_either judged.now.gone names.now (option_copied others)) judged.now.plan.now.view.bridges }
+    requires bridges { bridges.now ≡ filter (seen_either judged.now.lost.now names.now (option_copied others)) judged.now.plan.now.view.bridges }
     requires there { class < length judged.now.before.now.classes.firsts.items }
-    ensures { IfOk result (λ both. flag ≡ true → AreBoth judged.now.plan.now.net (outcome_of judged.now.plan.now) (named_in judged.now.plan.now.net judged.now.gone names.now) (others_in judged.now.plan.now.net judged.now.gone names.now (option_copied others.entry)) (slice_index judged.now.before.now.classes.firsts.items class + 1) (names_of both)) }
+    ensures { IfOk result (λ both. flag ≡ true → AreBoth judged.now.plan.now.net (outcome_of judged.now.plan.now) (named_in judged.now.plan.now.net judged.now.lost.now names.now) (others_in judged.now.plan.now.net judged.now.lost.now names.now (option_copied others.entry)) (slice_index judged.now.before.now.classes.firsts.items class + 1) (names_of both)) }
 {
     judged.plan.known();
     if !flag {
@@ -137,7 +137,7 @@ fn bodies(
     requires kept { AreKept judged.now.plan.now judged.now.before.now judged.now.homes.now }
     requires flags { length flags.now ≡ length judged.now.before.now.classes.firsts.items }
     ensures as_long { IfOk result (λ bodies. vec_len bodies ≡ length flags.now) }
-    ensures parts { IfOk result (λ bodies. AreOfClasses (AreBoth judged.now.plan.now.net (outcome_of judged.now.plan.now) (named_in judged.now.plan.now.net judged.now.gone names.now) (others_in judged.now.plan.now.net judged.now.gone names.now (option_copied others.entry))) judged.now.before.now.classes.firsts.items flags.now (map names_of bodies.items)) }
+    ensures parts { IfOk result (λ bodies. AreOfClasses (AreBoth judged.now.plan.now.net (outcome_of judged.now.plan.now) (named_in judged.now.plan.now.net judged.now.lost.now names.now) (others_in judged.now.plan.now.net judged.now.lost.now names.now (option_copied others.entry))) judged.now.before.now.classes.firsts.items flags.now (map names_of bodies.items)) }
 {
     let bridges = either_on(alloc, judged, names, others)?;
     let mut bodies = Vec::new(alloc);
@@ -167,7 +167,7 @@ fn vids_joined(
     others: Option<&NameList>,
 ) -> Result<Vec<Reason>, AllocError>
     requires { AreKept judged.now.plan.now judged.now.before.now judged.now.homes.now }
-    ensures { IfOk result (λ reasons. AreVidReasons (AreBoth judged.now.plan.now.net (outcome_of judged.now.plan.now) (named_in judged.now.plan.now.net judged.now.gone names.now) (others_in judged.now.plan.now.net judged.now.gone names.now (option_copied others.entry))) (tells telling) vids.now reasons.items) }
+    ensures { IfOk result (λ reasons. AreVidReasons (AreBoth judged.now.plan.now.net (outcome_of judged.now.plan.now) (named_in judged.now.plan.now.net judged.now.lost.now names.now) (others_in judged.now.plan.now.net judged.now.lost.now names.now (option_copied others.entry))) (tells telling) vids.now reasons.items) }
 {
     judged.plan.known();
     let numbers = judged.before.classes.numbers.as_slice();
@@ -189,7 +189,7 @@ pub fn apart_reasons(
     others: &NameList,
 ) -> Result<Vec<Reason>, AllocError>
     requires { AreKept judged.now.plan.now judged.now.before.now judged.now.homes.now }
-    ensures { IfOk result (λ reasons. AreApartReasons judged.now.plan.now.net (outcome_of judged.now.plan.now) vids.now (named_in judged.now.plan.now.net judged.now.gone names.now) (named_in judged.now.plan.now.net judged.now.gone others.now) reasons.items) }
+    ensures { IfOk result (λ reasons. AreApartReasons judged.now.plan.now.net (outcome_of judged.now.plan.now) vids.now (named_in judged.now.plan.now.net judged.now.lost.now names.now) (named_in judged.now.plan.now.net judged.now.lost.now others.now) reasons.items) }
 {
     vids_joined(alloc, judged, Telling::Apart, vids, names, Some(others))
 }
@@ -205,7 +205,7 @@ pub fn leaves_reasons(
     names: &NameList,
 ) -> Result<Vec<Reason>, AllocError>
     requires { AreKept judged.now.plan.now judged.now.before.now judged.now.homes.now }
-    ensures { IfOk result (λ reasons. AreLeavesReasons judged.now.plan.now.net (outcome_of judged.now.plan.now) vids.now (named_in judged.now.plan.now.net judged.now.gone names.now) (unnamed judged.now.plan.now.net names.now) reasons.items) }
+    ensures { IfOk result (λ reasons. AreLeavesReasons judged.now.plan.now.net (outcome_of judged.now.plan.now) vids.now (named_in judged.now.plan.now.net judged.now.lost.now names.now) (unnamed judged.now.plan.now.net names.now) reasons.items) }
 {
     vids_joined(alloc, judged, Telling::Leaves, vids, names, None)
 }

@@ -12,5 +12,5 @@ pub(crate) struct Compared<'a> {
     pub prior: &'a Prior<'a>,
     pub names: &'a NameList,
     pub(crate) both: &'a [Both],
-    ghost are_both: { both.now ≡ filter (λ b. is_named judged.now.gone names.now b.old.name) (seen_both prior.now.old.now.view judged.now.plan.now.view) },
+    ghost are_both: { both.now ≡ filter (λ b. is_named judged.now.lost.now names.now b.old.name) (seen_both prior.now.old.now.view judged.now.plan.now.view) },
 }

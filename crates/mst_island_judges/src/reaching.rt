@@ -64,7 +64,7 @@ pub fn reach_reasons(
     names: &NameList,
 ) -> Result<Vec<Reason>, AllocError>
     requires { AreKept judged.now.plan.now judged.now.before.now judged.now.homes.now }
-    ensures { IfOk result (λ reasons. AreReachReasons judged.now.plan.now.net (outcome_of judged.now.plan.now) vids.now (named_in judged.now.plan.now.net judged.now.gone names.now) reasons.items) }
+    ensures { IfOk result (λ reasons. AreReachReasons judged.now.plan.now.net (outcome_of judged.now.plan.now) vids.now (named_in judged.now.plan.now.net judged.now.lost.now names.now) reasons.items) }
 {
     judged.plan.known();
     let numbers = judged.before.classes.numbers.as_slice();

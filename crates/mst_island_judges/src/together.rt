@@ -30,11 +30,11 @@ fn both_named(
     prior: &Prior,
     names: &NameList,
 ) -> Result<Vec<Both>, AllocError>
-    ensures { IfOk result (λ both. both.items ≡ filter (λ b. is_named_of judged.now.gone names.now b.old.name) (seen_both prior.now.old.now.view judged.now.plan.now.view)) }
+    ensures { IfOk result (λ both. both.items ≡ filter (λ b. is_named_of judged.now.lost.now names.now b.old.name) (seen_both prior.now.old.now.view judged.now.plan.now.view)) }
 {
     let all = bridges_of_both(alloc, prior.old.view(), judged.plan.view())?;
     all.iter()
-        .filter(|both| is_named(&judged.gone, names, &both.old.name))
+        .filter(|both| is_named(judged.lost, names, &both.old.name))
         .copied()
         .collect(alloc)
 }
@@ -198,7 +198,7 @@ pub fn together_reasons(
     requires prior { MatchOption judged.now.prior ⊤ (IsBeside judged.now.plan.now) }
     requires same { MatchOption judged.now.prior ⊤ (λ prior. AreInSame (sets_of judged.now.leaving.now) prior.classes.now) }
     ensures { IfOk result (λ reasons. (prior : PriorOf) → IsKeptOf prior judged.now.prior judged.now.leaving.now
-        → AreTogetherReasons prior.before prior.leaving judged.now.plan.now.net (outcome_of judged.now.plan.now) vids.now judged.now.gone names.now reasons.items) }
+        → AreTogetherReasons prior.before prior.leaving judged.now.plan.now.net (outcome_of judged.now.plan.now) vids.now judged.now.lost.now names.now reasons.items) }
 {
     let Some(prior) = &judged.prior else {
         return Ok(Vec::new(alloc));

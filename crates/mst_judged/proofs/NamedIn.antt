@@ -19,7 +19,8 @@ use Rattle.mst_roles.proofs.forest_lemmas.Looking.{filter_alike}
 use Rattle.mst_roles.proofs.forest_lemmas.Seen.{bridge_seen}
 use Rattle.mst_reasons.specs.Seen.{names_in}
 use Rattle.mst_judged.specs.Islands.{HaveNumbers}
-use Rattle.mst_reasons.specs.Named.{Gone, is_enabled, is_named, is_port_named, named, ports_named, stopped}
+use Rattle.mst_reasons.specs.sweep.declared.failure.Failure.{Failure}
+use Rattle.mst_reasons.specs.Named.{is_enabled, is_named, is_port_named, named, ports_named, stopped}
 use Rattle.mst_judged.specs.Seen.{IsBefore, seen_named, seen_ports_named, seen_stopped}
 use Rattle.mst_judged.specs.declared.before.Before.{Before}
 use Rattle.mst_reasons.proofs.NamedIn.{names_are}
@@ -28,8 +29,8 @@ module _ (net : Net) (numbers : Numbers) (v : Viewed) (view : IsView net numbers
   pub name_there : (b : BridgeInView) → Contains v.bridges b → Contains (fin.keys net.bridges) b.name
   name_there b h = subst (λ names. Contains names b.name) (names_are net numbers v view) (in_map (λ (b : BridgeInView). b.name) v.bridges b h)
 
-  pub named_seen : (gone : Gone) (names : List NameItem) → names_in (seen_named v gone names) ≡ named net gone names
-  named_seen gone names = sym (filter_mapped (is_named gone names) (λ (b : BridgeInView). b.name) v.bridges) ∙ ap (filter (is_named gone names)) (names_are net numbers v view)
+  pub named_seen : (lost : List Failure) (names : List NameItem) → names_in (seen_named v lost names) ≡ named net lost names
+  named_seen lost names = sym (filter_mapped (is_named lost names) (λ (b : BridgeInView). b.name) v.bridges) ∙ ap (filter (is_named lost names)) (names_are net numbers v view)
 
   -- those that pass a test have their numbers
   pub have_numbers : (test : BridgeInView → Bool) → HaveNumbers numbers (filter test v.bridges)

@@ -17,7 +17,8 @@ use Rattle.mst_reasons.specs.sweep.Parts.{ArePartsOf}
 use Rattle.mst_reasons.specs.sweep.vlan.classes.Classes.{AreClasses}
 use Rattle.mst_reasons.specs.Holds.{IsReached}
 use Rattle.mst_policy.specs.Leaving.{Leaving}
-use Rattle.mst_reasons.specs.Named.{Gone, Prior, remaining}
+use Rattle.mst_reasons.specs.sweep.declared.failure.Failure.{Failure}
+use Rattle.mst_reasons.specs.Named.{Prior, remaining}
 use Rattle.mst_reasons.specs.Reasons.{Parts}
 use Rattle.mst_judged.specs.Valued.{AreValuesOf}
 use Rattle.mst_judged.specs.declared.beside.Beside.{Beside}
@@ -128,7 +129,7 @@ pub record AreBeside (old : ViewWithTrees) (s : SettledNet) (beside : Beside) : 
   pub alike : AreAlike old s beside.classes.firsts.items beside.differ.items
 
 -- these are the parts that a VID has of the bridges of NAMES that aren't to leave it, in each network of which this is kept
-abbrev pub ArePartsBeside : SettledNet → KeptPrior → Leaving → Gone → List NameItem → ℕ → Parts → Type 0
+abbrev pub ArePartsBeside : SettledNet → KeptPrior → Leaving → List Failure → List NameItem → ℕ → Parts → Type 0
 ArePartsBeside s kept leaving lost names vid parts = (net : Net) (o : Outcome) → IsOneOf net o kept.old.now → ArePartsOf (remaining leaving vid net lost names) net o s.net (outcome_of s) vid parts
 
 -- ---- parts

@@ -9,7 +9,8 @@ use Rattle.mst_view.specs.declared.in_view.PortInView.{PortInView}
 use Rattle.mst_policy.specs.Items as policy
 use Rattle.mst_policy.specs.declared.item.NameItem.{NameItem}
 use Rattle.mst_policy.specs.declared.item.PortItem.{PortItem}
-use Rattle.mst_reasons.specs.Named.{Gone, is_named, is_enabled}
+use Rattle.mst_reasons.specs.sweep.declared.failure.Failure.{Failure}
+use Rattle.mst_reasons.specs.Named.{is_named, is_enabled}
 use Rattle.mst_judged.specs.declared.before.Before.{Before}
 
 -- the ports that are kept are the enabled ones of the network
@@ -17,8 +18,8 @@ abbrev pub IsBefore : Net → Before → Type 0
 IsBefore net before = (port : PortName) → contains port_eq before.enabled port ≡ is_enabled net port
 
 -- ---- bridges
-abbrev pub seen_named : Viewed → Gone → List NameItem → List BridgeInView
-seen_named v gone names = filter (λ b. is_named gone names b.name) v.bridges
+abbrev pub seen_named : Viewed → List Failure → List NameItem → List BridgeInView
+seen_named v lost names = filter (λ b. is_named lost names b.name) v.bridges
 
 -- ---- ports
 -- a port isn't enabled that was so before

@@ -1,9 +1,9 @@
 //! A network that is judged, with what is kept for all expectations that are judged in it.
 //!
 //! A [`Judged`] is a network's plan, what is kept of the network before the failure ([`Before`]), the islands that are made already
-//! ([`Homes`]), and the bridge that failed. Islands are made only for the VIDs that a failure lets other ports carry: what is kept of the
+//! ([`Homes`]), and what failed. Islands are made only for the VIDs that a failure lets other ports carry: what is kept of the
 //! network before it tells those of the others. What stays together is asked of the network that is prior to it, too ([`Prior`]): of the one
-//! without the failure, or of another one from which it came ([`Beside`]).
+//! without the failures, or of another one from which it came ([`Beside`]).
 #![tactic(auto)]
 
 mod before;

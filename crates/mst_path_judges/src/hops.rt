@@ -32,7 +32,7 @@ pub fn hops_reasons(
     names: &NameList,
 ) -> Result<Vec<Reason>, AllocError>
     requires { AreKept judged.now.plan.now judged.now.before.now judged.now.homes.now }
-    ensures { IfOk result (λ reasons. AreHopsReasons judged.now.plan.now.net (outcome_of judged.now.plan.now) vids.now most (named_in judged.now.plan.now.net judged.now.gone names.now) reasons.items) }
+    ensures { IfOk result (λ reasons. AreHopsReasons judged.now.plan.now.net (outcome_of judged.now.plan.now) vids.now most (named_in judged.now.plan.now.net judged.now.lost.now names.now) reasons.items) }
 {
     judged.plan.known();
     let seen = named(alloc, judged, names)?;

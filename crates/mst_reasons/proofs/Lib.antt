@@ -5,3 +5,5 @@ pub use Rattle.mst_summary.proofs as summary_lemmas
 pub mod Things
 pub mod NamedIn
 pub mod Remaining
+pub mod RisksSeen
+pub mod Kept

@@ -22,12 +22,13 @@ use Rattle.mst_roles.specs.declared.kind.Role.TheVariants.{Root, Designated, Alt
 use Rattle.mst_sweep.specs.vlan.Reach.{bridges_on, vid_links}
 use Rattle.mst_graph.specs.Lists.{has_any}
 use Rattle.mst_sweep.specs.facts.Roots.{root_name}
+use Rattle.mst_sweep.specs.declared.failure.Failure.{Failure}
 use Rattle.mst_policy.specs.declared.expectation.Expectation.{Expectation}
 use Rattle.mst_policy.specs.declared.expectation.Expectation.TheVariants as expect
 use Rattle.mst_policy.specs.declared.expectation.Roles.{Roles}
 use Rattle.mst_policy.specs.declared.item.NameItem.{NameItem}
 use Rattle.mst_policy.specs.Leaving.{Leaving}
-use Rattle.mst_reasons.specs.Named.{Gone, Prior, named, ports_named, remaining, unnamed, vids_in}
+use Rattle.mst_reasons.specs.Named.{Prior, named, ports_named, remaining, unnamed, vids_in}
 use Rattle.mst_reasons.specs.Over.{goes_over}
 use Rattle.mst_reasons.specs.Roots.{concerned, IsNextRoot}
 
@@ -78,7 +79,7 @@ AllStayTogether a p net o vids bridges =
     (vid : ℕ) → Contains (vids_in vids) vid → (x y : List ℕ) → Contains (bridges vid) x → Contains (bridges vid) y → Contains (bridges_on net) x → Contains (bridges_on net) y → AreTogether a p vid x y → AreTogether net o vid x y
 
 -- where nothing is before, nothing is asked
-abbrev pub StayTogether : Option (Net × Outcome) → Leaving → Net → Outcome → List Bool → Gone → List NameItem → Type 0
+abbrev pub StayTogether : Option (Net × Outcome) → Leaving → Net → Outcome → List Bool → List Failure → List NameItem → Type 0
 StayTogether None leaving net o vids lost names = ⊤
 StayTogether (Some before) leaving net o vids lost names = AllStayTogether before.0 before.1 net o vids (λ vid. remaining leaving vid before.0 lost names)
 
@@ -122,9 +123,9 @@ abbrev pub NoLimitBinds : Net → Outcome → Type 0
 NoLimitBinds net o = (notes : List Row) → AreNoteRows net o notes → limit_notes notes ≡ []
 
 -- ---- all fourteen
--- an expectation holds in a network with this outcome. It is the one before all failures, or one that a failure makes of that one,
--- `before`, and then this bridge is gone, if it was one. What stays together was so in the network that is prior to it, and isn't meant to leave
-abbrev pub Holds : Net → Outcome → Net → Gone → Prior → Expectation → Type 0
+-- an expectation holds in a network with this outcome. It is the one before all failures, or that one, `before`, with these failures,
+-- which are lost. What stays together was so in the network that is prior to it, and isn't meant to leave
+abbrev pub Holds : Net → Outcome → Net → List Failure → Prior → Expectation → Type 0
 Holds net o before lost prior (expect.Root tree b next) = IsOneRoot net o tree b × ForSome next (IsNextRoot net o tree b)
 Holds net o before lost prior (expect.Region names) = AreOneRegion net (named net lost names)
 Holds net o before lost prior (expect.Role tree ports roles) = HaveRoles net o tree (ports_named net before ports) roles

@@ -11,4 +11,6 @@ pub mod Reasons
 pub mod Stretches
 pub mod Roots
 pub mod Placed
+pub mod Risks
+pub mod SeenRisks
 pub mod Seen

@@ -8,7 +8,8 @@ use Rattle.mst_tables.specs.Tables.{Net}
 use Rattle.mst_roles.specs.forest.Msti.{is_had}
 use Rattle.mst_view.specs.View.{port_names}
 use Rattle.mst_graph.specs.Lists.{has_any}
-use Rattle.mst_sweep.specs.Failures.{failures}
+use Rattle.mst_sweep.specs.Failures.{Event}
+use Rattle.mst_sweep.specs.SweepText.{cause_name}
 use Rattle.mst_policy.specs.Items.{item_has, port_item_has}
 use Rattle.mst_policy.specs.declared.item.NameItem.{NameItem}
 use Rattle.mst_policy.specs.declared.item.NameItem.TheVariants.{Is}
@@ -18,7 +19,8 @@ use Rattle.mst_policy.specs.declared.expectation.Expectation.TheVariants as expe
 use Rattle.mst_policy.specs.declared.expectation.Promise.{Promise}
 use Rattle.mst_policy.specs.declared.expectation.Scope.{Scope}
 use Rattle.mst_policy.specs.declared.expectation.Scope.TheVariants as scope
-use Rattle.mst_reasons.specs.Judged.{asks, name_of}
+use Rattle.mst_reasons.specs.Judged.{asks}
+use Rattle.mst_reasons.specs.Risks.{has_one}
 use Rattle.mst_reasons.specs.declared.missing.Missing.{Missing}
 use Rattle.mst_reasons.specs.declared.missing.Missing.TheVariants as lacking
 
@@ -75,21 +77,17 @@ scope_lans _ = []
 abbrev pub is_tree : Net → ℕ → Bool
 is_tree net tree = tree == 0 || is_had net tree
 
--- an item has one of these names
-abbrev pub has_one : List (List ℕ) → NameItem → Bool
-has_one names item = list_any (item_has item) names
-
 -- an item of PORTS has one of these ports
 abbrev pub has_port : List PortName → PortItem → Bool
 has_port ports item = list_any (port_item_has item) ports
 
--- some failure of the network is that of a name which an item has, and the promise is judged after it
-abbrev pub has_failure : Net → Promise → NameItem → Bool
-has_failure net promise item = list_any (λ failure. item_has item (name_of failure) && asks promise failure) (failures net)
+-- some event is of a name which an item has, and the promise is judged after it
+abbrev pub has_event : List Event → Promise → NameItem → Bool
+has_event events promise item = list_any (λ event. item_has item (cause_name event.cause) && asks promise event) events
 
--- there are items, and each has such a failure
-abbrev pub have_failures : Net → Promise → List NameItem → Bool
-have_failures net promise items = has_any items && list_all (has_failure net promise) items
+-- there are items, and each has such an event
+abbrev pub have_events : List Event → Promise → List NameItem → Bool
+have_events events promise items = has_any items && list_all (has_event events promise) items
 
 -- ---- what is missing, the least first
 abbrev pub lacks_tree : Net → Promise → Bool
@@ -105,23 +103,25 @@ lacks_port net promise = not (list_all (has_port (port_names net)) (ports_of pro
 abbrev pub lacks_lan : Net → Promise → Bool
 lacks_lan net promise = not (list_all (has_one (fin.keys net.lans)) (scope_lans promise.scope ++ lans_of promise.expectation))
 
--- a promise of what comes after failures is judged after one of each item of its scope: each bridge of an item may be off, each LAN
--- down, or left out because the expectation names them
-abbrev pub lacks_failure_of : Net → Promise → Scope → Bool
-lacks_failure_of net promise (scope.AfterLan names) = not (have_failures net promise names)
-lacks_failure_of net promise (scope.AfterBridge names) = not (have_failures net promise names)
-lacks_failure_of net promise _ = false
+-- a promise of what comes after events is judged after one of each item of its scope: each bridge of an item may be off, each LAN
+-- down, no risk left that has a failure, or all left out because the expectation names what fails
+abbrev pub lacks_event_of : List Event → Promise → Scope → Bool
+lacks_event_of events promise (scope.AfterLan names) = not (have_events events promise names)
+lacks_event_of events promise (scope.AfterBridge names) = not (have_events events promise names)
+lacks_event_of events promise (scope.AfterRisk names) = not (have_events events promise names)
+lacks_event_of events promise _ = false
 
-abbrev pub lacks_failure : Net → Promise → Bool
-lacks_failure net promise = lacks_failure_of net promise promise.scope
+abbrev pub lacks_event : List Event → Promise → Bool
+lacks_event events promise = lacks_event_of events promise promise.scope
 
-abbrev pub missing : Net → Promise → Option Missing
-missing net promise =
+-- by the events of the network
+abbrev pub missing : Net → List Event → Promise → Option Missing
+missing net events promise =
     if lacks_tree net promise then Some lacking.Tree
     else (if lacks_bridge net promise then Some lacking.Bridge
     else (if lacks_port net promise then Some lacking.Port
     else (if lacks_lan net promise then Some lacking.Lan
-    else (if lacks_failure net promise then Some lacking.Failure else None))))
+    else (if lacks_event events promise then Some lacking.Failure else None))))
 
 -- ---- what is printed
 abbrev pub code_of : Missing → List ℕ

@@ -1,15 +1,15 @@
 -- Which bridges and logical ports the lists of an expectation have in a network.
-use Rattle.std.specs.Prelude.{ℕ, ◌&&◌, not, Bool, false, List, [], Option, Some, None, MatchOption, filter, ⊤}
+use Rattle.std.specs.Prelude.{ℕ, ◌&&◌, not, Bool, List, [], Option, Some, None, MatchOption, filter, ⊤}
 use Rattle.std.specs.List.{list_any}
-use Rattle.std.specs.Option.{option_map_or}
 use Rattle.std.specs.FinMap as fin
 use Rattle.mst_ids.specs.Vids.{has}
 use Rattle.mst_ids.specs.declared.name.PortName.{PortName}
 use Rattle.mst_tables.specs.Tables.{IsNetwork, Net, port_eq}
 use Rattle.mst_roles.specs.forest.Outcome.{Outcome}
-use Rattle.mst_view.specs.Aggregation.{same_name}
 use Rattle.mst_view.specs.View.{LogicalPort, view_ports}
 use Rattle.mst_sweep.specs.vlan.classes.AllVids.{all_vids}
+use Rattle.mst_sweep.specs.Failing.{fails_bridge}
+use Rattle.mst_sweep.specs.declared.failure.Failure.{Failure}
 use Rattle.mst_policy.specs.Items as policy
 use Rattle.mst_policy.specs.Leaving.{Leaving, leaves}
 use Rattle.mst_policy.specs.declared.item.NameItem.{NameItem}
@@ -34,35 +34,32 @@ abbrev pub OfNetwork : Prior → Type 0
 OfNetwork prior = MatchOption prior.before ⊤ (λ p. IsNetwork p.0)
 
 -- ---- bridges
--- the bridge that failed, if one did
-abbrev pub Gone : Type 0
-Gone = Option (List ℕ)
+-- a bridge is one that failed
+abbrev pub is_gone : List Failure → List ℕ → Bool
+is_gone failures name = list_any (fails_bridge name) failures
 
-abbrev pub is_gone : Gone → List ℕ → Bool
-is_gone gone name = option_map_or (same_name name) gone false
-
--- a bridge is one of NAMES: some item has it, and it isn't the one that failed
-abbrev pub is_named : Gone → List NameItem → List ℕ → Bool
-is_named gone names bridge = policy.has names bridge && not (is_gone gone bridge)
+-- it is one of NAMES: some item has it, and it isn't one that failed
+abbrev pub is_named : List Failure → List NameItem → List ℕ → Bool
+is_named failures names bridge = policy.has names bridge && not (is_gone failures bridge)
 
 -- these bridges, on or off, in byte order of names
-abbrev pub named : Net → Gone → List NameItem → List (List ℕ)
-named net gone names = filter (is_named gone names) (fin.keys net.bridges)
+abbrev pub named : Net → List Failure → List NameItem → List (List ℕ)
+named net failures names = filter (is_named failures names) (fin.keys net.bridges)
 
 -- the bridges that aren't of NAMES
 abbrev pub unnamed : Net → List NameItem → List (List ℕ)
 unnamed net names = filter (λ bridge. not (policy.has names bridge)) (fin.keys net.bridges)
 
 -- the bridges of NAMES that aren't meant to leave a VID
-abbrev pub remaining : Leaving → ℕ → Net → Gone → List NameItem → List (List ℕ)
-remaining leaving vid net gone names = filter (λ bridge. not (leaves leaving vid bridge)) (named net gone names)
+abbrev pub remaining : Leaving → ℕ → Net → List Failure → List NameItem → List (List ℕ)
+remaining leaving vid net failures names = filter (λ bridge. not (leaves leaving vid bridge)) (named net failures names)
 
 -- ---- logical ports
 -- a logical port of this name is enabled
 abbrev pub is_enabled : Net → PortName → Bool
 is_enabled net port = list_any (λ p. p.is_enabled && port_eq p.name port) (view_ports net)
 
--- a port isn't enabled that was so before the failure
+-- a port isn't enabled that was so before the failures
 abbrev pub stopped : Net → LogicalPort → Bool
 stopped before p = not p.is_enabled && is_enabled before p.name
 

@@ -27,12 +27,13 @@ use Rattle.mst_sweep.specs.vlan.Reach.{bridges_on}
 use Rattle.mst_sweep.specs.Parts.{ArePartsOf}
 use Rattle.mst_roles.specs.RoleNumbers.{role_number}
 use Rattle.mst_graph.specs.Lists.{has_any}
+use Rattle.mst_sweep.specs.declared.failure.Failure.{Failure}
 use Rattle.mst_policy.specs.declared.expectation.Expectation.{Expectation}
 use Rattle.mst_policy.specs.declared.expectation.Expectation.TheVariants as expect
 use Rattle.mst_policy.specs.declared.expectation.Roles.{Roles}
 use Rattle.mst_policy.specs.declared.item.NameItem.{NameItem}
 use Rattle.mst_policy.specs.Leaving.{Leaving}
-use Rattle.mst_reasons.specs.Named.{Gone, Prior, named, ports_named, remaining, unnamed, vids_in}
+use Rattle.mst_reasons.specs.Named.{Prior, named, ports_named, remaining, unnamed, vids_in}
 use Rattle.mst_reasons.specs.Over.{not_as_wanted}
 use Rattle.mst_reasons.specs.Roots.{concerned, is_root_of, IsNextRoot}
 use Rattle.mst_reasons.specs.Holds.{is_wanted, AreTogether, IsReached}
@@ -159,7 +160,7 @@ AreLeavesReasons net o vids bridges others reasons = AreVidReasons (AreBoth net 
 abbrev pub together_reason : List ℕ → Parts → List Reason
 together_reason vids parts = if has_any parts then why.Together (set_where (is_among vids)) parts ∷ [] else []
 
-abbrev pub AreTogetherReasons : Option (Net × Outcome) → Leaving → Net → Outcome → List Bool → Gone → List NameItem → List Reason → Type 0
+abbrev pub AreTogetherReasons : Option (Net × Outcome) → Leaving → Net → Outcome → List Bool → List Failure → List NameItem → List Reason → Type 0
 AreTogetherReasons None leaving net o vids lost names reasons = reasons ≡ []
 AreTogetherReasons (Some before) leaving net o vids lost names reasons =
     AreVidReasons (λ vid parts. ArePartsOf (remaining leaving vid before.0 lost names) before.0 before.1 net o vid parts) together_reason vids reasons
@@ -250,7 +251,7 @@ pub record AreFitsReasons (net : Net) (o : Outcome) (reasons : List Reason) : Ty
   pub are : reasons ≡ filter_map (λ note. limit_reason note.kind note.cells) notes
 
 -- ---- all fourteen
-abbrev pub AreReasons : Net → Outcome → Net → Gone → Prior → Expectation → List Reason → Type 0
+abbrev pub AreReasons : Net → Outcome → Net → List Failure → Prior → Expectation → List Reason → Type 0
 AreReasons net o before lost prior (expect.Root tree b next) reasons = AreRootReasons net o tree b next reasons
 AreReasons net o before lost prior (expect.Region names) reasons = AreRegionReasons net (named net lost names) reasons
 AreReasons net o before lost prior (expect.Role tree ports roles) reasons = reasons ≡ role_reasons net o tree (ports_named net before ports) roles
@@ -267,5 +268,5 @@ AreReasons net o before lost prior (expect.Avoids lan vids) reasons = reasons �
 AreReasons net o before lost prior expect.Fits reasons = AreFitsReasons net o reasons
 
 -- there is at most one list of them
-abbrev pub HasOneList : Net → Outcome → Net → Gone → Prior → Expectation → Type 0
+abbrev pub HasOneList : Net → Outcome → Net → List Failure → Prior → Expectation → Type 0
 HasOneList net o before lost prior expectation = (reasons other : List Reason) → AreReasons net o before lost prior expectation reasons → AreReasons net o before lost prior expectation other → reasons ≡ other

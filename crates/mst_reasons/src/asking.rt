@@ -1,11 +1,11 @@
 ghost use Rattle.std.specs.Prelude.{◌≡◌, ◌||◌, false};
 ghost use Rattle.std.specs.Option.{option_map_or};
 ghost use Rattle.mst_view.specs.Aggregation.{same_name};
-ghost use Rattle.mst_reasons.specs.Judged.{is_its_bridge as is_bridge_of, is_its_lan as is_lan_of, asks_for as list_asks_for, asks_now as promise_asks_now, asks as promise_asks, has_now as scope_has_now, looks_back as looks_back_of, scope_asks};
+ghost use Rattle.mst_reasons.specs.Judged.{is_its_bridge as is_bridge_of, is_its_lan as is_lan_of, asks_for as list_asks_for, asks_now as promise_asks_now, asks as promise_asks, fails_its_own as fails_own, has_now as scope_has_now, is_its_own as is_own_event, looks_back as looks_back_of};
 
 use mst_ids::Name;
 use mst_policy::{Expectation, NameList, Promise, Scope};
-use mst_sweep::Failure;
+use mst_sweep::{Cause, Event, Failure};
 
 /// Whether the network itself is judged, where it is said whether one is prior to it: of what stays together, only then.
 pub fn asks_now(has_prior: bool, promise: &Promise) -> bool
@@ -32,50 +32,49 @@ pub fn has_now(scope: &Scope) -> bool
         Scope::Now => true,
         Scope::AfterLan(_) => false,
         Scope::AfterBridge(_) => false,
+        Scope::AfterRisk(_) => false,
         Scope::Always => true,
     }
 }
 
-/// Whether the network that a failure makes is judged. That of a failure of what the expectation itself names, its root, the next one,
-/// the bridges of its path or its LAN, is judged where the scope names it, too, and not where a pattern has it.
-pub fn asks(promise: &Promise, failure: &Failure) -> bool
-    ensures { result ≡ promise_asks promise.now failure.now }
+/// Whether the network of an event is judged. That of an event of what the expectation itself names, its root, the next one,
+/// the bridges of its path or its LAN, is judged where the scope names the event, too, and not where a pattern has it.
+pub fn asks(promise: &Promise, event: &Event) -> bool
+    ensures { result ≡ promise_asks promise.now event.now }
+{
+    let is_own = is_its_own(&promise.expectation, event);
+    match (&promise.scope, event.cause()) {
+        (Scope::AfterLan(names), Cause::One(Failure::Lan(lan))) => asks_for(names, lan, is_own),
+        (Scope::AfterBridge(names), Cause::One(Failure::Bridge(bridge))) => {
+            asks_for(names, bridge, is_own)
+        }
+        (Scope::AfterRisk(names), Cause::Risk(name)) => asks_for(names, name, is_own),
+        (Scope::Always, _) => !is_own,
+        _ => false,
+    }
+}
+
+/// Whether one of the failures of an event is of what the expectation names.
+fn is_its_own(expectation: &Expectation, event: &Event) -> bool
+    ensures { result ≡ is_own_event expectation.now event.now }
+{
+    event
+        .failures()
+        .iter()
+        .any(|failure| fails_its_own(expectation, failure))
+}
+
+/// Whether a failure is of what the expectation names.
+fn fails_its_own(expectation: &Expectation, failure: &Failure) -> bool
+    ensures { result ≡ fails_own expectation.now failure.now }
 {
     match failure {
-        Failure::Lan(lan) => asks_lan(&promise.scope, lan, is_its_lan(&promise.expectation, lan)),
-        Failure::Bridge(bridge) => asks_bridge(
-            &promise.scope,
-            bridge,
-            is_its_bridge(&promise.expectation, bridge),
-        ),
+        Failure::Lan(lan) => is_its_lan(expectation, lan),
+        Failure::Bridge(bridge) => is_its_bridge(expectation, bridge),
     }
 }
 
-/// Whether that of a LAN is judged, where it is the expectation's own or not.
-fn asks_lan(scope: &Scope, lan: &Name, is_own: bool) -> bool
-    ensures { result ≡ scope_asks scope.now (Failure.Lan lan.now) is_own }
-{
-    match scope {
-        Scope::Now => false,
-        Scope::AfterLan(names) => asks_for(names, lan, is_own),
-        Scope::AfterBridge(_) => false,
-        Scope::Always => !is_own,
-    }
-}
-
-/// Whether that of a bridge is judged, where it is the expectation's own or not.
-fn asks_bridge(scope: &Scope, bridge: &Name, is_own: bool) -> bool
-    ensures { result ≡ scope_asks scope.now (Failure.Bridge bridge.now) is_own }
-{
-    match scope {
-        Scope::Now => false,
-        Scope::AfterLan(_) => false,
-        Scope::AfterBridge(names) => asks_for(names, bridge, is_own),
-        Scope::Always => !is_own,
-    }
-}
-
-/// Whether a list asks for the failure of a name: it has the name, and if that is the expectation's own, as an item.
+/// Whether a list asks for an event of a name: it has the name, and if the event is the expectation's own, as an item.
 fn asks_for(names: &NameList, name: &Name, is_own: bool) -> bool
     ensures { result ≡ list_asks_for names.now name.now is_own }
 {

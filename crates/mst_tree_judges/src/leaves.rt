@@ -108,7 +108,7 @@ pub fn leaf_reasons(
     tree: Tree,
     names: &NameList,
 ) -> Result<Vec<Reason>, AllocError>
-    ensures { IfOk result (λ reasons. AreLeafReasons judged.now.plan.now.net (outcome_of judged.now.plan.now) tree (named_in judged.now.plan.now.net judged.now.gone names.now) reasons.items) }
+    ensures { IfOk result (λ reasons. AreLeafReasons judged.now.plan.now.net (outcome_of judged.now.plan.now) tree (named_in judged.now.plan.now.net judged.now.lost.now names.now) reasons.items) }
 {
     judged.plan.known();
     nested();

@@ -37,7 +37,7 @@ fn pairs(
 
 /// The parts of these bridges that are of one region, by their first bridges. It takes about one step for each bridge.
 fn parts(alloc: Global, judged: &Judged, names: &NameList) -> Result<Vec<Vec<Name>>, AllocError>
-    ensures { IfOk result (λ parts. AreGroups (λ x y. same_region judged.now.plan.now.net x y ≡ true) (named_in judged.now.plan.now.net judged.now.gone names.now) (map (λ part. part.items) parts.items)) }
+    ensures { IfOk result (λ parts. AreGroups (λ x y. same_region judged.now.plan.now.net x y ≡ true) (named_in judged.now.plan.now.net judged.now.lost.now names.now) (map (λ part. part.items) parts.items)) }
 {
     judged.plan.known();
     let bridges = named(alloc, judged, names)?;
@@ -51,7 +51,7 @@ pub fn region_reasons(
     judged: &Judged,
     names: &NameList,
 ) -> Result<Vec<Reason>, AllocError>
-    ensures { IfOk result (λ reasons. AreRegionReasons judged.now.plan.now.net (named_in judged.now.plan.now.net judged.now.gone names.now) reasons.items) }
+    ensures { IfOk result (λ reasons. AreRegionReasons judged.now.plan.now.net (named_in judged.now.plan.now.net judged.now.lost.now names.now) reasons.items) }
 {
     let parts = parts(alloc, judged, names)?;
     told(alloc, parts)

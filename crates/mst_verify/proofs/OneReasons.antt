@@ -18,7 +18,8 @@ use Rattle.mst_island_judges.specs.judged.reasons.sweep.vlan.Reach.{bridges_on}
 use Rattle.mst_island_judges.specs.judged.reasons.note_text.Children.{HasSteps}
 use Rattle.mst_island_judges.specs.judged.reasons.note_text.Depths.{ParentIn}
 use Rattle.mst_island_judges.specs.judged.reasons.note_text.NotesText.{AreNoteRows}
-use Rattle.mst_island_judges.specs.judged.reasons.Named.{Gone, Prior, is_named, named, unnamed}
+use Rattle.mst_island_judges.specs.judged.reasons.sweep.declared.failure.Failure.{Failure}
+use Rattle.mst_island_judges.specs.judged.reasons.Named.{Prior, is_named, named, unnamed}
 use Rattle.mst_island_judges.specs.judged.reasons.Holds.{AreTogether, IsReached}
 use Rattle.mst_island_judges.specs.judged.reasons.Reasons.{limit_reason, root_reasons, AreRootReasons, has_two, AreRegionReasons, Parts, reach_reason, AreReachReasons, is_in, either_on, has_both, AreBoth, apart_reason, AreApartReasons, leaves_reason, AreLeavesReasons, AreThose, leaf_reason, AreLeafReasons, AreDepthReasons, AreFitsReasons, AreReasons}
 use Rattle.mst_island_judges.specs.judged.reasons.Roots.{IsNextRoot}
@@ -106,18 +107,18 @@ module _ (net : Net) (o : Outcome) where
     one_root tree b wanted reasons others x y = x.are ∙ ap (root_reasons net o tree b wanted) (next_same tree b x.next y.next x.is_next y.is_next) ∙ sym y.are
 
     -- ---- all fourteen
-    module _ (before : Net) (gone : Gone) (prior : Prior) (islands : OneIslands) (one : (notes other : List Row) → AreNoteRows net o notes → AreNoteRows net o other → notes ≡ other) where
-      pub reasons_same : (e : Expectation) (reasons others : List Reason) → AreReasons net o before gone prior e reasons → AreReasons net o before gone prior e others → reasons ≡ others
+    module _ (before : Net) (lost : List Failure) (prior : Prior) (islands : OneIslands) (one : (notes other : List Row) → AreNoteRows net o notes → AreNoteRows net o other → notes ≡ other) where
+      pub reasons_same : (e : Expectation) (reasons others : List Reason) → AreReasons net o before lost prior e reasons → AreReasons net o before lost prior e others → reasons ≡ others
       reasons_same (expect.Root tree b next) reasons others x y = one_root tree b next reasons others x y
-      reasons_same (expect.Region names) reasons others x y = one_region (named net gone names) (names_once net (is_named gone names)) reasons others x y
+      reasons_same (expect.Region names) reasons others x y = one_region (named net lost names) (names_once net (is_named lost names)) reasons others x y
       reasons_same (expect.Role tree ports roles) reasons others x y = x ∙ sym y
-      reasons_same (expect.Reach vids names) reasons others x y = one_reach vids (named net gone names) (names_once net (is_named gone names)) reasons others x y
-      reasons_same (expect.Apart vids names more) reasons others x y = one_apart vids (named net gone names) (named net gone more) reasons others x y
-      reasons_same (expect.Leaves vids names) reasons others x y = one_leaves vids (named net gone names) (unnamed net names) reasons others x y
-      reasons_same (expect.Together vids names) reasons others x y = one_together net o vids gone names prior.leaving islands prior.before reasons others x y
-      reasons_same (expect.Leaf tree names) reasons others x y = one_leaf tree (named net gone names) reasons others x y
+      reasons_same (expect.Reach vids names) reasons others x y = one_reach vids (named net lost names) (names_once net (is_named lost names)) reasons others x y
+      reasons_same (expect.Apart vids names more) reasons others x y = one_apart vids (named net lost names) (named net lost more) reasons others x y
+      reasons_same (expect.Leaves vids names) reasons others x y = one_leaves vids (named net lost names) (unnamed net names) reasons others x y
+      reasons_same (expect.Together vids names) reasons others x y = one_together net o vids lost names prior.leaving islands prior.before reasons others x y
+      reasons_same (expect.Leaf tree names) reasons others x y = one_leaf tree (named net lost names) reasons others x y
       reasons_same (expect.Depth tree steps) reasons others x y = one_depth tree steps reasons others x y
-      reasons_same (expect.Hops vids most names) reasons others x y = one_hops net o vids most (named net gone names) reasons others x y
+      reasons_same (expect.Hops vids most names) reasons others x y = one_hops net o vids most (named net lost names) reasons others x y
       reasons_same (expect.Via vids a b c) reasons others x y = one_via net o vids a b c reasons others x y
       reasons_same (expect.Carries lan vids) reasons others x y = x ∙ sym y
       reasons_same (expect.Avoids lan vids) reasons others x y = x ∙ sym y

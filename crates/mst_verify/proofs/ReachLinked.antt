@@ -1,26 +1,24 @@
 -- Where all may pass, bridges reach each other just where enabled ports link them.
-use Rattle.std.proofs.Common.{◌≡◌, ◌≢◌, ◌↔◌, ◌⊎◌, inl, inr, ℕ, Bool, true, false, true≢false, List, None, Ok, is_some, refl, sym, ◌∙◌}
+use Rattle.std.proofs.Common.{◌≡◌, ◌≢◌, ◌↔◌, ◌⊎◌, inl, inr, ℕ, Bool, true, false, true≢false, List, [], ◌∷◌, is_some, refl, sym, subst, ◌∙◌}
 use Rattle.std.specs.Cmp.Lexicographic.{bytes_decides}
 use Rattle.std.specs.List.{Contains}
-use Rattle.mst_lang.specs.Ranges.{InRange}
-use Rattle.mst_lang.specs.declared.line.Edit.{Edit}
-use Rattle.mst_net.specs.tables.After.{after}
 use Rattle.mst_net.specs.tables.Tables.{Net, IsNetwork}
 use Rattle.mst_view.specs.Aggregation.{same_name}
 use Rattle.mst_view.specs.View.{IsUnrestricted}
 use Rattle.mst_graph.specs.Walks.{Node, Walk, bridge_at}
+use Rattle.mst_graph.proofs.Members.{from_map, in_map}
 use Rattle.mst_policy.specs.declared.item.NameItem.{NameItem}
 use Rattle.mst_roles.specs.forest.Outcome.{Outcome, IsOutcome}
 use Rattle.mst_roles.specs.Active.{active_ports, port_ends, IsEnabled}
-use Rattle.mst_island_judges.specs.judged.reasons.sweep.Failures.{edit_of, failures}
+use Rattle.mst_island_judges.specs.judged.reasons.sweep.Failures.{Event, alone, failed, failures, single_events}
 use Rattle.mst_island_judges.specs.judged.reasons.sweep.declared.failure.Failure.{Failure}
 use Rattle.mst_island_judges.specs.judged.reasons.sweep.declared.failure.Failure.TheVariants.{Lan, Bridge}
-use Rattle.mst_island_judges.proofs.judged_lemmas.reasons_lemmas.sweep_lemmas.CutApart.{joined_linked, linked_joined}
+use Rattle.mst_island_judges.proofs.judged_lemmas.reasons_lemmas.sweep_lemmas.CutApart.{joined_linked, kept_free, kept_members, linked_joined}
+use Rattle.mst_island_judges.proofs.judged_lemmas.reasons_lemmas.sweep_lemmas.Together.{failed_network}
 use Rattle.mst_island_judges.specs.judged.reasons.Holds.{AllReach, IsReached}
-use Rattle.mst_island_judges.specs.judged.reasons.Judged.{asks, asks_now, gone_of, IsKept}
+use Rattle.mst_island_judges.specs.judged.reasons.Judged.{HoldsAfter, asks, asks_now, IsKept}
 use Rattle.mst_verify.specs.Linked.{AllPass, AllAreLinked, AreLinkedOn, StayLinked, always_reach}
 use Rattle.mst_island_judges.specs.judged.reasons.Named.{Prior, named, vids_in}
-use Rattle.mst_verify.proofs.Failed.{in_range, stay_members, stays_free}
 use Rattle.mst_island_judges.proofs.judged_lemmas.reasons_lemmas.Things.{any_there}
 
 -- what enabled ports link, active ports do, in any network where no role is restricted
@@ -55,7 +53,7 @@ module _ (active : ActiveLink) (net : Net) (o : Outcome) (vids : List Bool) (bri
   reach_where_linked = (reach_linked, linked_reach)
 
 -- `always` asks for each failure
-asked : (vids : List Bool) (names : List NameItem) (failure : Failure) → asks (always_reach vids names) failure ≡ true
+asked : (vids : List Bool) (names : List NameItem) (failure : Failure) → asks (always_reach vids names) (alone failure) ≡ true
 asked vids names (Lan lan) = refl
 asked vids names (Bridge bridge) = refl
 
@@ -64,33 +62,33 @@ asked_now : (vids : List Bool) (names : List NameItem) (has_prior : Bool) → as
 asked_now vids names true = refl
 asked_now vids names false = refl
 
-module _ (active : ActiveLink) (outcomes : (net : Net) → IsNetwork net → (o : Outcome) × IsOutcome net o)
-    (networks : (edit : Edit) (net new : Net) → InRange edit → IsNetwork net → after edit net ≡ Ok new → IsNetwork new) (net : Net) (o : Outcome) (prior : Prior) (vids : List Bool) (names : List NameItem) (ok : IsNetwork net) (is : IsOutcome net o)
+module _ (active : ActiveLink) (outcomes : (net : Net) → IsNetwork net → (o : Outcome) × IsOutcome net o) (net : Net) (o : Outcome) (prior : Prior) (vids : List Bool) (names : List NameItem) (ok : IsNetwork net) (is : IsOutcome net o)
     (pass : AllPass net vids) where
-  still : (failure : Failure) (failed : Net) → after (edit_of failure) net ≡ Ok failed → AllPass failed vids
-  still failure failed e = record {
+  still : (failure : Failure) → AllPass (failed (failure ∷ []) net) vids
+  still failure = record {
     some = pass.some;
-    members = λ vid h. stay_members failure net failed e vid (pass.members vid h);
-    unrestricted = stays_free failure net failed e pass.unrestricted;
+    members = λ vid h. kept_members (failure ∷ []) net vid (pass.members vid h);
+    unrestricted = kept_free (failure ∷ []) net pass.unrestricted;
   }
 
-  network : (failure : Failure) → Contains (failures net) failure → (failed : Net) → after (edit_of failure) net ≡ Ok failed → IsNetwork failed
-  network failure h failed e = networks (edit_of failure) net failed (in_range net ok failure h) ok e
-
-  kept_linked : IsKept net o prior (always_reach vids names) → StayLinked net names
+  kept_linked : IsKept net o prior (single_events net) (always_reach vids names) → StayLinked net names
   kept_linked kept = record {
-    now = reach_linked active net o vids (named net None names) ok is pass (kept.now (asked_now vids names (is_some prior.before)));
-    failed = λ failure h left e.
-        let its = network failure h left e in
+    now = reach_linked active net o vids (named net [] names) ok is pass (kept.now (asked_now vids names (is_some prior.before)));
+    failed = λ failure h.
+        let left = failed (failure ∷ []) net in
+        let its = failed_network (failure ∷ []) net ok in
         let p = outcomes left its in
-        reach_linked active left p.0 vids (named left (gone_of failure) names) its p.1 (still failure left e) (kept.failed failure h (asked vids names failure) left p.0 e p.1);
+        reach_linked active left p.0 vids (named left (failure ∷ []) names) its p.1 (still failure) (kept.failed (alone failure) (in_map alone (failures net) failure h) (asked vids names failure) p.0 p.1);
   }
 
-  linked_kept : StayLinked net names → IsKept net o prior (always_reach vids names)
+  linked_kept : StayLinked net names → IsKept net o prior (single_events net) (always_reach vids names)
   linked_kept stay = record {
-    now = λ _. linked_reach active net o vids (named net None names) ok is pass stay.now;
-    failed = λ failure h _ failed p e its. linked_reach active failed p vids (named failed (gone_of failure) names) (network failure h failed e) its (still failure failed e) (stay.failed failure h failed e);
+    now = λ _. linked_reach active net o vids (named net [] names) ok is pass stay.now;
+    failed = λ event h _.
+        let f = from_map alone (failures net) event h in
+        subst (λ (event : Event). HoldsAfter net o prior event.failures (always_reach vids names).expectation) f.2
+        (λ p its. let left = failed (f.0 ∷ []) net in linked_reach active left p vids (named left (f.0 ∷ []) names) (failed_network (f.0 ∷ []) net ok) its (still f.0) (stay.failed f.0 f.1));
   }
 
-  pub kept_where_linked : IsKept net o prior (always_reach vids names) ↔ StayLinked net names
+  pub kept_where_linked : IsKept net o prior (single_events net) (always_reach vids names) ↔ StayLinked net names
   kept_where_linked = (kept_linked, linked_kept)

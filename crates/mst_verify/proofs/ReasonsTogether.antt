@@ -12,7 +12,8 @@ use Rattle.mst_roles.specs.forest.Outcome.{Outcome}
 use Rattle.mst_island_judges.specs.judged.reasons.sweep.vlan.Reach.{AreIslandsOf}
 use Rattle.mst_island_judges.specs.judged.reasons.sweep.Parts.{all_parts, staying, ArePartsOf}
 use Rattle.mst_island_judges.specs.judged.reasons.Holds.{StayTogether}
-use Rattle.mst_island_judges.specs.judged.reasons.Named.{Gone, remaining}
+use Rattle.mst_island_judges.specs.judged.reasons.sweep.declared.failure.Failure.{Failure}
+use Rattle.mst_island_judges.specs.judged.reasons.Named.{remaining}
 use Rattle.mst_island_judges.specs.judged.reasons.Reasons.{AreTogetherReasons, Parts, together_reason}
 use Rattle.mst_island_judges.specs.judged.reasons.declared.reason.Reason.{Reason}
 use Rattle.mst_island_judges.specs.judged.reasons.declared.reason.Reason.TheVariants as why
@@ -34,7 +35,7 @@ one_parts one bridges a b o p vid parts other s t =
     let news = one b p vid s.1 t.1 s.3 t.3 in
     s.4 ∙ (λ i. all_parts (staying (olds i) (news i) bridges)) ∙ sym t.4
 
-module _ (net : Net) (o : Outcome) (vids : List Bool) (lost : Gone) (names : List NameItem) (leaving : Leaving) where
+module _ (net : Net) (o : Outcome) (vids : List Bool) (lost : List Failure) (names : List NameItem) (leaving : Leaving) where
   -- the bridges that aren't to leave a VID
   abbrev left : Net → ℕ → List (List ℕ)
   left a vid = remaining leaving vid a lost names

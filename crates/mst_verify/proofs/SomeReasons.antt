@@ -25,7 +25,8 @@ use Rattle.mst_roles.specs.forest.Outcome.{Outcome, trees_of}
 use Rattle.mst_island_judges.specs.judged.reasons.sweep.vlan.Reach.{AreIslandsOf, bridges_on, vid_links}
 use Rattle.mst_island_judges.specs.judged.reasons.sweep.Parts.{home}
 use Rattle.mst_island_judges.proofs.judged_lemmas.reasons_lemmas.sweep_lemmas.Joined.{has_home, home_joined, home_on, joined_home}
-use Rattle.mst_island_judges.specs.judged.reasons.Named.{Gone, Prior, named, ports_named, unnamed}
+use Rattle.mst_island_judges.specs.judged.reasons.sweep.declared.failure.Failure.{Failure}
+use Rattle.mst_island_judges.specs.judged.reasons.Named.{Prior, named, ports_named, unnamed}
 use Rattle.mst_island_judges.specs.judged.reasons.Holds.{AreTogether, IsReached}
 use Rattle.mst_island_judges.specs.judged.reasons.Over.{not_as_wanted}
 use Rattle.mst_island_judges.specs.judged.reasons.Reasons.{root_reasons, AreRootReasons, has_two, AreRegionReasons, role_reasons, Parts, reach_reason, AreReachReasons, either_on, has_both, is_in, AreBoth, apart_reason, AreApartReasons, leaves_reason, AreLeavesReasons, leaf_reason, AreLeafReasons, AreDepthReasons, carries_reason, avoids_reason, limit_reason, AreReasons}
@@ -185,7 +186,7 @@ module _ (net : Net) (o : Outcome) where
         )
 
   -- ---- all fourteen
-  module _ (ok : IsNetwork net) (settled : IsSettled (trees_of net o)) (islands : IslandsOf net o) (notes : (notes : List Row) × AreNoteRows net o notes) (before : Net) (gone : Gone) (prior : Prior)
+  module _ (ok : IsNetwork net) (settled : IsSettled (trees_of net o)) (islands : IslandsOf net o) (notes : (notes : List Row) × AreNoteRows net o notes) (before : Net) (lost : List Failure) (prior : Prior)
       (olds : MatchOption prior.before ⊤ (λ p. IslandsOf p.0 p.1)) where
     some_reach : (vids : List Bool) (bridges : List (List ℕ)) → (reasons : List Reason) × AreReachReasons net o vids bridges reasons
     some_reach vids bridges = some_of_parts (λ vid parts. AreGroups (IsReached net o vid) bridges parts) reach_reason (λ vid. reached_parts net o vid (islands vid).0 (islands vid).1 bridges) vids
@@ -196,17 +197,17 @@ module _ (net : Net) (o : Outcome) where
     some_leaves : (vids : List Bool) (bridges others : List (List ℕ)) → (reasons : List Reason) × AreLeavesReasons net o vids bridges others reasons
     some_leaves vids bridges others = some_of_parts (AreBoth net o bridges others) leaves_reason (λ vid. both_parts net o vid (islands vid).0 (islands vid).1 bridges others) vids
 
-    pub some_reasons : (e : Expectation) → (reasons : List Reason) × AreReasons net o before gone prior e reasons
+    pub some_reasons : (e : Expectation) → (reasons : List Reason) × AreReasons net o before lost prior e reasons
     some_reasons (expect.Root tree b next) = some_root tree b next
-    some_reasons (expect.Region names) = some_region (named net gone names)
+    some_reasons (expect.Region names) = some_region (named net lost names)
     some_reasons (expect.Role tree ports roles) = (role_reasons net o tree (ports_named net before ports) roles, refl)
-    some_reasons (expect.Reach vids names) = some_reach vids (named net gone names)
-    some_reasons (expect.Apart vids names others) = some_apart vids (named net gone names) (named net gone others)
-    some_reasons (expect.Leaves vids names) = some_leaves vids (named net gone names) (unnamed net names)
-    some_reasons (expect.Together vids names) = some_together net o vids gone names prior.leaving islands prior.before olds
-    some_reasons (expect.Leaf tree names) = some_leaf ok settled tree (named net gone names)
+    some_reasons (expect.Reach vids names) = some_reach vids (named net lost names)
+    some_reasons (expect.Apart vids names others) = some_apart vids (named net lost names) (named net lost others)
+    some_reasons (expect.Leaves vids names) = some_leaves vids (named net lost names) (unnamed net names)
+    some_reasons (expect.Together vids names) = some_together net o vids lost names prior.leaving islands prior.before olds
+    some_reasons (expect.Leaf tree names) = some_leaf ok settled tree (named net lost names)
     some_reasons (expect.Depth tree steps) = some_depth ok settled tree steps
-    some_reasons (expect.Hops vids most names) = some_hops net o vids most (named net gone names)
+    some_reasons (expect.Hops vids most names) = some_hops net o vids most (named net lost names)
     some_reasons (expect.Via vids a b c) = some_via net o vids a b c
     some_reasons (expect.Carries lan vids) = (carries_reason lan (not_as_wanted net o lan true vids), refl)
     some_reasons (expect.Avoids lan vids) = (avoids_reason lan (not_as_wanted net o lan false vids), refl)

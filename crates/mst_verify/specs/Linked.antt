@@ -1,5 +1,5 @@
 -- Bridges that enabled ports link, and that stay so.
-use Rattle.std.specs.Prelude.{◌≡◌, ◌≢◌, ℕ, true, false, Bool, List, Ok, None}
+use Rattle.std.specs.Prelude.{◌≡◌, ◌≢◌, ℕ, true, false, Bool, List, [], ◌∷◌}
 use Rattle.std.specs.List.{Contains}
 use Rattle.mst_view.specs.View.{IsUnrestricted}
 use Rattle.mst_policy.specs.declared.expectation.Expectation.TheVariants as expect
@@ -7,13 +7,11 @@ use Rattle.mst_policy.specs.declared.expectation.Promise.{Promise}
 use Rattle.mst_policy.specs.declared.expectation.Scope.TheVariants as scope
 use Rattle.mst_policy.specs.declared.item.NameItem.{NameItem}
 use Rattle.mst_graph.specs.Lists.{has_any}
-use Rattle.mst_net.specs.tables.After.{after}
 use Rattle.mst_net.specs.tables.Tables.{Net}
 use Rattle.mst_island_judges.specs.judged.reasons.sweep.vlan.Reach.{bridges_on}
 use Rattle.mst_island_judges.specs.judged.reasons.sweep.Apart.{AllAreMembers, AreLinked}
-use Rattle.mst_island_judges.specs.judged.reasons.sweep.Failures.{edit_of, failures}
+use Rattle.mst_island_judges.specs.judged.reasons.sweep.Failures.{failed, failures}
 use Rattle.mst_island_judges.specs.judged.reasons.sweep.declared.failure.Failure.{Failure}
-use Rattle.mst_island_judges.specs.judged.reasons.Judged.{gone_of}
 use Rattle.mst_island_judges.specs.judged.reasons.Named.{named, vids_in}
 
 -- there are such VIDs, every logical port is a member of each of their VLANs, and no port's role is restricted
@@ -32,10 +30,10 @@ pub record AreLinkedOn (net : Net) (x y : List ℕ) : Type 0 where
 abbrev pub AllAreLinked : Net → List (List ℕ) → Type 0
 AllAreLinked net bridges = (x y : List ℕ) → Contains bridges x → Contains bridges y → x ≢ y → AreLinkedOn net x y
 
--- the bridges of NAMES are so in the network itself, and those that are left in that of each failure
+-- the bridges of NAMES are so in the network itself, and those that are left in that with each failure
 pub record StayLinked (net : Net) (names : List NameItem) : Type 0 where
-  pub now : AllAreLinked net (named net None names)
-  pub failed : (failure : Failure) → Contains (failures net) failure → (left : Net) → after (edit_of failure) net ≡ Ok left → AllAreLinked left (named left (gone_of failure) names)
+  pub now : AllAreLinked net (named net [] names)
+  pub failed : (failure : Failure) → Contains (failures net) failure → (let left = failed (failure ∷ []) net in AllAreLinked left (named left (failure ∷ []) names))
 
 -- `always reach VIDS NAMES`
 abbrev pub always_reach : List Bool → List NameItem → Promise

@@ -34,7 +34,7 @@ pub fn reasons(
     requires prior { MatchOption judged.now.prior ⊤ (IsBeside judged.now.plan.now) }
     requires same { MatchOption judged.now.prior ⊤ (λ prior. AreInSame (sets_of judged.now.leaving.now) prior.classes.now) }
     ensures { IfOk result (λ reasons. (before : Net) (prior : Prior) → IsBefore before judged.now.before.now → IsKeptOf prior judged.now.prior judged.now.leaving.now
-        → AreReasons judged.now.plan.now.net (outcome_of judged.now.plan.now) before judged.now.gone prior expectation.now reasons.items) }
+        → AreReasons judged.now.plan.now.net (outcome_of judged.now.plan.now) before judged.now.lost.now prior expectation.now reasons.items) }
 {
     match expectation {
         Expectation::Root { tree, bridge, next } => {

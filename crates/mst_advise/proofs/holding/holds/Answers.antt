@@ -1,4 +1,4 @@
-use Rattle.std.proofs.Common.{None, sym, subst}
+use Rattle.std.proofs.Common.{[], sym, subst}
 use Rattle.std.specs.Prelude.{◌↔◌, IfOk, IsTrue}
 use Rattle.mst_roles.specs.forest.Settled.{outcome_of}
 use Rattle.mst_verify.specs.tree_judges.judged.reasons.Holds.{Holds}
@@ -10,4 +10,4 @@ use Rattle.mst_advise.proofs.holding.holds.Goals as goal
 pub returns-in-Root : goal.returns-in-Root
 returns-in-Root c =
     let s = c.args.plan.now in
-    subst (λ (g : Goal). IfOk c.is_root.result (λ holds. IsTrue holds ↔ Holds s.net (outcome_of s) s.net None nothing_before (expectation_of g))) (sym c.in-Root.is) c.is_root.ensures
+    subst (λ (g : Goal). IfOk c.is_root.result (λ holds. IsTrue holds ↔ Holds s.net (outcome_of s) s.net [] nothing_before (expectation_of g))) (sym c.in-Root.is) c.is_root.ensures

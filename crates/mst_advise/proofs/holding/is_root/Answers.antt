@@ -1,4 +1,4 @@
-use Rattle.std.proofs.Common.{◌≡◌, Bool, true, false, true≢false, not, List, None, refl, sym, ap, ◌∙◌}
+use Rattle.std.proofs.Common.{◌≡◌, Bool, true, false, true≢false, not, List, [], None, refl, sym, ap, ◌∙◌}
 use Rattle.mst_policy.specs.declared.expectation.Expectation.TheVariants as expect
 use Rattle.mst_roles.specs.forest.Settled.{outcome_of}
 use Rattle.mst_graph.specs.Lists.{has_any}
@@ -16,6 +16,6 @@ returns c =
     let s = c.args.plan.now in
     let is = c.known.ensures in
     let those : List Reason = c.in_ok-reasons.reasons.items in
-    let told = c.told_where_broken.ensures s.net (outcome_of s) s.net None nothing_before (expect.Root c.args.tree c.args.bridge.now None) those is.of.network is.is_outcome (c.in_ok-reasons.ensures s.net c.in_ok-before.ensures.ports) in
+    let told = c.told_where_broken.ensures s.net (outcome_of s) s.net [] nothing_before (expect.Root c.args.tree c.args.bridge.now None) those is.of.network is.is_outcome (c.in_ok-reasons.ensures s.net c.in_ok-before.ensures.ports) in
     let none = c.are_none.ensures ∙ ap (λ (rs : List Reason). not (has_any rs)) c.as_slice.ensures.value in
     (λ t. told.0 (no_any those (not_true (has_any those) (sym none ∙ t))), λ h. none ∙ ap not (empty_any those (told.1 h)))

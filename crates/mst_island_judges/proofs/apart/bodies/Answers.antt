@@ -21,7 +21,7 @@ loop-class-preserved c = record {
       let flags = c.args.flags.now in
       let before : List (Vec (Vec (List ℕ) Global) Global) = c.loop-class.bodies.items in
       let body = c.in_ok-both.both in
-      let R : ℕ → Parts → Type 0 = AreBoth s.net (outcome_of s) (named s.net c.args.judged.now.gone c.args.names.now) (others_in s.net c.args.judged.now.gone c.args.names.now (option_copied c.args.others)) in
+      let R : ℕ → Parts → Type 0 = AreBoth s.net (outcome_of s) (named s.net c.args.judged.now.lost.now c.args.names.now) (others_in s.net c.args.judged.now.lost.now c.args.names.now (option_copied c.args.others)) in
       let below : i < length firsts = omega (arith, c.loop-class-test.true, c.requires.flags) in
       let pushed = ap (map names_of) c.in_ok-push.ensures.items ∙ map-append names_of before (body ∷ []) in
       subst (AreOfClasses R (take (i + 1) firsts) flags) (sym pushed)
@@ -33,4 +33,4 @@ returns-clause-parts c =
     let s = c.args.judged.now.plan.now in
     let firsts : List ℕ = c.args.judged.now.before.now.classes.firsts.items in
     let past : length firsts ≤ c.loop-class.class = omega (arith, c.loop-class-test.false, c.requires.flags) in
-    classes_all (AreBoth s.net (outcome_of s) (named s.net c.args.judged.now.gone c.args.names.now) (others_in s.net c.args.judged.now.gone c.args.names.now (option_copied c.args.others))) firsts c.args.flags.now c.loop-class.class (map names_of c.loop-class.bodies.items) past c.loop-class.invariant.parts
+    classes_all (AreBoth s.net (outcome_of s) (named s.net c.args.judged.now.lost.now c.args.names.now) (others_in s.net c.args.judged.now.lost.now c.args.names.now (option_copied c.args.others))) firsts c.args.flags.now c.loop-class.class (map names_of c.loop-class.bodies.items) past c.loop-class.invariant.parts

@@ -12,5 +12,5 @@ use Rattle.mst_island_judges.proofs.apart.bodies.Given as goal
 abbrev pub invariant-loop-class : goal.invariant-loop-class
 invariant-loop-class l = record {
   as_long : length l.bodies.items ≡ l.class;
-  parts : AreOfClasses (AreBoth l.fn.judged.plan.now.net (outcome_of l.fn.judged.plan.now) (named l.fn.judged.plan.now.net l.fn.judged.gone l.names) (others_in l.fn.judged.plan.now.net l.fn.judged.gone l.names (option_copied l.others))) (take l.class l.fn.judged.before.now.classes.firsts.items) l.flags (map names_of l.bodies.items);
+  parts : AreOfClasses (AreBoth l.fn.judged.plan.now.net (outcome_of l.fn.judged.plan.now) (named l.fn.judged.plan.now.net l.fn.judged.lost.now l.names) (others_in l.fn.judged.plan.now.net l.fn.judged.lost.now l.names (option_copied l.others))) (take l.class l.fn.judged.before.now.classes.firsts.items) l.flags (map names_of l.bodies.items);
 }

@@ -18,17 +18,17 @@ pub parts_at-requires-clause-bridges : goal.parts_at-requires-clause-bridges
 parts_at-requires-clause-bridges c =
     let s = c.args.judged.now.plan.now in
     subst (HaveNumbers s.numbers) (sym {A = List BridgeInView} c.requires.bridges)
-    (have_numbers s.net s.numbers s.view c.known.ensures.of.view (seen_either c.args.judged.now.gone c.args.names.now (option_copied c.args.others)))
+    (have_numbers s.net s.numbers s.view c.known.ensures.of.view (seen_either c.args.judged.now.lost.now c.args.names.now (option_copied c.args.others)))
 
 pub returns : goal.returns
 returns c = IfOk-weaker c.of_both.result _ _
     (λ both told flag.
     let s = c.args.judged.now.plan.now in
     let o = outcome_of s in
-    let gone = c.args.judged.now.gone in
+    let lost = c.args.judged.now.lost.now in
     let names = c.args.names.now in
     let others = option_copied c.args.others in
     let vid = get_or c.args.judged.now.before.now.classes.firsts.items c.args.class 0 + 1 in
     let all : Parts = names_of c.in_ok-parts.parts in
-    let are : AreReachParts s.net o (names_in (filter (seen_either gone names others) s.view.bridges)) vid all = subst (λ bs. AreReachParts s.net o (names_in bs) vid all) c.requires.bridges c.in_ok-parts.ensures in
-    subst (AreBoth s.net o (named s.net gone names) (others_in s.net gone names others) vid) (sym {A = Parts} told) (are_both s.net s.numbers s.view c.known.ensures.of.view gone names others o vid all are)) c.of_both.ensures
+    let are : AreReachParts s.net o (names_in (filter (seen_either lost names others) s.view.bridges)) vid all = subst (λ bs. AreReachParts s.net o (names_in bs) vid all) c.requires.bridges c.in_ok-parts.ensures in
+    subst (AreBoth s.net o (named s.net lost names) (others_in s.net lost names others) vid) (sym {A = Parts} told) (are_both s.net s.numbers s.view c.known.ensures.of.view lost names others o vid all are)) c.of_both.ensures

@@ -18,7 +18,7 @@ pub loop-part-preserved : goal.loop-part-preserved
 loop-part-preserved c =
     let before : List Part = c.loop-part.yielded in
     let part : Part = c.in-Some.part in
-    let test : List (List ℕ) → Bool = are_of_both c.args.judged.now.gone c.args.names.now (option_copied c.args.others) in
+    let test : List (List ℕ) → Bool = are_of_both c.args.judged.now.lost.now c.args.names.now (option_copied c.args.others) in
     let not : test part.items ≡ false = ap test (sym c.as_slice.ensures.value) ∙ sym c.is_of_both.ensures ∙ c.if-is_of_both.false in
     record {
       whole = append_assoc before (part ∷ []) c.next.new.self.rest.items ∙ ap (λ r. before ++ r) (sym c.in-Some.ensures.steps.0) ∙ c.loop-part.invariant.whole;
@@ -27,7 +27,7 @@ loop-part-preserved c =
 
 pub returns : goal.returns
 returns c =
-    let test : List (List ℕ) → Bool = are_of_both c.args.judged.now.gone c.args.names.now (option_copied c.args.others) in
+    let test : List (List ℕ) → Bool = are_of_both c.args.judged.now.lost.now c.args.names.now (option_copied c.args.others) in
     let so_far : List Part = c.loop-part.yielded in
     let no_rest = nil_from_length c.loop-part.part-iterator.rest.items (sym c.loop-part.part-iterator.rest.ok.0 ∙ c.in-None.ensures.steps.0) in
     let all = sym (append-nil so_far) ∙ ap (λ r. so_far ++ r) (sym no_rest) ∙ c.loop-part.invariant.whole in

@@ -7,5 +7,5 @@ use Rattle.mst_island_judges.proofs.apart.of_both.Given as goal
 abbrev pub invariant-loop-part : goal.invariant-loop-part
 invariant-loop-part l = record {
   whole : l.yielded ++ l.part-iterator.rest.items ≡ l.fn.parts.items;
-  both : map (λ part. part.items) l.both.items ≡ filter (are_of_both l.fn.judged.gone l.names (option_copied l.others)) (map (λ part. part.items) l.yielded);
+  both : map (λ part. part.items) l.both.items ≡ filter (are_of_both l.fn.judged.lost.now l.names (option_copied l.others)) (map (λ part. part.items) l.yielded);
 }

@@ -42,11 +42,11 @@ returns c = IfOk-weaker c.vid_reasons.result _ _
     let is = c.known.ensures in
     let classes = c.args.judged.now.before.now.classes in
     let k = c.requires.classes in
-    let gone = c.args.judged.now.gone in
+    let lost = c.args.judged.now.lost.now in
     let flags : List Bool = c.in_ok-flags.flags.items in
     let bodies : List Kept = c.in_ok-bodies.bodies.items in
-    let bridges : List (List ℕ) = named s.net gone c.args.names.now in
-    let others : List (List ℕ) = others_in s.net gone c.args.names.now (option_copied c.args.others) in
+    let bridges : List (List ℕ) = named s.net lost c.args.names.now in
+    let others : List (List ℕ) = others_in s.net lost c.args.names.now (option_copied c.args.others) in
     let R : ℕ → Parts → Type 0 = AreBoth s.net o bridges others in
     let of : AreOfClasses R classes.firsts.items flags (map names_of bodies) = subst (λ fs. AreOfClasses R classes.firsts.items fs (map names_of bodies)) c.as_slice.ensures.value c.in_ok-bodies.ensures.parts in
     vid_reasons s.view classes k R (λ i j li lj same parts h. both_moved s is classes k (i + 1) (j + 1) (one_alike s.view classes k i j li lj same) bridges others parts h) (tells c.args.telling) c.args.vids.now flags bodies c.as_slice-2.result.now

@@ -25,7 +25,7 @@ pub bodies-requires-clause-bridges : goal.bodies-requires-clause-bridges
 bodies-requires-clause-bridges c =
     let s = c.args.judged.now.plan.now in
     subst (HaveNumbers s.numbers) (sym {A = List BridgeInView} (c.as_slice.ensures.value ∙ c.in_ok-bridges.ensures))
-    (have_numbers s.net s.numbers s.view c.known.ensures.of.view (λ b. is_named c.args.judged.now.gone c.args.names.now b.name))
+    (have_numbers s.net s.numbers s.view c.known.ensures.of.view (λ b. is_named c.args.judged.now.lost.now c.args.names.now b.name))
 
 pub bodies-requires-clause-flags : goal.bodies-requires-clause-flags
 bodies-requires-clause-flags c =
@@ -48,12 +48,12 @@ returns c = IfOk-weaker c.vid_reasons.result _ _
     let is = c.known.ensures in
     let classes = c.args.judged.now.before.now.classes in
     let k = c.requires.classes in
-    let gone = c.args.judged.now.gone in
+    let lost = c.args.judged.now.lost.now in
     let names = c.args.names.now in
     let flags : List Bool = c.in_ok-flags.flags.items in
     let bodies : List Kept = c.in_ok-bodies.bodies.items in
-    let bridges : List (List ℕ) = named s.net gone names in
-    let bridges_are : names_in c.as_slice.result.now ≡ bridges = ap names_in (c.as_slice.ensures.value ∙ c.in_ok-bridges.ensures) ∙ named_seen s.net s.numbers s.view is.of.view gone names in
+    let bridges : List (List ℕ) = named s.net lost names in
+    let bridges_are : names_in c.as_slice.result.now ≡ bridges = ap names_in (c.as_slice.ensures.value ∙ c.in_ok-bridges.ensures) ∙ named_seen s.net s.numbers s.view is.of.view lost names in
     let R : ℕ → Parts → Type 0 = AreReachParts s.net o bridges in
     let of : AreOfClasses R classes.firsts.items flags (map names_of bodies) =
     subst (λ fs. AreOfClasses R classes.firsts.items fs (map names_of bodies)) c.as_slice-2.ensures.value

@@ -28,7 +28,7 @@ returns-in-Some c = IfOk-weaker c.parts_by.result _ _
     let kept : kept_in prior.news.now i ≡ Some c.in-Some.news.now.entries = subst (λ o. MatchOption o ⊤ (λ h. kept_in prior.news.now i ≡ Some h.now.entries)) c.in-Some.is c.kept_at.ensures in
     let read : c.unwrap-vid.result ≡ get_or c.as_slice-firsts.result.now i 0 + 1 = first_of (grind (arith, common_steps), search (rules, common_steps)) in
     let vid : c.unwrap-vid.result ≡ get_or firsts i 0 + 1 = read ∙ ap (λ xs. get_or xs i 0 + 1) c.as_slice-firsts.ensures.value in
-    beside_parts_of s c.known.ensures prior.old.now compared.judged.now.leaving.now compared.judged.now.gone compared.names.now c.unwrap-vid.result (get_or firsts i 0 + 1) vid c.args.olds.now.entries c.in-Some.news.now.entries
+    beside_parts_of s c.known.ensures prior.old.now compared.judged.now.leaving.now compared.judged.now.lost.now compared.names.now c.unwrap-vid.result (get_or firsts i 0 + 1) vid c.args.olds.now.entries c.in-Some.news.now.entries
     c.requires.olds (made_places s firsts prior.news.now c.requires.beside.news i c.in-Some.news.now.entries c.requires.there kept) compared.both.now compared.are_both (names_of parts) told) c.parts_by.ensures
 
 pub returns : goal.returns
@@ -41,5 +41,5 @@ returns c = IfOk-weaker c.parts_by-2.result _ _
     let firsts : List ℕ = prior.classes.now.firsts.items in
     let read : c.unwrap-vid.result ≡ get_or c.as_slice-firsts.result.now i 0 + 1 = first_of (grind (arith, common_steps), search (rules, common_steps)) in
     let vid : c.unwrap-vid.result ≡ get_or firsts i 0 + 1 = read ∙ ap (λ xs. get_or xs i 0 + 1) c.as_slice-firsts.ensures.value in
-    beside_parts_of s c.known.ensures prior.old.now compared.judged.now.leaving.now compared.judged.now.gone compared.names.now c.unwrap-vid.result (get_or firsts i 0 + 1) vid c.args.olds.now.entries c.in_ok-news.news.entries c.requires.olds
+    beside_parts_of s c.known.ensures prior.old.now compared.judged.now.leaving.now compared.judged.now.lost.now compared.names.now c.unwrap-vid.result (get_or firsts i 0 + 1) vid c.args.olds.now.entries c.in_ok-news.news.entries c.requires.olds
     (subst (λ v. AreHomes s.net s.numbers (outcome_of s) v c.in_ok-news.news.entries) vid c.in_ok-news.ensures) compared.both.now compared.are_both (names_of parts) told) c.parts_by-2.ensures

@@ -17,7 +17,7 @@ returns-then-is_alike c =
     let compared = c.args.compared.now in
     let prior = compared.prior.now in
     subst (HaveParts compared (get_or prior.classes.now.firsts.items c.args.class 0 + 1)) (sym (ap (map (λ (names : Vec (List ℕ) Global). names.items)) c.new.ensures.items))
-    (beside_none compared.judged.now.plan.now c.known.ensures prior.old.now compared.judged.now.leaving.now compared.judged.now.gone compared.names.now c.islands_of_vid.ensures.some (get_or prior.classes.now.firsts.items c.args.class 0 + 1)
+    (beside_none compared.judged.now.plan.now c.known.ensures prior.old.now compared.judged.now.leaving.now compared.judged.now.lost.now compared.names.now c.islands_of_vid.ensures.some (get_or prior.classes.now.firsts.items c.args.class 0 + 1)
     (c.requires.beside.alike c.args.class c.requires.there (c.is_alike.ensures c.if-is_alike.true)))
 
 pub parts_from-requires-clause-olds : goal.parts_from-requires-clause-olds

@@ -41,5 +41,5 @@ returns c = IfOk-weaker c.vid_reasons.result _ _
     let R : ℕ → Parts → Type 0 = HaveParts compared in
     let of : AreOfClasses R classes.firsts.items flags (map names_of bodies) = subst (λ fs. AreOfClasses R classes.firsts.items fs (map names_of bodies)) c.as_slice.ensures.value c.in_ok-bodies.ensures.parts in
     vid_reasons prior.old.now.view classes k R
-    (λ i j li lj same parts h. beside_moved s c.known.ensures prior.old.now compared.judged.now.leaving.now compared.judged.now.gone compared.names.now classes k c.requires.beside.new_classes c.requires.same i j li lj same parts h) together_reason c.args.vids.now flags bodies
+    (λ i j li lj same parts h. beside_moved s c.known.ensures prior.old.now compared.judged.now.leaving.now compared.judged.now.lost.now compared.names.now classes k c.requires.beside.new_classes c.requires.same i j li lj same parts h) together_reason c.args.vids.now flags bodies
     c.as_slice-2.result.now c.as_slice-numbers.result.now reasons.items c.as_slice-numbers.ensures.value c.as_slice-2.ensures.value of c.in_ok-flags.ensures.asked told) c.vid_reasons.ensures

@@ -17,4 +17,4 @@ pub returns : goal.returns
 returns c = IfOk-weaker c.reasons_of.result _ _
     (λ reasons told prior had.
     let judged = c.args.judged.now in
-    told_beside judged.plan.now judged.leaving.now judged.gone c.args.names.now c.args.vids.now reasons.items c.in-Some.prior told prior (subst (λ kept. IsKeptOf prior kept judged.leaving.now) c.in-Some.is had)) c.reasons_of.ensures
+    told_beside judged.plan.now judged.leaving.now judged.lost.now c.args.names.now c.args.vids.now reasons.items c.in-Some.prior told prior (subst (λ kept. IsKeptOf prior kept judged.leaving.now) c.in-Some.is had)) c.reasons_of.ensures

@@ -12,8 +12,8 @@ returns c = IfOk-weaker c.path_reasons.result _ _
     (λ reasons told.
     let s = c.args.judged.now.plan.now in
     let is = c.known.ensures in
-    let gone = c.args.judged.now.gone in
+    let lost = c.args.judged.now.lost.now in
     let names = c.args.names.now in
-    let bridges : c.as_slice-bridges.result.now ≡ named s.net gone names =
-    c.as_slice-bridges.ensures.value ∙ c.in_ok-concerned.ensures ∙ ap names_in (c.as_slice.ensures.value ∙ c.in_ok-seen.ensures) ∙ named_seen s.net s.numbers s.view is.of.view gone names in
+    let bridges : c.as_slice-bridges.result.now ≡ named s.net lost names =
+    c.as_slice-bridges.ensures.value ∙ c.in_ok-concerned.ensures ∙ ap names_in (c.as_slice.ensures.value ∙ c.in_ok-seen.ensures) ∙ named_seen s.net s.numbers s.view is.of.view lost names in
     subst (λ (bs : List (List ℕ)). AreHopsReasons s.net (outcome_of s) c.args.vids.now c.args.most bs reasons.items) bridges told) c.path_reasons.ensures

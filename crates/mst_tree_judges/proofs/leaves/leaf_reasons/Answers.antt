@@ -24,7 +24,7 @@ returns c = IfOk-weaker c.parents.result _ _
     let tree = c.args.tree in
     let keys = fin.keys s.net.bridges in
     let children : List Child = c.in_ok-children.children.items in
-    let gone = c.args.judged.now.gone in
+    let lost = c.args.judged.now.lost.now in
     let names = c.args.names.now in
     let of = λ (bridge : List ℕ). map (λ (c : Child). c.name) (filter (is_child_of bridge) children) in
     let kept = λ (bridge : List ℕ). c.in_ok-kept.ensures bridge ∙ ap (λ cs. map (λ (c : Child). c.name) (filter (is_child_of bridge) cs)) c.as_slice.ensures.value in
@@ -34,5 +34,5 @@ returns c = IfOk-weaker c.parents.result _ _
       are = told
           ∙ ap (flat_map (λ (b : BridgeInView). leaf_reason tree b.name (names_at c.in_ok-kept.kept b.name))) (c.as_slice-2.ensures.value ∙ c.in_ok-bridges.ensures)
           ∙ flat_named (λ (b : BridgeInView). b.name) (λ bridge. leaf_reason tree bridge (names_at c.in_ok-kept.kept bridge)) (λ bridge. leaf_reason tree bridge (of bridge)) (λ bridge. ap (leaf_reason tree bridge) (kept bridge)) _
-          ∙ ap (flat_map (λ bridge. leaf_reason tree bridge (of bridge))) (named_seen s.net s.numbers s.view is.of.view gone names);
+          ∙ ap (flat_map (λ bridge. leaf_reason tree bridge (of bridge))) (named_seen s.net s.numbers s.view is.of.view lost names);
     }) c.parents.ensures

@@ -3,7 +3,7 @@ use Rattle.mst_verify.proofs.JudgedSomewhere.{judged_somewhere}
 use Rattle.mst_verify.proofs.laws.judged_somewhere.Goals as goal
 
 pub returns-clause-beside : goal.returns-clause-beside
-returns-clause-beside c net promise none = judged_somewhere net true promise refl none
+returns-clause-beside c net events promise none = judged_somewhere net events true promise refl none
 
 pub returns-clause-alone : goal.returns-clause-alone
-returns-clause-alone c net promise none looks = judged_somewhere net false promise (ap not looks) none
+returns-clause-alone c net events promise none looks = judged_somewhere net events false promise (ap not looks) none

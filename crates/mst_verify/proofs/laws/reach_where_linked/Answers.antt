@@ -5,4 +5,4 @@ pub returns-clause-now : goal.returns-clause-now
 returns-clause-now c net o vids bridges ok is pass = reach_where_linked c.joined_without_loop.ensures.sets net o vids bridges ok is pass
 
 pub returns-clause-always : goal.returns-clause-always
-returns-clause-always c net o prior vids names ok is pass = kept_where_linked c.joined_without_loop.ensures.sets c.has_outcome.ensures c.networks.ensures.after net o prior vids names ok is pass
+returns-clause-always c net o prior vids names ok is pass = kept_where_linked c.joined_without_loop.ensures.sets c.has_outcome.ensures net o prior vids names ok is pass

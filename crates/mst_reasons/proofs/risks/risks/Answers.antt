@@ -1,0 +1,33 @@
+use Rattle.std.proofs.Common.{◌∙◌, ◌++◌, Bor, List, ap, map, sym}
+use Rattle.std.specs.List.{flat_map}
+use Rattle.std.proofs.lemmas.List.{take_all}
+use Rattle.mst_graph.specs.Lists.{each_once}
+use Rattle.mst_policy.specs.declared.risk.RiskLine.{RiskLine}
+use Rattle.mst_roles.proofs.forest_lemmas.Lists.{mapped_twice}
+use Rattle.mst_view.specs.Aggregation.{same_name}
+use Rattle.mst_reasons.specs.SeenRisks.{seen_risk}
+use Rattle.mst_reasons.proofs.RisksSeen.{flat_more, risks_seen}
+use Rattle.mst_reasons.proofs.risks.risks.Goals as goal
+
+pub loop-name-preserved : goal.loop-name-preserved
+loop-name-preserved c =
+    let l = c.loop-name in
+    let names = c.as_slice-name-items.result.now in
+    let name = c.name-item.result in
+    let those : List RiskLine = map (λ (risk : Bor RiskLine). risk.now) c.in_ok-whole.whole.items in
+    let fs = c.args.failures.now in
+    c.in_ok-add_named.ensures
+    ∙ (λ i. l.invariant i ++ seen_risk fs (map (λ (risk : Bor RiskLine). risk.now) (c.as_slice-in-loop-name.ensures.value i)) name)
+    ∙ sym (flat_more (seen_risk fs those) names l.name-index name c.loop-name-test.true c.name-item.is)
+
+pub returns : goal.returns
+returns c = λ net numbers view fs_are.
+    let now : Bor RiskLine → RiskLine = λ risk. risk.now in
+    let fs = c.args.failures.now in
+    let whole = c.in_ok-whole.whole.items in
+    let names = take_all c.loop-name.name-index c.as_slice-name-items.result.now c.loop-name-test.false ∙ c.as_slice-name-items.ensures.keys ∙ c.in_ok-names.ensures
+    ∙ ap (λ (some : List (Bor RiskLine)). each_once same_name (map (λ risk. risk.now.name) some)) c.as_slice.ensures.value
+    ∙ ap (each_once same_name) (sym (mapped_twice (λ (line : RiskLine). line.name) now whole)) in
+    c.loop-name.invariant ∙ ap (flat_map (seen_risk fs (map now whole))) names
+    ∙ (λ i. flat_map (seen_risk (fs_are i) (c.in_ok-whole.ensures i)) (each_once same_name (map (λ (line : RiskLine). line.name) (c.in_ok-whole.ensures i))))
+    ∙ risks_seen net numbers c.args.view.now view c.args.lines.now
