@@ -1,5 +1,5 @@
 -- Why all bridges don't stay together behind a step is what the step cuts.
-use Rattle.std.proofs.Common.{◌≡◌, ℕ, cond, not, Bool, true, false, List, [], ◌∷◌, ◌++◌, None, refl, sym, ap, subst, ◌∙◌}
+use Rattle.std.proofs.Common.{◌≡◌, ℕ, cond, not, Bool, true, false, List, [], ◌∷◌, ◌++◌, refl, sym, ap, subst, ◌∙◌}
 use Rattle.std.specs.Prelude.{if◌then◌else◌}
 use Rattle.std.specs.List.{Contains, filter, flat_map}
 use Rattle.mst_ids.specs.Vids.{has, set_where}
@@ -40,10 +40,10 @@ module _ (leaving : Leaving) (a b : Net) (o p : Outcome) (step : ℕ) (vids : Li
   all_are : vids_in vids ≡ all_vids
   all_are = all_pass (has vids) all_vids every
 
-  names_are : named a None (Any ∷ []) ≡ bridge_names a
-  names_are = all_pass (is_named None (Any ∷ [])) (bridge_names a) (λ name there. refl)
+  names_are : named a [] (Any ∷ []) ≡ bridge_names a
+  names_are = all_pass (is_named [] (Any ∷ [])) (bridge_names a) (λ name there. refl)
 
-  remaining_are : (vid : ℕ) → remaining leaving vid a None (Any ∷ []) ≡ remaining_in leaving vid a
+  remaining_are : (vid : ℕ) → remaining leaving vid a [] (Any ∷ []) ≡ remaining_in leaving vid a
   remaining_are vid = ap (filter (λ bridge. not (leaves leaving vid bridge))) names_are
 
   one_row : (group : List ℕ) → flat_map (as_cut step) (group_reasons together_reason cuts.parts group) ≡ group_rows (Step step) cuts.parts group
@@ -58,7 +58,7 @@ module _ (leaving : Leaving) (a b : Net) (o p : Outcome) (step : ℕ) (vids : Li
   abbrev own : List Reason
   own = flat_map (group_reasons together_reason cuts.parts) cuts.groups
 
-  are_own : AreReasons b p b None (prior_but leaving a o) (together_all vids) own
+  are_own : AreReasons b p b [] (prior_but leaving a o) (together_all vids) own
   are_own = record {
     value = cuts.parts;
     has = λ vid h. subst (λ names. ArePartsOf names a o b p vid (cuts.parts vid)) (sym (remaining_are vid)) (cuts.are_parts vid (is_vid_there vid (subst (λ vs. Contains vs vid) all_are h)));
@@ -67,7 +67,7 @@ module _ (leaving : Leaving) (a b : Net) (o p : Outcome) (step : ℕ) (vids : Li
     are = refl;
   }
 
-  pub together_cut : (reasons : List Reason) → AreReasons b p b None (prior_but leaving a o) (together_all vids) reasons → HasOneList b p b None (prior_but leaving a o) (together_all vids) → flat_map (as_cut step) reasons ≡ rows
+  pub together_cut : (reasons : List Reason) → AreReasons b p b [] (prior_but leaving a o) (together_all vids) reasons → HasOneList b p b [] (prior_but leaving a o) (together_all vids) → flat_map (as_cut step) reasons ≡ rows
   together_cut reasons r one =
       ap (flat_map (as_cut step)) (one reasons own r are_own)
       ∙ flat_map-flat_map (as_cut step) (group_reasons together_reason cuts.parts) cuts.groups

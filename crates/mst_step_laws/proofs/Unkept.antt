@@ -17,6 +17,7 @@ use Rattle.mst_rows.specs.Rows.{Row}
 use Rattle.mst_verdict.specs.telling.Steps.{Change, changes, is_broken, mends, unkept_count}
 use Rattle.mst_verdict.specs.telling.Rows.{mends_row}
 use Rattle.mst_verdict.specs.telling.Texts.{is_told, news, same_text}
+use Rattle.mst_verdict.specs.reasons.Risks.{events}
 use Rattle.mst_verdict.specs.telling.Lines.{IsToldThere}
 use Rattle.mst_verdict.specs.reasons.Named.{Prior}
 use Rattle.mst_verdict.specs.Verifying.{IsPriorNetwork, Judges}
@@ -130,7 +131,7 @@ module _ (stay : (edit : Edit) (net new : Net) → InRange edit → IsNetwork ne
     → Judges net prior is_last lines told → Judges net prior is_last lines other → told ≡ other) where
   module _ (w : Watch) (first : IsNetwork w.first) (settled : IsOutcome w.first w.outcome) where
     as_long : (n : ℕ) (net : Net) (rows : List (List Row)) → AreRowsIn w n net rows → length rows ≡ length w.lines
-    as_long n net rows are = zip_length (IsToldThere (n == w.last) net are.outcome (prior_at w n)) w.lines rows are.are
+    as_long n net rows are = zip_length (IsToldThere (n == w.last) net are.outcome (prior_at w n) (events net w.lines)) w.lines rows are.are
 
     was_told : (n : ℕ) (net : Net) (rows before : List (List Row)) → IsNetwork net → AreRowsIn w (n + 1 - 1) net before → AreRowsIn w n net rows → before ≡ rows
     was_told n net rows before is x y = let number : n + 1 - 1 ≡ n = omega arith in one_judged stay judged w first settled n net before rows is (subst (λ k. AreRowsIn w k net before) number x) y

@@ -1,5 +1,5 @@
 //! Laws of the steps of a change. Their functions do nothing: a caller has their clauses.
-ghost use Rattle.std.specs.Prelude.{◌≡◌, ◌+◌, ◌++◌, ℕ, Bool, true, List, None, Option};
+ghost use Rattle.std.specs.Prelude.{◌≡◌, ◌+◌, ◌++◌, ℕ, Bool, true, List, [], Option};
 ghost use Rattle.std.specs.List.{AllByRecursion, Contains, flat_map, sum_by};
 ghost use Rattle.mst_change.specs.Reading.{IsInRange, LineRead};
 ghost use Rattle.mst_change.specs.Steps.{all_lines, change_of, lines_from};
@@ -79,7 +79,7 @@ pub fn unkept_to_unkept()
 /// lines tell: for the same VIDs, and the same parts. What is meant to leave is left out of both.
 pub fn together_is_uncut()
     ensures { (leaving : LeavingOf) (a b : Net) (o p : Outcome) (step : ℕ) (vids : List Bool) (cut : List ℕ) (rows : List Row) (reasons : List ReasonOf) → IsNetwork b → IsOutcome b p → AreAllVids vids
-        → AreCutsBy (ArePartsBut leaving a o b p) (Step step) cut rows → AreReasons b p b None (prior_but leaving a o) (together_all vids) reasons → flat_map (as_cut step) reasons ≡ rows }
+        → AreCutsBy (ArePartsBut leaving a o b p) (Step step) cut rows → AreReasons b p b [] (prior_but leaving a o) (together_all vids) reasons → flat_map (as_cut step) reasons ≡ rows }
 {
     reason_lists();
 }

@@ -1,5 +1,5 @@
 -- What a promise names and the network hasn't, as it is seen in a view.
-use Rattle.std.proofs.Common.{◌≡◌, ℕ, ◌&&◌, ◌||◌, Bool, true, false, cond, List, [], ◌∷◌, ◌++◌, filter, map, refl, sym, ap, ◌∙◌}
+use Rattle.std.proofs.Common.{◌≡◌, ℕ, ◌&&◌, Bool, true, false, List, [], ◌∷◌, ◌++◌, map, refl, sym, ap, ◌∙◌}
 use Rattle.std.specs.List.{list_all, list_any}
 use Rattle.std.specs.FinMap as fin
 use Rattle.mst_view.specs.Trees.{is_among}
@@ -8,10 +8,6 @@ use Rattle.mst_view.specs.Viewed.{Viewed, member_lan, named_bridge, named_port}
 use Rattle.mst_view.specs.declared.in_view.BridgeInView.{BridgeInView}
 use Rattle.mst_view.specs.declared.in_view.MemberLan.{MemberLan}
 use Rattle.mst_view.specs.declared.in_view.PortInView.{PortInView}
-use Rattle.mst_policy.specs.Items.{item_has}
-use Rattle.mst_policy.specs.declared.item.NameItem.{NameItem}
-use Rattle.mst_policy.specs.declared.expectation.Promise.{Promise}
-use Rattle.mst_tables.specs.Seen.{bridge_row}
 use Rattle.mst_tables.specs.Tables.{Net, Numbers, BridgeRow}
 use Rattle.mst_roles.specs.forest.Msti.{is_had, has_msti}
 use Rattle.mst_roles.specs.forest.Agrees.{AreOf}
@@ -21,12 +17,6 @@ use Rattle.mst_roles.proofs.forest_lemmas.Entries.{all_weaker}
 use Rattle.mst_roles.proofs.forest_lemmas.Lists.{mapped_twice}
 use Rattle.mst_roles.proofs.forest_lemmas.Looking.{has_tree_at}
 use Rattle.mst_roles.proofs.forest_lemmas.Seen.{SeenBridge, bridges_seen}
-use Rattle.mst_reasons.specs.sweep.declared.failure.Failure.{Failure}
-use Rattle.mst_reasons.specs.sweep.declared.failure.Failure.TheVariants.{Lan, Bridge}
-use Rattle.mst_reasons.proofs.sweep_lemmas.AllFailures.{failures_seen}
-use Rattle.mst_reasons.specs.Judged.{asks, name_of}
-use Rattle.mst_reasons.specs.Missing.{has_failure}
-use Rattle.mst_telling.specs.Seen.{seen_bridge_fails, seen_lan_fails}
 
 -- ---- items
 -- each of the items of two lists passes
@@ -37,25 +27,6 @@ all_appended test (x ∷ xs) ys = ap (λ b. test x && b) (all_appended test xs y
     grouped : (a b c : Bool) → (a && (b && c)) ≡ ((a && b) && c)
     grouped true b c = refl
     grouped false b c = refl
-
--- some item of two lists passes
-any_appended : {A : Type 0} (test : A → Bool) (xs ys : List A) → list_any test (xs ++ ys) ≡ (list_any test xs || list_any test ys)
-any_appended test [] ys = refl
-any_appended test (x ∷ xs) ys = ap (λ b. test x || b) (any_appended test xs ys) ∙ grouped (test x) (list_any test xs) (list_any test ys)
-  where
-    grouped : (a b c : Bool) → (a || (b || c)) ≡ ((a || b) || c)
-    grouped true b c = refl
-    grouped false b c = refl
-
--- some of what is made of those that pass does
-any_passing : {A B : Type 0} (test : B → Bool) (f : A → B) (passes : A → Bool) (xs : List A) → list_any test (map f (filter passes xs)) ≡ list_any (λ x. passes x && test (f x)) xs
-any_passing test f passes [] = refl
-any_passing {A} {B} test f passes (x ∷ xs) = go (passes x) (any_passing test f passes xs)
-  where
-    go : (b : Bool) → list_any test (map f (filter passes xs)) ≡ list_any (λ x. passes x && test (f x)) xs
-        → list_any test (map f (cond b (x ∷ filter passes xs) (filter passes xs))) ≡ ((b && test (f x)) || list_any (λ x. passes x && test (f x)) xs)
-    go true rest = ap (λ b. test (f x) || b) rest
-    go false rest = rest
 
 -- ---- names
 module _ (net : Net) (numbers : Numbers) (v : Viewed) (regions : List (ℕ × ℕ)) (of : AreOf net numbers v regions) where
@@ -73,14 +44,3 @@ module _ (net : Net) (numbers : Numbers) (v : Viewed) (regions : List (ℕ × �
       ∙ sym (any_mapped (λ (e : List ℕ × BridgeRow). has_msti net tree e.0) named_bridge v.bridges)
       ∙ ap (list_any (λ (e : List ℕ × BridgeRow). has_msti net tree e.0)) of.view.bridges
       ∙ sym (any_mapped (has_msti net tree) (λ (e : List ℕ × BridgeRow). e.0) (fin.entries net.bridges))
-
-  -- ---- failures
-  pub failure_seen : (promise : Promise) (item : NameItem) → (list_any (seen_lan_fails promise item) v.member_lans || list_any (seen_bridge_fails promise item) v.bridges) ≡ has_failure net promise item
-  failure_seen promise item =
-      let test : Failure → Bool = λ failure. item_has item (name_of failure) && asks promise failure in
-      let lans : List Failure = map (λ (l : MemberLan). Lan l.name) (filter (λ (l : MemberLan). l.is_up) v.member_lans) in
-      let bridges : List Failure = map (λ (b : BridgeInView). Bridge b.name) (filter (λ (b : BridgeInView). (bridge_row b.bridge).is_on) v.bridges) in
-      let of_lans = sym (any_passing test (λ (l : MemberLan). Lan l.name) (λ (l : MemberLan). l.is_up) v.member_lans) in
-      let of_bridges = sym (any_passing test (λ (b : BridgeInView). Bridge b.name) (λ (b : BridgeInView). (bridge_row b.bridge).is_on) v.bridges) in
-      (λ i. of_lans i || of_bridges i)
-      ∙ sym (any_appended test lans bridges) ∙ ap (list_any test) (failures_seen net numbers v of.view)

@@ -1,4 +1,5 @@
 pub mod LackedSeen
+pub mod Front
 pub mod GoesOn
 pub mod Lines
 pub mod NewRows

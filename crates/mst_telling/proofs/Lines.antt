@@ -7,23 +7,26 @@ use Rattle.std.specs.Option.{option_and_then, option_map_or}
 use Rattle.mst_lang.specs.declared.line.Fault.{Fault}
 use Rattle.mst_policy.specs.declared.expectation.Expectation.{Expectation}
 use Rattle.mst_policy.specs.declared.expectation.Promise.{Promise}
+use Rattle.mst_policy.specs.Lines.{promise_in}
 use Rattle.mst_policy.specs.declared.policy.PolicyLine.{PolicyLine}
+use Rattle.mst_policy.specs.declared.risk.Said.{Said}
+use Rattle.mst_policy.specs.declared.risk.Said.TheVariants as says
 use Rattle.mst_rows.specs.Cells.{PromiseSaid}
 use Rattle.mst_rows.specs.Rows.{Row}
 use Rattle.mst_tables.specs.Tables.{Net}
 use Rattle.mst_roles.specs.forest.Outcome.{Outcome}
-use Rattle.mst_reasons.specs.sweep.Failures.{failures}
-use Rattle.mst_reasons.specs.sweep.declared.failure.Failure.{Failure}
+use Rattle.mst_reasons.specs.sweep.Failures.{Event}
 use Rattle.mst_reasons.specs.Judged.{asks_at, places}
 use Rattle.mst_reasons.specs.Missing.{missing}
 use Rattle.mst_reasons.specs.Named.{Prior, nothing_before}
 use Rattle.mst_reasons.specs.Placed.{AreReasonsAt}
+use Rattle.mst_reasons.specs.Risks.{events as events_of}
 use Rattle.mst_reasons.specs.declared.missing.Missing.{Missing}
 use Rattle.mst_reasons.specs.declared.reason.Reason.{Reason}
 use Rattle.mst_telling.specs.Judged.{AreLinesJudged, IsKeptOf, NoneIsKeptOf, StandsAt, change_at, count_by_read, each_from, line_found, line_lacks, line_rows, network_counts, refused_at, refused_by, told_in, verdicts_by}
 use Rattle.mst_telling.specs.Lines.{AreLinesTold, IsLineTold, IsToldThere, unkept_by}
 use Rattle.mst_telling.specs.Steps.{Change, changes}
-use Rattle.mst_telling.specs.Told.{AreFoundIn, AreLineReasons, Found, IsFoundAt, expected_at, has_reason, is_due, is_judged_at, judged, judged_of, lacked, looks_at, missing_rows, unread_by, where_whole}
+use Rattle.mst_telling.specs.Told.{AreFoundIn, AreLineReasons, Found, IsFoundAt, cause_at, expected_at, has_reason, is_due, is_judged_at, judged, lacked, lacks_nothing, looks_at, missing_rows, unread_by}
 use Rattle.mst_telling.specs.Verified.{IsVerdict, joined, network_count, promise_of, promises_of, refused_rows, rows_of_read}
 use Rattle.mst_telling.proofs.GoesOn.{one_if}
 use Rattle.mst_telling.proofs.Only.{nothing_unkept}
@@ -71,18 +74,18 @@ changes_at before now lines = changes_from before now 0 lines
 
 -- ---- promises
 promises_on : (lines : List PolicyLine) (counts : List ℕ) (flags : List Bool) (line : PolicyLine) (count : ℕ) (flag : Bool) → length counts ≡ length lines → length flags ≡ length lines
-    → promises_of (lines ++ line ∷ []) (counts ++ count ∷ []) (flags ++ flag ∷ []) ≡ promises_of lines counts flags ++ promise_of line line.read count flag
-promises_on [] [] [] line count flag a b = append-nil (promise_of line line.read count flag)
+    → promises_of (lines ++ line ∷ []) (counts ++ count ∷ []) (flags ++ flag ∷ []) ≡ promises_of lines counts flags ++ promise_of line count flag
+promises_on [] [] [] line count flag a b = append-nil (promise_of line count flag)
 promises_on [] [] (f ∷ flags) line count flag a b = absurd (omega (arith, b))
 promises_on [] (n ∷ counts) flags line count flag a b = absurd (omega (arith, a))
 promises_on (l ∷ lines) [] flags line count flag a b = absurd (omega (arith, a))
 promises_on (l ∷ lines) (n ∷ counts) [] line count flag a b = absurd (omega (arith, b))
 promises_on (l ∷ lines) (n ∷ counts) (f ∷ flags) line count flag a b =
-    ap (λ (more : List PromiseSaid). promise_of l l.read n f ++ more) (promises_on lines counts flags line count flag (omega (arith, a)) (omega (arith, b)))
-    ∙ sym (append_assoc (promise_of l l.read n f) (promises_of lines counts flags) (promise_of line line.read count flag))
+    ap (λ (more : List PromiseSaid). promise_of l n f ++ more) (promises_on lines counts flags line count flag (omega (arith, a)) (omega (arith, b)))
+    ∙ sym (append_assoc (promise_of l n f) (promises_of lines counts flags) (promise_of line count flag))
 
 pub promises_more : (lines : List PolicyLine) (counts : List ℕ) (flags : List Bool) (n : ℕ) (line : PolicyLine) → n < length lines → line ≡ get_or lines n line → length counts ≡ length lines → length flags ≡ length lines
-    → promises_of (take (n + 1) lines) (take (n + 1) counts) (take (n + 1) flags) ≡ promises_of (take n lines) (take n counts) (take n flags) ++ promise_of line line.read (get_or counts n 0) (get_or flags n false)
+    → promises_of (take (n + 1) lines) (take (n + 1) counts) (take (n + 1) flags) ≡ promises_of (take n lines) (take n counts) (take n flags) ++ promise_of line (get_or counts n 0) (get_or flags n false)
 promises_more lines counts flags n line below is a b =
     let first = take_more lines n line below ∙ ap (λ z. take n lines ++ z ∷ []) (sym is) in
     let second = take_more counts n 0 (omega (arith, below, a)) in
@@ -91,99 +94,113 @@ promises_more lines counts flags n line below is a b =
     ∙ promises_on (take n lines) (take n counts) (take n flags) line (get_or counts n 0) (get_or flags n false) (omega (arith, a, length-take n counts, length-take n lines)) (omega (arith, b, length-take n flags, length-take n lines))
 
 -- ---- a line that is refused has one row
-pub refused_one : (n : ℕ) (read : Result Promise Fault) (what : Option Missing) → length (refused_at n read what) ≡ one_if (has_any (refused_at n read what))
+pub refused_one : (n : ℕ) (read : Result Said Fault) (what : Option Missing) → length (refused_at n read what) ≡ one_if (has_any (refused_at n read what))
 refused_one n (Err fault) what = refl
-refused_one n (Ok promise) None = refl
-refused_one n (Ok promise) (Some what) = refl
+refused_one n (Ok said) None = refl
+refused_one n (Ok said) (Some what) = refl
 
-pub unread_one : (n : ℕ) (read : Result Promise Fault) → length (unread_by n read) ≡ one_if (has_any (unread_by n read))
+pub unread_one : (n : ℕ) (read : Result Said Fault) → length (unread_by n read) ≡ one_if (has_any (unread_by n read))
 unread_one n (Err fault) = refl
-unread_one n (Ok promise) = refl
+unread_one n (Ok said) = refl
 
 -- ---- behind steps
 module _ (net : Net) (o : Outcome) (prior : Prior) (is_last : Bool) (judgement : Judgement) where
-  line_told : (n : ℕ) (line : PolicyLine) (due : Bool) → MatchBool due (IsKeptOf net o prior n line judgement) (NoneIsKeptOf n judgement) → MatchBool due (IsLineTold net o prior line (line_rows n line judgement)) (line_rows n line judgement ≡ [])
-  line_told n line true k = record {
+  line_told : (events : List Event) (n : ℕ) (line : PolicyLine) (due : Bool) → MatchBool due (IsKeptOf net o prior events n line judgement) (NoneIsKeptOf n judgement)
+      → MatchBool due (IsLineTold net o prior events line (line_rows n line judgement)) (line_rows n line judgement ≡ [])
+  line_told events n line true k = record {
     found = line_found n judgement.found.items;
     are_found = k.found;
     are = ap (λ what. missing_rows line.number what ++ unkept_by line.number line.read (line_found n judgement.found.items)) k.lacks;
   }
-  line_told n line false k = (λ i. missing_rows line.number (k.lacks i) ++ unkept_by line.number line.read (k.found i)) ∙ nothing_unkept line.number line.read
+  line_told events n line false k = (λ i. missing_rows line.number (k.lacks i) ++ unkept_by line.number line.read (k.found i)) ∙ nothing_unkept line.number line.read
 
   pub told_there : (lines : List PolicyLine) → AreLinesJudged net o prior is_last lines judgement → AreLinesTold net o prior is_last lines (told_in lines judgement)
-  told_there lines are = zip_each (IsToldThere is_last net o prior) (λ n line. line_rows n line judgement) lines (λ n line below is. line_told n line (is_judged_at is_last line) (are n line (record { below = below; is = is })))
+  told_there lines are =
+      zip_each (IsToldThere is_last net o prior (events_of net lines)) (λ n line. line_rows n line judgement) lines
+      (λ n line below is. line_told (events_of net lines) n line (is_judged_at is_last line) (are n line (record { below = below; is = is })))
 
 -- ---- in a network
-module _ (net : Net) (o : Outcome) (prior : Prior) (line : PolicyLine) where
+module _ (net : Net) (o : Outcome) (prior : Prior) (events : List Event) (line : PolicyLine) where
   abbrev nothing : List Reason
   nothing = []
 
   abbrev no_found : List Found
   no_found = []
 
-  no_reasons : judged net line ≡ None → (place : Option Failure) → AreLineReasons net o prior line place nothing
+  no_reasons : judged net events line ≡ None → (place : Option Event) → AreLineReasons net o prior events line place nothing
   no_reasons e place =
-      let none : expected_at net (is_some prior.before) line place ≡ None = ap (option_and_then (λ promise. cond (looks_at (is_some prior.before) promise place) (Some promise.expectation) None)) e in
+      let none : expected_at net events (is_some prior.before) line place ≡ None = ap (option_and_then (λ promise. cond (looks_at (is_some prior.before) promise place) (Some promise.expectation) None)) e in
       let same : nothing ≡ nothing = refl in
       subst (λ (expected : Option Expectation). MatchOption expected (nothing ≡ nothing) (λ expectation. AreReasonsAt net o prior place expectation nothing)) (sym none) same
 
-  abbrev silent : List (Option Failure) → List Found
-  silent some = map (λ place. record { place = place; reasons = nothing }) some
+  abbrev silent : List (Option Event) → List Found
+  silent some = map (λ place. record { place = cause_at place; reasons = nothing }) some
 
-  each_silent : judged net line ≡ None → (some : List (Option Failure)) → AllZip (IsFoundAt net o prior line) some (silent some)
+  each_silent : judged net events line ≡ None → (some : List (Option Event)) → AllZip (IsFoundAt net o prior events line) some (silent some)
   each_silent e [] = tt
   each_silent e (place ∷ some) = (record { at = refl; are = no_reasons e place }, each_silent e some)
 
-  none_silent : (some : List (Option Failure)) → no_found ≡ filter has_reason (silent some)
+  none_silent : (some : List (Option Event)) → no_found ≡ filter has_reason (silent some)
   none_silent [] = refl
   none_silent (place ∷ some) = none_silent some
 
   -- a line that isn't judged has nothing that is found
-  pub unjudged : judged net line ≡ None → (some : List (Option Failure)) → AreFoundIn net o prior line some no_found
+  pub unjudged : judged net events line ≡ None → (some : List (Option Event)) → AreFoundIn net o prior events line some no_found
   unjudged e some = record { all = silent some; each = each_silent e some; are = none_silent some }
 
 module _ (net : Net) (o : Outcome) (judgement : Judgement) where
-  abbrev IsThere : ℕ → PolicyLine → Result Promise Fault → Type 0
-  IsThere n line read = MatchBool (is_due true read) (IsKeptOf net o nothing_before n line judgement) (NoneIsKeptOf n judgement)
+  module _ (events : List Event) where
+    abbrev IsThere : ℕ → PolicyLine → Result Said Fault → Type 0
+    IsThere n line read = MatchBool (is_due true read) (IsKeptOf net o nothing_before events n line judgement) (NoneIsKeptOf n judgement)
 
-  line_verdict : (n : ℕ) (line : PolicyLine) (read : Result Promise Fault) → line.read ≡ read → IsThere n line read → IsVerdict net o line (rows_of_read line.number line.read (line_found n judgement.found.items))
-  line_verdict n line (Ok promise) e k = record { found = line_found n judgement.found.items; are_found = k.found; are = refl }
-  line_verdict n line (Err fault) e k = record {
-    found = [];
-    are_found = unjudged net o nothing_before line (ap (judged_of net) e) (places net);
-    are = ap (λ read. rows_of_read line.number read (line_found n judgement.found.items)) e ∙ ap (λ read. rows_of_read line.number read []) (sym e);
-  }
+    -- the promise of a line, if it is judged
+    abbrev judged_of : Result Said Fault → Option Promise
+    judged_of read = option_and_then (λ promise. cond (lacks_nothing net events promise) (Some promise) None) (promise_in read)
 
-  pub verdicts_there : (lines : List PolicyLine) → AreLinesJudged net o nothing_before true lines judgement → AllZip (IsVerdict net o) lines (verdicts_by lines judgement)
+    line_verdict : (n : ℕ) (line : PolicyLine) (read : Result Said Fault) → line.read ≡ read → IsThere n line read → IsVerdict net o events line (rows_of_read line.number line.read (line_found n judgement.found.items))
+    line_verdict n line (Ok (says.Risk risk)) e k = record { found = line_found n judgement.found.items; are_found = k.found; are = refl }
+    line_verdict n line (Ok (says.Promise promise)) e k = record { found = line_found n judgement.found.items; are_found = k.found; are = refl }
+    line_verdict n line (Err fault) e k = record {
+      found = [];
+      are_found = unjudged net o nothing_before events line (ap judged_of e) (places events);
+      are = ap (λ read. rows_of_read line.number read (line_found n judgement.found.items)) e ∙ ap (λ read. rows_of_read line.number read []) (sym e);
+    }
+
+    -- what a line lacks
+    line_lacked : (n : ℕ) (line : PolicyLine) (read : Result Said Fault) → line.read ≡ read → IsThere n line read → line_lacks n judgement ≡ lacked net events line.read
+    line_lacked n line (Ok (says.Risk risk)) e k = k.lacks
+    line_lacked n line (Ok (says.Promise promise)) e k = k.lacks
+    line_lacked n line (Err fault) e k = k.lacks ∙ ap (lacked net events) (sym e)
+
+    line_refused : (n : ℕ) (read : Result Said Fault) (what : Option Missing) → what ≡ lacked net events read → refused_at n read what ≡ unread_by n read ++ missing_rows n (lacked net events read)
+    line_refused n (Err fault) what e = refl
+    line_refused n (Ok said) what e = ap (missing_rows n) e
+
+    -- in how many networks it is judged
+    counted_by : (read : Result Said Fault) (what : Option Missing) → what ≡ lacked net events read
+        → count_by_read read (is_none what) events ≡ option_map_or (λ promise. count_by (asks_at false promise) (places events)) (judged_of read) 0
+    counted_by (Err fault) what e = refl
+    counted_by (Ok (says.Risk line)) what e = refl
+    counted_by (Ok (says.Promise promise)) what e = ap (λ w. count_by_read (Ok (says.Promise promise)) (is_none w) events) e ∙ go (missing net events promise)
+      where
+        go : (w : Option Missing) → count_by_read (Ok (says.Promise promise)) (is_none w) events ≡ option_map_or (λ promise. count_by (asks_at false promise) (places events)) (cond (is_none w) (Some promise) None) 0
+        go None = refl
+        go (Some w) = refl
+
+  pub verdicts_there : (lines : List PolicyLine) → AreLinesJudged net o nothing_before true lines judgement → AllZip (IsVerdict net o (events_of net lines)) lines (verdicts_by lines judgement)
   verdicts_there lines are =
-      zip_each (IsVerdict net o) (λ n line. rows_of_read line.number line.read (line_found n judgement.found.items)) lines (λ n line below is. line_verdict n line line.read refl (are n line (record { below = below; is = is })))
+      zip_each (IsVerdict net o (events_of net lines)) (λ n line. rows_of_read line.number line.read (line_found n judgement.found.items)) lines
+      (λ n line below is. line_verdict (events_of net lines) n line line.read refl (are n line (record { below = below; is = is })))
 
-  -- what a line lacks
-  line_lacked : (n : ℕ) (line : PolicyLine) (read : Result Promise Fault) → line.read ≡ read → IsThere n line read → line_lacks n judgement ≡ lacked net line.read
-  line_lacked n line (Ok promise) e k = k.lacks
-  line_lacked n line (Err fault) e k = k.lacks ∙ ap (lacked net) (sym e)
-
-  line_refused : (n : ℕ) (read : Result Promise Fault) (what : Option Missing) → what ≡ lacked net read → refused_at n read what ≡ unread_by n read ++ missing_rows n (lacked net read)
-  line_refused n (Err fault) what e = refl
-  line_refused n (Ok promise) what e = ap (missing_rows n) e
-
-  pub refused_there : (lines : List PolicyLine) → AreLinesJudged net o nothing_before true lines judgement → refused_by lines judgement ≡ flat_map (refused_rows net) lines
+  pub refused_there : (lines : List PolicyLine) → AreLinesJudged net o nothing_before true lines judgement → refused_by lines judgement ≡ flat_map (refused_rows net (events_of net lines)) lines
   refused_there lines are =
-      ap joined (each_same (λ n line. refused_at line.number line.read (line_lacks n judgement)) (refused_rows net) lines
-      (λ n line below is. line_refused line.number line.read (line_lacks n judgement) (line_lacked n line line.read refl (are n line (record { below = below; is = is }))))) ∙ joined_mapped (refused_rows net) lines
+      let events = events_of net lines in
+      ap joined (each_same (λ n line. refused_at line.number line.read (line_lacks n judgement)) (refused_rows net events) lines
+      (λ n line below is. line_refused events line.number line.read (line_lacks n judgement) (line_lacked events n line line.read refl (are n line (record { below = below; is = is }))))) ∙ joined_mapped (refused_rows net events) lines
 
-  -- in how many networks it is judged
-  counted_by : (read : Result Promise Fault) (what : Option Missing) → what ≡ lacked net read
-      → count_by_read read (is_none what) (failures net) ≡ option_map_or (λ promise. count_by (asks_at false promise) (places net)) (judged_of net read) 0
-  counted_by (Err fault) what e = refl
-  counted_by (Ok promise) what e = ap (λ w. count_by_read (Ok promise) (is_none w) (failures net)) e ∙ go (missing net promise)
-    where
-      go : (w : Option Missing) → count_by_read (Ok promise) (is_none w) (failures net) ≡ option_map_or (λ promise. count_by (asks_at false promise) (places net)) (where_whole promise w) 0
-      go None = refl
-      go (Some w) = refl
-
-  pub counts_there : (lines : List PolicyLine) (all : List Failure) → all ≡ failures net → AreLinesJudged net o nothing_before true lines judgement → network_counts lines all judgement ≡ map (network_count net) lines
+  pub counts_there : (lines : List PolicyLine) (all : List Event) → all ≡ events_of net lines → AreLinesJudged net o nothing_before true lines judgement → network_counts lines all judgement ≡ map (network_count net (events_of net lines)) lines
   counts_there lines all e are =
+      let events = events_of net lines in
       ap (λ all. network_counts lines all judgement) e
-      ∙ each_same (λ n line. count_by_read line.read (is_none (line_lacks n judgement)) (failures net)) (network_count net) lines
-      (λ n line below is. counted_by line.read (line_lacks n judgement) (line_lacked n line line.read refl (are n line (record { below = below; is = is }))))
+      ∙ each_same (λ n line. count_by_read line.read (is_none (line_lacks n judgement)) events) (network_count net events) lines
+      (λ n line below is. counted_by events line.read (line_lacks n judgement) (line_lacked events n line line.read refl (are n line (record { below = below; is = is }))))

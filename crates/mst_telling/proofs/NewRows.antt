@@ -6,12 +6,13 @@ use Rattle.std.proofs.lemmas.List.{map-append}
 use Rattle.std.proofs.lemmas.List.Elements.{filter-append}
 use Rattle.std.proofs.lemmas.List.Folds.{list_any-append}
 use Rattle.mst_lang.specs.declared.line.Fault.{Fault}
-use Rattle.mst_policy.specs.declared.expectation.Promise.{Promise}
+use Rattle.mst_policy.specs.declared.risk.Said.{Said}
+use Rattle.mst_policy.specs.declared.risk.Said.TheVariants as says
 use Rattle.mst_policy.specs.declared.expectation.Scope.{Scope}
 use Rattle.mst_policy.specs.declared.policy.PolicyLine.{PolicyLine}
 use Rattle.mst_rows.specs.Rows.{Row}
 use Rattle.mst_graph.specs.Lists.{has_any}
-use Rattle.mst_reasons.specs.sweep.declared.failure.Failure.{Failure}
+use Rattle.mst_reasons.specs.sweep.declared.event.Cause.{Cause}
 use Rattle.mst_reasons.specs.Judged.{has_now}
 use Rattle.mst_reasons.specs.declared.missing.Missing.{Missing}
 use Rattle.mst_reasons.specs.declared.reason.Reason.{Reason}
@@ -65,7 +66,7 @@ none_flat own f none (x ∷ xs) = list_any-append own (f x) (flat_map f xs) ∙ 
 
 -- ---- rows of reasons don't tell that a line is refused
 module _ (n : ℕ) where
-  no_refusal : (place : Option Failure) (reasons : List Reason) → list_any is_refusal (reason_rows n place reasons) ≡ false
+  no_refusal : (place : Option Cause) (reasons : List Reason) → list_any is_refusal (reason_rows n place reasons) ≡ false
   no_refusal place [] = refl
   no_refusal place (reason ∷ reasons) = no_refusal place reasons
 
@@ -95,9 +96,10 @@ module _ (n : ℕ) where
       go true = no_now
       go false = none_filtered is_refusal (is_told (flat_map (left_out n scope (rows_now n found)) found)) (rows_now n found) no_now
 
-  none_refuse : (read : Result Promise Fault) (found : List Found) → list_any is_refusal (unkept_by n read found) ≡ false
+  none_refuse : (read : Result Said Fault) (found : List Found) → list_any is_refusal (unkept_by n read found) ≡ false
   none_refuse (Err fault) found = refl
-  none_refuse (Ok promise) found = go (tells_once promise.scope)
+  none_refuse (Ok (says.Risk line)) found = refl
+  none_refuse (Ok (says.Promise promise)) found = go (tells_once promise.scope)
     where
       go : (b : Bool) → list_any is_refusal (cond b (folded_rows n promise.scope (rows_now n found) found) (found_rows n found)) ≡ false
       go true = none_folded promise.scope found

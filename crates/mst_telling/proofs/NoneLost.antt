@@ -8,7 +8,7 @@ use Rattle.mst_rows.specs.Lines.{row_line}
 use Rattle.mst_rows.specs.Rows.{Row}
 use Rattle.mst_graph.specs.Lists.{has_any}
 use Rattle.mst_graph.proofs.Members.{cases, in_filter, in_map, in_none, passing}
-use Rattle.mst_reasons.specs.sweep.declared.failure.Failure.{Failure}
+use Rattle.mst_reasons.specs.sweep.declared.event.Cause.{Cause}
 use Rattle.mst_reasons.specs.Judged.{has_now}
 use Rattle.mst_reasons.specs.declared.reason.Reason.{Reason}
 use Rattle.mst_telling.specs.NoneLost.{TellAfter, TellEach}
@@ -78,21 +78,21 @@ module _ (n : ℕ) (scope : Scope) (found : List Found) where
   abbrev rows : List Row
   rows = once_rows n scope nows found
 
-  after_once : (f : Found) (failure : Failure) (reason : Reason) → Contains found f → f.place ≡ Some failure → Contains f.reasons reason → TellAfter n scope rows failure reason
-  after_once f failure reason there at among = go (is_left_out n scope nows (Some failure) reason) refl
+  after_once : (f : Found) (cause : Cause) (reason : Reason) → Contains found f → f.place ≡ Some cause → Contains f.reasons reason → TellAfter n scope rows cause reason
+  after_once f cause reason there at among = go (is_left_out n scope nows (Some cause) reason) refl
     where
-      go : (b : Bool) → is_left_out n scope nows (Some failure) reason ≡ b → TellAfter n scope rows failure reason
+      go : (b : Bool) → is_left_out n scope nows (Some cause) reason ≡ b → TellAfter n scope rows cause reason
       go true e =
-          let both = both_true (not (names_it scope failure)) (is_told nows (reason_row n None reason)) e in
+          let both = both_true (not (names_it scope cause)) (is_told nows (reason_row n None reason)) e in
           let out : Contains (left_out n scope nows f) (reason_row n None reason) = in_map (reason_row n None) (filter (is_left_out n scope nows f.place) f.reasons) reason
           (in_filter (is_left_out n scope nows f.place) f.reasons reason among (ap (λ place. is_left_out n scope nows place reason) at ∙ e)) in
           let is = still_told scope nows left (reason_row n None reason) both.1 (in_flat (left_out n scope nows) found f (reason_row n None reason) there out) in
-          inr (untrue (names_it scope failure) both.0, any_front (same_text (reason_row n None reason)) (told ++ same) behind (any_front (same_text (reason_row n None reason)) told same is))
+          inr (untrue (names_it scope cause) both.0, any_front (same_text (reason_row n None reason)) (told ++ same) behind (any_front (same_text (reason_row n None reason)) told same is))
       go false e =
-          let kept : Contains (filter (λ r. not (is_left_out n scope nows (Some failure) r)) f.reasons) reason = in_filter (λ r. not (is_left_out n scope nows (Some failure) r)) f.reasons reason among (ap not e) in
-          let own : Contains (others n scope nows f) (reason_row n (Some failure) reason) = subst (λ place. Contains (cond (is_now place) [] (reason_rows n place (filter (λ r. not (is_left_out n scope nows place r)) f.reasons))) (reason_row n (Some failure) reason)) (sym at)
-          (in_map (reason_row n (Some failure)) (filter (λ r. not (is_left_out n scope nows (Some failure) r)) f.reasons) reason kept) in
-          inl (Contains-append_right (told ++ same) behind (reason_row n (Some failure) reason) (in_flat (others n scope nows) found f (reason_row n (Some failure) reason) there own))
+          let kept : Contains (filter (λ r. not (is_left_out n scope nows (Some cause) r)) f.reasons) reason = in_filter (λ r. not (is_left_out n scope nows (Some cause) r)) f.reasons reason among (ap not e) in
+          let own : Contains (others n scope nows f) (reason_row n (Some cause) reason) = subst (λ place. Contains (cond (is_now place) [] (reason_rows n place (filter (λ r. not (is_left_out n scope nows place r)) f.reasons))) (reason_row n (Some cause) reason)) (sym at)
+          (in_map (reason_row n (Some cause)) (filter (λ r. not (is_left_out n scope nows (Some cause) r)) f.reasons) reason kept) in
+          inl (Contains-append_right (told ++ same) behind (reason_row n (Some cause) reason) (in_flat (others n scope nows) found f (reason_row n (Some cause) reason) there own))
 
   now_once : (f : Found) (reason : Reason) → has_now scope ≡ true → Contains found f → f.place ≡ None → Contains f.reasons reason → Contains rows (reason_row n None reason)
   now_once f reason has there at among =
@@ -111,6 +111,6 @@ none_lost n promise found = go (tells_once promise.scope)
     go : (once : Bool) → TellEach n promise found (cond once (once_rows n promise.scope (rows_now n found) found) (found_rows n found))
     go true = record { after = after_once n promise.scope found; now = now_once n promise.scope found }
     go false = record {
-      after = λ f failure reason there at among. inl (subst (λ place. Contains (found_rows n found) (reason_row n place reason)) at (each_found n found f reason there among));
+      after = λ f cause reason there at among. inl (subst (λ place. Contains (found_rows n found) (reason_row n place reason)) at (each_found n found f reason there among));
       now = λ f reason has there at among. subst (λ place. Contains (found_rows n found) (reason_row n place reason)) at (each_found n found f reason there among);
     }

@@ -8,11 +8,13 @@ use Rattle.std.proofs.lemmas.List.Folds.{list_any-append}
 use Rattle.std.proofs.lemmas.List.Sums.{sum_by-cons}
 use Rattle.mst_lang.specs.declared.line.Fault.{Fault}
 use Rattle.mst_policy.specs.declared.expectation.Promise.{Promise}
+use Rattle.mst_policy.specs.declared.risk.Said.{Said}
+use Rattle.mst_policy.specs.declared.risk.Said.TheVariants as says
 use Rattle.mst_policy.specs.declared.expectation.Scope.{Scope}
 use Rattle.mst_rows.specs.Lines.{row_line}
 use Rattle.mst_rows.specs.Rows.{Row}
 use Rattle.mst_graph.specs.Lists.{has_any}
-use Rattle.mst_reasons.specs.sweep.declared.failure.Failure.{Failure}
+use Rattle.mst_reasons.specs.sweep.declared.event.Cause.{Cause}
 use Rattle.mst_reasons.specs.Judged.{has_now}
 use Rattle.mst_reasons.specs.declared.reason.Reason.{Reason}
 use Rattle.mst_telling.specs.Judged.{found_at}
@@ -161,15 +163,15 @@ none_pass test [] none = refl
 none_pass {X} test (x ∷ xs) none = ap (λ b. cond b (x ∷ filter test xs) (filter test xs)) (none x) ∙ none_pass test xs none
 
 module _ (n : ℕ) (scope : Scope) (nows : List Row) where
-  -- a failure has a reason that is left out, or another one
+  -- an event has a reason that is left out, or another one
   abbrev tells : Found → Bool
   tells f = has_reason f && not (is_now f.place)
 
-  at_failure : (failure : Failure) (reasons : List Reason) (f : Found) → f ≡ record { place = Some failure; reasons = reasons } → (has_any (left_out n scope nows f) || has_any (others n scope nows f)) ≡ (has_any reasons && true)
-  at_failure failure reasons f is =
-      let test : Reason → Bool = is_left_out n scope nows (Some failure) in
+  at_cause : (cause : Cause) (reasons : List Reason) (f : Found) → f ≡ record { place = Some cause; reasons = reasons } → (has_any (left_out n scope nows f) || has_any (others n scope nows f)) ≡ (has_any reasons && true)
+  at_cause cause reasons f is =
+      let test : Reason → Bool = is_left_out n scope nows (Some cause) in
       ap (λ f. has_any (left_out n scope nows f) || has_any (others n scope nows f)) is
-      ∙ (λ i. any_mapped (reason_row n None) (filter test reasons) i || any_mapped (reason_row n (Some failure)) (filter (λ r. not (test r)) reasons) i)
+      ∙ (λ i. any_mapped (reason_row n None) (filter test reasons) i || any_mapped (reason_row n (Some cause)) (filter (λ r. not (test r)) reasons) i)
       ∙ split_any test reasons ∙ and_true (has_any reasons)
 
   one_tells : (f : Found) → (has_any (left_out n scope nows f) || has_any (others n scope nows f)) ≡ tells f
@@ -179,13 +181,13 @@ module _ (n : ℕ) (scope : Scope) (nows : List Row) where
       and_false true = refl
       and_false false = refl
 
-      go : (place : Option Failure) → f.place ≡ place → (has_any (left_out n scope nows f) || has_any (others n scope nows f)) ≡ (has_reason f && not (is_now f.place))
+      go : (place : Option Cause) → f.place ≡ place → (has_any (left_out n scope nows f) || has_any (others n scope nows f)) ≡ (has_reason f && not (is_now f.place))
       go None e =
           ap (λ place. has_any (reason_rows n None (filter (is_left_out n scope nows place) f.reasons)) || has_any (cond (is_now place) [] (reason_rows n place (filter (λ r. not (is_left_out n scope nows place r)) f.reasons)))) e
           ∙ ap (λ reasons. has_any (reason_rows n None reasons) || false) (none_pass (λ r. false) f.reasons (λ r. refl))
           ∙ and_false (has_reason f) ∙ ap (λ place. has_reason f && not (is_now place)) (sym e)
-      go (Some failure) e =
-          at_failure failure f.reasons f (λ i. record { place = e i; reasons = f.reasons }) ∙ ap (λ place. has_reason f && not (is_now place)) (sym e)
+      go (Some cause) e =
+          at_cause cause f.reasons f (λ i. record { place = e i; reasons = f.reasons }) ∙ ap (λ place. has_reason f && not (is_now place)) (sym e)
 
   counted_some : (test : Found → Bool) (fs : List Found) → has_any (same_rows n (count_by test fs)) ≡ list_any test fs
   counted_some test [] = refl
@@ -304,15 +306,15 @@ module _ (n : ℕ) (scope : Scope) (nows : List Row) where
   is_untold row = not (is_told nows row)
 
   -- what is left out is told of the network itself
-  place_told : (place : Option Failure) (reasons : List Reason) → list_any is_untold (reason_rows n None (filter (is_left_out n scope nows place) reasons)) ≡ false
+  place_told : (place : Option Cause) (reasons : List Reason) → list_any is_untold (reason_rows n None (filter (is_left_out n scope nows place) reasons)) ≡ false
   place_told place [] = refl
   place_told None (reason ∷ reasons) = place_told None reasons
-  place_told (Some failure) (reason ∷ reasons) = go (place_told (Some failure) reasons) (names_it scope failure) (is_told nows (reason_row n None reason)) refl
+  place_told (Some cause) (reason ∷ reasons) = go (place_told (Some cause) reasons) (names_it scope cause) (is_told nows (reason_row n None reason)) refl
     where
-      go : list_any is_untold (reason_rows n None (filter (is_left_out n scope nows (Some failure)) reasons)) ≡ false → (named told : Bool) → is_told nows (reason_row n None reason) ≡ told
-          → list_any is_untold (reason_rows n None (cond (not named && told) (reason ∷ (filter (is_left_out n scope nows (Some failure)) reasons)) (filter (is_left_out n scope nows (Some failure)) reasons))) ≡ false
+      go : list_any is_untold (reason_rows n None (filter (is_left_out n scope nows (Some cause)) reasons)) ≡ false → (named told : Bool) → is_told nows (reason_row n None reason) ≡ told
+          → list_any is_untold (reason_rows n None (cond (not named && told) (reason ∷ (filter (is_left_out n scope nows (Some cause)) reasons)) (filter (is_left_out n scope nows (Some cause)) reasons))) ≡ false
       go rest true told e = rest
-      go rest false true e = ap (λ b. not b || list_any is_untold (reason_rows n None (filter (is_left_out n scope nows (Some failure)) reasons))) e ∙ rest
+      go rest false true e = ap (λ b. not b || list_any is_untold (reason_rows n None (filter (is_left_out n scope nows (Some cause)) reasons))) e ∙ rest
       go rest false false e = rest
 
   left_told : (fs : List Found) → list_any is_untold (flat_map (left_out n scope nows) fs) ≡ false
@@ -372,9 +374,10 @@ abbrev no_row : List Row
 no_row = []
 
 -- of nothing that was found there are no rows
-pub nothing_unkept : (n : ℕ) (read : Result Promise Fault) → unkept_by n read [] ≡ []
+pub nothing_unkept : (n : ℕ) (read : Result Said Fault) → unkept_by n read [] ≡ []
 nothing_unkept n (Err fault) = refl
-nothing_unkept n (Ok promise) = go (tells_once promise.scope) (has_now promise.scope)
+nothing_unkept n (Ok (says.Risk line)) = refl
+nothing_unkept n (Ok (says.Promise promise)) = go (tells_once promise.scope) (has_now promise.scope)
   where
     go : (once now : Bool) → cond once (cond now no_row no_row ++ no_row) no_row ≡ no_row
     go true true = refl

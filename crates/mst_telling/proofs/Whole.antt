@@ -9,6 +9,7 @@ use Rattle.mst_rows.specs.Rows.{Row}
 use Rattle.mst_graph.specs.Lists.{has_any}
 use Rattle.mst_tables.specs.Tables.{Net}
 use Rattle.mst_roles.specs.forest.Outcome.{Outcome}
+use Rattle.mst_reasons.specs.Risks.{events}
 use Rattle.mst_telling.specs.Verified.{Counts, IsVerdict, IsVerified, all_refused, counts_in, joined, judged_count, judged_in, last_row, network_count, promises_in, promises_of, refused_rows, whole_rows}
 use Rattle.mst_telling.proofs.GoesOn.{one_if, positive}
 
@@ -27,8 +28,8 @@ pub put_four : (rows a b c : List Row) (d : Row) → (((rows ++ a) ++ b) ++ c) +
 put_four rows a b c d =
     ap (λ (l : List Row). (l ++ c) ++ d ∷ []) (append_assoc rows a b) ∙ ap (λ (l : List Row). l ++ d ∷ []) (append_assoc rows (a ++ b) c) ∙ append_assoc rows ((a ++ b) ++ c) (d ∷ [])
 
-module _ (net : Net) (o : Outcome) (lines : List PolicyLine) (told : List (List Row)) (each : AllZip (IsVerdict net o) lines told) (refused : List Row) (refused_are : refused ≡ flat_map (refused_rows net) lines)
-    (counts : List ℕ) (counts_are : counts ≡ map (network_count net) lines) where
+module _ (net : Net) (o : Outcome) (lines : List PolicyLine) (told : List (List Row)) (each : AllZip (IsVerdict net o (events net lines)) lines told) (refused : List Row)
+    (refused_are : refused ≡ flat_map (refused_rows net (events net lines)) lines) (counts : List ℕ) (counts_are : counts ≡ map (network_count net (events net lines)) lines) where
   abbrev judged : ℕ
   judged = judged_count counts
 

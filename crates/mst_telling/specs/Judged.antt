@@ -1,17 +1,20 @@
 -- What is kept of the lines of a policy that were judged, and the rows of each.
-use Rattle.std.specs.Prelude.{◌≡◌, ◌+◌, ◌<◌, ◌||◌, ◌++◌, ℕ, Bool, false, List, [], ◌∷◌, Option, None, Some, Result, Ok, Err, MatchBool, Vec, count_by, filter, get_or, is_none, length, map, nat_lt, slice_index_or, if◌then◌else◌}
+use Rattle.std.specs.Prelude.{◌≡◌, ◌+◌, ◌<◌, ◌||◌, ◌++◌, ℕ, Bool, false, List, [], ◌∷◌, Option, None, Result, Ok, Err, MatchBool, Vec, count_by, filter, get_or, is_none, length, map, nat_lt, slice_index_or, if◌then◌else◌}
 use Rattle.std.specs.declared.alloc.Global.{Global}
 use Rattle.std.specs.List.{list_any}
+use Rattle.std.specs.Option.{option_map_or}
 use Rattle.mst_rows.specs.Lines.{row_line}
 use Rattle.mst_rows.specs.Rows.{Row}
 use Rattle.mst_lang.specs.declared.line.Fault.{Fault}
-use Rattle.mst_policy.specs.declared.expectation.Promise.{Promise}
+use Rattle.mst_policy.specs.Lines.{promise_in}
 use Rattle.mst_policy.specs.declared.expectation.Scope.{Scope}
-use Rattle.mst_reasons.specs.sweep.declared.failure.Failure.{Failure}
-use Rattle.mst_reasons.specs.Judged.{asks_at}
+use Rattle.mst_reasons.specs.sweep.Failures.{Event}
+use Rattle.mst_reasons.specs.Judged.{asks_at, places}
+use Rattle.mst_reasons.specs.Risks.{events}
 use Rattle.mst_tables.specs.Tables.{Net}
 use Rattle.mst_roles.specs.forest.Outcome.{Outcome}
 use Rattle.mst_policy.specs.declared.policy.PolicyLine.{PolicyLine}
+use Rattle.mst_policy.specs.declared.risk.Said.{Said}
 use Rattle.mst_reasons.specs.Named.{Prior}
 use Rattle.mst_reasons.specs.declared.missing.Missing.{Missing}
 use Rattle.mst_reasons.specs.declared.reason.Reason.{Reason}
@@ -62,9 +65,9 @@ abbrev pub change_at : ℕ → PolicyLine → Judgement → Judgement → Change
 change_at n line before now = record { line = line; before = line_rows n line before; now = line_rows n line now }
 
 -- the row that a line is refused by, if it is: it can't be read, or lacks something; and those of all lines
-abbrev pub refused_at : ℕ → Result Promise Fault → Option Missing → List Row
+abbrev pub refused_at : ℕ → Result Said Fault → Option Missing → List Row
 refused_at n (Err fault) what = unread_by n (Err fault)
-refused_at n (Ok promise) what = missing_rows n what
+refused_at n (Ok said) what = missing_rows n what
 
 abbrev pub refused_by : List PolicyLine → Judgement → List Row
 refused_by lines judgement = joined (each_from (λ n line. refused_at line.number line.read (line_lacks n judgement)) 0 lines)
@@ -73,13 +76,12 @@ refused_by lines judgement = joined (each_from (λ n line. refused_at line.numbe
 abbrev pub verdicts_by : List PolicyLine → Judgement → List (List Row)
 verdicts_by lines judgement = each_from (λ n line. rows_of_read line.number line.read (line_found n judgement.found.items)) 0 lines
 
--- in how many networks a line is judged that lacks nothing, by the failures of the network; and each line
-abbrev pub count_by_read : Result Promise Fault → Bool → List Failure → ℕ
-count_by_read (Err fault) is_whole failures = 0
-count_by_read (Ok promise) is_whole failures = if is_whole then count_by (asks_at false promise) (None ∷ map Some failures) else 0
+-- in how many networks a line is judged that lacks nothing, by the events of the network; and each line
+abbrev pub count_by_read : Result Said Fault → Bool → List Event → ℕ
+count_by_read read is_whole events = option_map_or (λ promise. if is_whole then count_by (asks_at false promise) (places events) else 0) (promise_in read) 0
 
-abbrev pub network_counts : List PolicyLine → List Failure → Judgement → List ℕ
-network_counts lines failures judgement = each_from (λ n line. count_by_read line.read (is_none (line_lacks n judgement)) failures) 0 lines
+abbrev pub network_counts : List PolicyLine → List Event → Judgement → List ℕ
+network_counts lines events judgement = each_from (λ n line. count_by_read line.read (is_none (line_lacks n judgement)) events) 0 lines
 
 -- ---- lines of text
 -- these are the lines of text of some rows
@@ -105,9 +107,9 @@ pub record StandsAt (lines : List PolicyLine) (n : ℕ) (line : PolicyLine) : Ty
   pub is : get_or lines n line ≡ line
 
 -- what is kept of a line is what the network tells of it
-pub record IsKeptOf (net : Net) (o : Outcome) (prior : Prior) (n : ℕ) (line : PolicyLine) (judgement : Judgement) : Type 0 where
-  pub lacks : line_lacks n judgement ≡ lacked net line.read
-  pub found : AreFound net o prior line (line_found n judgement.found.items)
+pub record IsKeptOf (net : Net) (o : Outcome) (prior : Prior) (events : List Event) (n : ℕ) (line : PolicyLine) (judgement : Judgement) : Type 0 where
+  pub lacks : line_lacks n judgement ≡ lacked net events line.read
+  pub found : AreFound net o prior events line (line_found n judgement.found.items)
 
 -- nothing is kept of one
 pub record NoneIsKeptOf (n : ℕ) (judgement : Judgement) : Type 0 where
@@ -117,7 +119,7 @@ pub record NoneIsKeptOf (n : ℕ) (judgement : Judgement) : Type 0 where
 -- all of the lines were judged in a network, each that is judged there
 abbrev pub AreLinesJudged : Net → Outcome → Prior → Bool → List PolicyLine → Judgement → Type 0
 AreLinesJudged net o prior is_last lines judgement =
-    (n : ℕ) (line : PolicyLine) → StandsAt lines n line → MatchBool (is_judged_at is_last line) (IsKeptOf net o prior n line judgement) (NoneIsKeptOf n judgement)
+    (n : ℕ) (line : PolicyLine) → StandsAt lines n line → MatchBool (is_judged_at is_last line) (IsKeptOf net o prior (events net lines) n line judgement) (NoneIsKeptOf n judgement)
 
 -- ---- rows that were put
 -- a printer grew by these rows

@@ -7,4 +7,3 @@ pub mod Steps
 pub mod Texts
 pub mod Told
 pub mod Verified
-pub mod Seen

@@ -4,7 +4,7 @@ use Rattle.std.specs.List.{Contains}
 use Rattle.mst_policy.specs.declared.expectation.Promise.{Promise}
 use Rattle.mst_policy.specs.declared.expectation.Scope.{Scope}
 use Rattle.mst_rows.specs.Rows.{Row}
-use Rattle.mst_reasons.specs.sweep.declared.failure.Failure.{Failure}
+use Rattle.mst_reasons.specs.sweep.declared.event.Cause.{Cause}
 use Rattle.mst_reasons.specs.Judged.{has_now}
 use Rattle.mst_reasons.specs.declared.reason.Reason.{Reason}
 use Rattle.mst_telling.specs.Once.{names_it}
@@ -12,13 +12,13 @@ use Rattle.mst_telling.specs.Rows.{reason_row}
 use Rattle.mst_telling.specs.Texts.{is_told}
 use Rattle.mst_telling.specs.Told.{Found}
 
--- Rows tell a reason after a failure: by a row of that failure, or, where the scope doesn't name what failed, by the line of text of the same
+-- Rows tell a reason after an event: by a row of that, or, where the scope doesn't name what failed, by the line of text of the same
 -- reason in the network itself
-abbrev pub TellAfter : ℕ → Scope → List Row → Failure → Reason → Type 0
-TellAfter n scope rows failure reason =
-    Contains rows (reason_row n (Some failure) reason) ⊎ ((names_it scope failure ≡ false) × (is_told rows (reason_row n None reason) ≡ true))
+abbrev pub TellAfter : ℕ → Scope → List Row → Cause → Reason → Type 0
+TellAfter n scope rows cause reason =
+    Contains rows (reason_row n (Some cause) reason) ⊎ ((names_it scope cause ≡ false) × (is_told rows (reason_row n None reason) ≡ true))
 
 -- Rows tell each reason that was found of a line: after each failure so, and in the network itself by its own row, where the line is judged there
 pub record TellEach (n : ℕ) (promise : Promise) (found : List Found) (rows : List Row) : Type 0 where
-  pub after : (f : Found) (failure : Failure) (reason : Reason) → Contains found f → f.place ≡ Some failure → Contains f.reasons reason → TellAfter n promise.scope rows failure reason
+  pub after : (f : Found) (cause : Cause) (reason : Reason) → Contains found f → f.place ≡ Some cause → Contains f.reasons reason → TellAfter n promise.scope rows cause reason
   pub now : (f : Found) (reason : Reason) → has_now promise.scope ≡ true → Contains found f → f.place ≡ None → Contains f.reasons reason → Contains rows (reason_row n None reason)

@@ -6,18 +6,20 @@ use Rattle.mst_policy.specs.declared.expectation.Scope.{Scope}
 use Rattle.mst_policy.specs.declared.expectation.Scope.TheVariants as scope
 use Rattle.mst_rows.specs.Rows.{Row}
 use Rattle.mst_graph.specs.Lists.{has_any}
-use Rattle.mst_reasons.specs.sweep.declared.failure.Failure.{Failure}
-use Rattle.mst_reasons.specs.Judged.{has_now, name_of}
+use Rattle.mst_reasons.specs.sweep.declared.event.Cause.{Cause}
+use Rattle.mst_reasons.specs.Judged.{has_now}
+use Rattle.mst_reasons.specs.sweep.SweepText.{cause_name}
 use Rattle.mst_reasons.specs.declared.reason.Reason.{Reason}
 use Rattle.mst_telling.specs.Rows.{reason_row, same_row}
 use Rattle.mst_telling.specs.Texts.{is_told}
 use Rattle.mst_telling.specs.Told.{Found, is_now, reason_rows}
 
 -- the scope has the very name of what failed
-abbrev pub names_it : Scope → Failure → Bool
-names_it (scope.AfterLan names) failure = lists names (name_of failure)
-names_it (scope.AfterBridge names) failure = lists names (name_of failure)
-names_it _ failure = false
+abbrev pub names_it : Scope → Cause → Bool
+names_it (scope.AfterLan names) cause = lists names (cause_name cause)
+names_it (scope.AfterBridge names) cause = lists names (cause_name cause)
+names_it (scope.AfterRisk names) cause = lists names (cause_name cause)
+names_it _ cause = false
 
 -- the rows of a place, if it is the network itself, and so all that this gives
 abbrev pub now_at : ℕ → Found → List Row
@@ -26,17 +28,17 @@ now_at n f = if is_now f.place then reason_rows n None f.reasons else []
 abbrev pub rows_now : ℕ → List Found → List Row
 rows_now n found = flat_map (now_at n) found
 
--- a reason in a place is left out: it is one of a failure that the scope doesn't name, and the network itself gives it, too, word for word
-abbrev pub is_left_out : ℕ → Scope → List Row → Option Failure → Reason → Bool
+-- a reason in a place is left out: it is one of an event that the scope doesn't name, and the network itself gives it, too, word for word
+abbrev pub is_left_out : ℕ → Scope → List Row → Option Cause → Reason → Bool
 is_left_out n scope nows None reason = false
-is_left_out n scope nows (Some failure) reason = not (names_it scope failure) && is_told nows (reason_row n None reason)
+is_left_out n scope nows (Some cause) reason = not (names_it scope cause) && is_told nows (reason_row n None reason)
 
--- those that are left out in a place, with `now` in the place of the failure
+-- those that are left out in a place, with `now` in the place of what failed
 abbrev pub left_out : ℕ → Scope → List Row → Found → List Row
 left_out n scope nows f = reason_rows n None (filter (is_left_out n scope nows f.place) f.reasons)
 
 -- the rows of the others in a place, and of a failure
-abbrev pub kept_rows : ℕ → Scope → List Row → Option Failure → List Reason → List Row
+abbrev pub kept_rows : ℕ → Scope → List Row → Option Cause → List Reason → List Row
 kept_rows n scope nows place reasons = reason_rows n place (filter (λ reason. not (is_left_out n scope nows place reason)) reasons)
 
 abbrev pub others : ℕ → Scope → List Row → Found → List Row

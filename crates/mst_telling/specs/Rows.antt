@@ -12,8 +12,8 @@ use Rattle.mst_rows.specs.Cells as cell
 use Rattle.mst_rows.specs.Rows.{Row, row_of}
 use Rattle.mst_roles.specs.Names.{role_text}
 use Rattle.mst_roles.specs.declared.kind.Role.{Role}
-use Rattle.mst_reasons.specs.sweep.Cuts.{failing}
-use Rattle.mst_reasons.specs.sweep.declared.failure.Failure.{Failure}
+use Rattle.mst_reasons.specs.sweep.Cuts.{cause_cell}
+use Rattle.mst_reasons.specs.sweep.declared.event.Cause.{Cause}
 use Rattle.mst_reasons.specs.Missing as lacking
 use Rattle.mst_reasons.specs.declared.missing.Missing.{Missing}
 use Rattle.mst_reasons.specs.declared.missing.Missing.TheVariants as missed
@@ -34,14 +34,14 @@ abbrev pub nothing_row : Row
 nothing_row = missing_row 0 missed.Failure
 
 -- ---- why a line isn't kept
--- `now`, `lan L` or `bridge B`
-abbrev pub place : Option Failure → Cell
+-- `now`, `lan L`, `bridge B` or `risk NAME`
+abbrev pub place : Option Cause → Cell
 place None = no_failure
-place (Some failure) = failing failure
+place (Some cause) = cause_cell cause
 
 -- `fails N PLACE ..`
-abbrev pub fails_row : VerifyLine → ℕ → Option Failure → List Cell → Row
-fails_row line n failure cells = row_of (kind.Verify line) (number n ∷ place failure ∷ cells)
+abbrev pub fails_row : VerifyLine → ℕ → Option Cause → List Cell → Row
+fails_row line n cause cells = row_of (kind.Verify line) (number n ∷ place cause ∷ cells)
 
 -- a name, or `-`
 abbrev pub name_or_none : Option (List ℕ) → Cell
@@ -105,8 +105,8 @@ limit_cells (why.InternalCost tree bridge cost) = number tree ∷ word bridge �
 limit_cells _ = []
 
 -- a reason, by the number of the line and what failed
-abbrev pub reason_row : ℕ → Option Failure → Reason → Row
-reason_row n failure reason = fails_row (reason_line reason) n failure (reason_cells reason)
+abbrev pub reason_row : ℕ → Option Cause → Reason → Row
+reason_row n cause reason = fails_row (reason_line reason) n cause (reason_cells reason)
 
 -- `same N failures M`
 abbrev pub same_row : ℕ → ℕ → Row
@@ -137,9 +137,9 @@ abbrev pub kind_at : Option ℕ → VerifyLine → Kind
 kind_at None line = kind.Verify line
 kind_at (Some step) line = kind.StepVerify line
 
-abbrev pub front_cells : Option ℕ → ℕ → Option Failure → List Cell
-front_cells None n failure = number n ∷ place failure ∷ []
-front_cells (Some step) n failure = number step ∷ number n ∷ place failure ∷ []
+abbrev pub front_cells : Option ℕ → ℕ → Option Cause → List Cell
+front_cells None n cause = number n ∷ place cause ∷ []
+front_cells (Some step) n cause = number step ∷ number n ∷ place cause ∷ []
 
 -- `start unkept S`, in front of step 1
 abbrev pub start_row : ℕ → Row

@@ -1,20 +1,21 @@
 -- The rows of a policy in front of the steps of a change and behind each.
-use Rattle.std.specs.Prelude.{◌&&◌, ◌==◌, not, Bool, true, false, ℕ, List, [], ◌∷◌, ◌++◌, Result, Ok, Err, count_by, filter, map, nat_lt, if◌then◌else◌}
-use Rattle.std.specs.List.{flat_map, list_any}
+use Rattle.std.specs.Prelude.{◌&&◌, ◌==◌, not, Bool, true, false, ℕ, List, [], ◌∷◌, ◌++◌, Result, count_by, is_some, filter, map, nat_lt, if◌then◌else◌}
+use Rattle.std.specs.List.{flat_map, list_all, list_any}
+use Rattle.std.specs.Option.{option_map_or}
 use Rattle.mst_rows.specs.Rows.{Row}
 use Rattle.mst_graph.specs.Lists.{has_any}
 use Rattle.mst_lang.specs.declared.line.Fault.{Fault}
-use Rattle.mst_policy.specs.declared.expectation.Promise.{Promise}
+use Rattle.mst_policy.specs.Lines.{promise_in, risk_in}
 use Rattle.mst_policy.specs.declared.policy.PolicyLine.{PolicyLine}
+use Rattle.mst_policy.specs.declared.risk.Said.{Said}
 use Rattle.mst_telling.specs.Rows.{behind, is_refusal, mends_row, nothing_row, start_row}
 use Rattle.mst_telling.specs.Texts.{news}
 use Rattle.mst_telling.specs.Told.{unread_rows}
 
 -- ---- in front of all
--- that a policy has no line, and then the rows of those that can't be read
+-- that a policy has no line but those of risks, and then the rows of those that can't be read
 abbrev pub nothing_rows : List PolicyLine → List Row
-nothing_rows [] = nothing_row ∷ []
-nothing_rows (line ∷ lines) = []
+nothing_rows lines = if list_all (λ line. is_some (risk_in line.read)) lines then nothing_row ∷ [] else []
 
 abbrev pub front_rows : List PolicyLine → List Row
 front_rows lines = map (behind 0) (nothing_rows lines ++ flat_map unread_rows lines)
@@ -54,9 +55,8 @@ abbrev pub judged_rows : ℕ → List Change → List Row
 judged_rows step all = map (behind step) (flat_map new_refused all ++ flat_map new_fails all) ++ flat_map (mends step) all
 
 -- a line with `finally` is a promise of the end alone
-abbrev pub is_final : Result Promise Fault → Bool
-is_final (Err fault) = false
-is_final (Ok promise) = promise.is_final
+abbrev pub is_final : Result Said Fault → Bool
+is_final read = option_map_or (λ promise. promise.is_final) (promise_in read) false
 
 -- a step breaks a promise: some line is unkept that wasn't so before, and it isn't one of the end alone, of which nobody knows the step that broke it
 abbrev pub is_broken_by_step : Change → Bool

@@ -28,13 +28,13 @@ pub(crate) fn is_broken(scope: &Scope, n: usize, found: &[Finding]) -> bool
         .any(|finding| is_broken_at(n, finding, counts_now))
 }
 
-/// Whether why the line at a place of the list isn't kept is told: whether it can be read, and isn't kept.
+/// Whether why the line at a place of the list isn't kept is told: whether it promises something, and isn't kept.
 fn is_line_broken(line: &PolicyLine, n: usize, found: &[Finding]) -> bool
     ensures { result ≡ has_any (unkept_by line.now.number line.now.read (line_found n found.now)) }
 {
-    match &line.read {
-        Err(_) => false,
-        Ok(promise) => is_broken(&promise.scope, n, found),
+    match line.promise() {
+        None => false,
+        Some(promise) => is_broken(&promise.scope, n, found),
     }
 }
 

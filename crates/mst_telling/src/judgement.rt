@@ -7,14 +7,14 @@ ghost use Rattle.mst_telling.specs.Steps.{no_rows};
 ghost use Rattle.mst_telling.specs.Told.{found_rows, reason_rows};
 
 use crate::reason::{At, put_reason};
-use mst_reasons::{Failure, Missing, Reason};
+use mst_reasons::{Cause, Missing, Reason};
 use mst_rows::Rows;
 use std::alloc::{AllocError, Global};
 
-/// Why lines of a policy aren't kept in one place: in the network itself, or in that of a failure.
+/// Why lines of a policy aren't kept in one place: in the network itself, or in that of an event, by what that is told by.
 #[derive(Drop)]
 pub struct Finding {
-    pub place: Option<Failure>,
+    pub place: Option<Cause>,
     /// For each line: none where it is kept there, or the place isn't looked at for it.
     pub reasons: Vec<Vec<Reason>>,
 }
@@ -72,7 +72,7 @@ pub(crate) fn one_if(is_so: bool) -> u64
 pub(crate) fn put_reasons<R: Rows>(
     alloc: Global,
     at: At,
-    place: &Option<Failure>,
+    place: &Option<Cause>,
     reasons: &[Reason],
     out: &mut R,
 ) -> Result<(), AllocError>

@@ -1,58 +1,16 @@
-ghost use Rattle.std.specs.Prelude.{◌≡◌, ◌&&◌, ◌||◌, ◌++◌, ◌∷◌, [], map};
+ghost use Rattle.std.specs.Prelude.{◌≡◌, ◌&&◌, ◌++◌, ◌∷◌, [], map};
 ghost use Rattle.std.specs.List.{list_all, list_any};
-ghost use Rattle.mst_policy.specs.Items.{item_has, port_item_has};
+ghost use Rattle.mst_policy.specs.Items.{port_item_has};
 ghost use Rattle.mst_graph.specs.Lists.{has_any};
 ghost use Rattle.mst_roles.specs.forest.InUse.{is_in_use};
-ghost use Rattle.mst_reasons.specs.Missing.{bridges_of, has_failure as has_failure_of, has_one as has_one_of, has_port as has_port_of, have_failures as have_failures_of, is_tree as is_tree_of, lacks_bridge as lacks_bridge_of, lacks_failure as lacks_failure_of, lacks_lan as lacks_lan_of, lacks_port as lacks_port_of, lacks_tree as lacks_tree_of, lans_of, missing as missing_of, next_item, scope_bridges, scope_lans};
-ghost use Rattle.mst_telling.specs.Seen.{seen_bridge_fails, seen_lan_fails};
+ghost use Rattle.mst_reasons.specs.Missing.{bridges_of, has_event as has_event_of, has_port as has_port_of, have_events as have_events_of, is_tree as is_tree_of, lacks_bridge as lacks_bridge_of, lacks_event as lacks_event_of, lacks_lan as lacks_lan_of, lacks_port as lacks_port_of, lacks_tree as lacks_tree_of, lans_of, missing as missing_of, next_item, scope_bridges, scope_lans};
+ghost use Rattle.mst_reasons.specs.Risks.{has_one as has_one_of};
 
 use mst_ids::{Name, Tree};
 use mst_policy::{Expectation, NameItem, PortItem, Promise, Scope};
-use mst_reasons::{Failure, Missing, asks};
+use mst_reasons::{Event, Missing, asks, has_bridge, has_lan, have_bridges, have_lans};
 use mst_roles::Settled;
 use mst_view::{BridgeInView, MemberLan, PortInView, View};
-
-/// Whether an item has the name of one of these bridges.
-fn any_bridge(bridges: &[BridgeInView], item: &NameItem) -> bool
-    ensures { result ≡ list_any (λ b. item_has item.now b.name) bridges.now }
-{
-    bridges.iter().any(|bridge| item.has(&bridge.name))
-}
-
-/// Whether an item is for one of these bridges.
-pub fn has_bridge(bridges: &[BridgeInView], item: &NameItem) -> bool
-    ensures { result ≡ has_one_of (map (λ b. b.name) bridges.now) item.now }
-{
-    any_bridge(bridges, item)
-}
-
-/// Whether each of these items is.
-fn have_bridges(bridges: &[BridgeInView], items: &[NameItem]) -> bool
-    ensures { result ≡ list_all (has_one_of (map (λ b. b.name) bridges.now)) items.now }
-{
-    items.iter().all(|item| has_bridge(bridges, item))
-}
-
-/// Whether an item has the name of one of these LANs.
-fn any_lan(lans: &[MemberLan], item: &NameItem) -> bool
-    ensures { result ≡ list_any (λ l. item_has item.now l.name) lans.now }
-{
-    lans.iter().any(|lan| item.has(&lan.name))
-}
-
-/// Whether an item is for one of these LANs.
-pub fn has_lan(lans: &[MemberLan], item: &NameItem) -> bool
-    ensures { result ≡ has_one_of (map (λ l. l.name) lans.now) item.now }
-{
-    any_lan(lans, item)
-}
-
-/// Whether each of these items is.
-fn have_lans(lans: &[MemberLan], items: &[NameItem]) -> bool
-    ensures { result ≡ list_all (has_one_of (map (λ l. l.name) lans.now)) items.now }
-{
-    items.iter().all(|item| has_lan(lans, item))
-}
 
 /// Whether an item has the name of one of these ports.
 fn any_port(ports: &[PortInView], item: &PortItem) -> bool
@@ -258,87 +216,46 @@ fn lacks_lan(plan: &Settled, promise: &Promise) -> bool
     !are_all_lans(plan.view().member_lans(), promise)
 }
 
-/// Whether a LAN can fail that an item has, and a promise is judged then.
-fn lan_fails(promise: &Promise, item: &NameItem, lan: &MemberLan) -> bool
-    ensures { result ≡ seen_lan_fails promise.now item.now lan.now }
+/// Whether a promise is judged after some event of a name that an item has.
+fn has_event(events: &[Event], promise: &Promise, item: &NameItem) -> bool
+    ensures { result ≡ has_event_of events.now promise.now item.now }
 {
-    lan.is_up && (item.has(&lan.name) && asks(promise, &Failure::Lan(lan.name)))
-}
-
-/// Whether some LAN of these does.
-fn any_lan_fails(lans: &[MemberLan], promise: &Promise, item: &NameItem) -> bool
-    ensures { result ≡ list_any (seen_lan_fails promise.now item.now) lans.now }
-{
-    lans.iter().any(|lan| lan_fails(promise, item, lan))
-}
-
-/// Whether a bridge can fail that an item has, and a promise is judged then.
-fn bridge_fails(promise: &Promise, item: &NameItem, bridge: &BridgeInView) -> bool
-    ensures { result ≡ seen_bridge_fails promise.now item.now bridge.now }
-{
-    bridge.bridge.is_on()
-        && (item.has(&bridge.name) && asks(promise, &Failure::Bridge(bridge.name)))
-}
-
-/// Whether some bridge of these does.
-fn any_bridge_fails(bridges: &[BridgeInView], promise: &Promise, item: &NameItem) -> bool
-    ensures { result ≡ list_any (seen_bridge_fails promise.now item.now) bridges.now }
-{
-    bridges
-        .iter()
-        .any(|bridge| bridge_fails(promise, item, bridge))
-}
-
-/// Whether some LAN or some bridge of these does.
-fn any_fails(
-    lans: &[MemberLan],
-    bridges: &[BridgeInView],
-    promise: &Promise,
-    item: &NameItem,
-) -> bool
-    ensures { result ≡ (list_any (seen_lan_fails promise.now item.now) lans.now || list_any (seen_bridge_fails promise.now item.now) bridges.now) }
-{
-    any_lan_fails(lans, promise, item) || any_bridge_fails(bridges, promise, item)
-}
-
-/// Whether a promise is judged after some failure that an item has.
-pub fn has_failure(plan: &Settled, promise: &Promise, item: &NameItem) -> bool
-    ensures { result ≡ has_failure_of plan.now.net promise.now item.now }
-{
-    plan.known();
-    let view = plan.view();
-    any_fails(view.member_lans(), view.bridges(), promise, item)
+    events.iter().any(|event| item.has(event.cause().name()) && asks(promise, event))
 }
 
 /// Whether each of these items has one.
-fn all_have_failures(plan: &Settled, promise: &Promise, items: &[NameItem]) -> bool
-    ensures { result ≡ list_all (has_failure_of plan.now.net promise.now) items.now }
+fn have_each(events: &[Event], promise: &Promise, items: &[NameItem]) -> bool
+    ensures { result ≡ list_all (has_event_of events.now promise.now) items.now }
 {
-    items.iter().all(|item| has_failure(plan, promise, item))
+    items.iter().all(|item| has_event(events, promise, item))
 }
 
 /// Whether there are items, and each has one.
-fn have_failures(plan: &Settled, promise: &Promise, items: &[NameItem]) -> bool
-    ensures { result ≡ have_failures_of plan.now.net promise.now items.now }
+fn have_events(events: &[Event], promise: &Promise, items: &[NameItem]) -> bool
+    ensures { result ≡ have_events_of events.now promise.now items.now }
 {
-    !items.is_empty() && all_have_failures(plan, promise, items)
+    if items.is_empty() {
+        return false;
+    }
+    have_each(events, promise, items)
 }
 
-/// Whether an item of a promise of what comes after failures has none after which it is judged.
-fn lacks_failure(plan: &Settled, promise: &Promise) -> bool
-    ensures { result ≡ lacks_failure_of plan.now.net promise.now }
+/// Whether an item of a promise of what comes after events has none after which it is judged.
+fn lacks_event(events: &[Event], promise: &Promise) -> bool
+    ensures { result ≡ lacks_event_of events.now promise.now }
 {
     match &promise.scope {
-        Scope::AfterLan(names) => !have_failures(plan, promise, names.as_slice()),
-        Scope::AfterBridge(names) => !have_failures(plan, promise, names.as_slice()),
+        Scope::AfterLan(names) => !have_events(events, promise, names.as_slice()),
+        Scope::AfterBridge(names) => !have_events(events, promise, names.as_slice()),
+        Scope::AfterRisk(names) => !have_events(events, promise, names.as_slice()),
         _ => false,
     }
 }
 
-/// What a promise names and the network hasn't, or that nothing is judged of it there, by the network's plan: that of the least number,
+/// What a promise names and the network hasn't, or that nothing is judged of it there, by the network's plan and its events: that of the least number,
 /// if there is anything. It takes no memory.
-pub fn missing_in(plan: &Settled, promise: &Promise) -> Option<Missing>
-    ensures { result ≡ missing_of plan.now.net promise.now }
+pub fn missing_in(plan: &Settled, events: &[Event], promise: &Promise) -> Option<Missing>
+    ensures { result ≡ missing_of plan.now.net events.now promise.now }
 {
     if lacks_tree(plan, promise) {
         return Some(Missing::Tree);
@@ -352,7 +269,7 @@ pub fn missing_in(plan: &Settled, promise: &Promise) -> Option<Missing>
     if lacks_lan(plan, promise) {
         return Some(Missing::Lan);
     }
-    if lacks_failure(plan, promise) {
+    if lacks_event(events, promise) {
         return Some(Missing::Failure);
     }
     None

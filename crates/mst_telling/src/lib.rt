@@ -18,7 +18,9 @@ mod unkept;
 mod verified;
 
 pub use judgement::{Finding, Judgement};
-pub use lacking::{has_bridge, has_failure, has_lan, has_port, missing_in};
+pub use lacking::{has_port, missing_in};
+pub use mst_reasons::{Hazards, is_whole};
 pub use once::is_looked_at;
+pub use refused::{put_lacking_line, put_unread};
 pub use steps::{breaks, put_front, put_judged, put_start, unkept_count};
 pub use verified::{Verdict, put_verdict};

@@ -9,7 +9,7 @@ use crate::judgement::Finding;
 use crate::reason::{At, put_reason, reason_text};
 use crate::refused::{missing_text, put_missing};
 use crate::texts::Texts;
-use mst_reasons::{Failure, Missing, Reason};
+use mst_reasons::{Cause, Missing, Reason};
 use mst_rows::Rows;
 use std::alloc::{AllocError, Global};
 
@@ -36,7 +36,7 @@ pub(crate) fn put_if_new<R: Rows>(
     alloc: Global,
     is_wanted: bool,
     at: At,
-    place: &Option<Failure>,
+    place: &Option<Cause>,
     reason: &Reason,
     told: &Texts,
     out: &mut R,
@@ -58,7 +58,7 @@ pub(crate) fn put_if_new<R: Rows>(
 pub(crate) fn put_unless<R: Rows>(
     alloc: Global,
     at: At,
-    place: &Option<Failure>,
+    place: &Option<Cause>,
     reasons: &[Reason],
     texts: &Texts,
     out: &mut R,

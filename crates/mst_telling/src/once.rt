@@ -15,7 +15,7 @@ use crate::reason::{At, reason_text};
 use crate::texts::Texts;
 use mst_kinds::{Kind, VerifyLine};
 use mst_policy::{NameItem, NameList, Promise, Scope};
-use mst_reasons::{Failure, Reason, asks, asks_now, has_now};
+use mst_reasons::{Cause, Event, Reason, asks, asks_now, has_now};
 use mst_rows::{Rows, Value, put};
 use std::alloc::{AllocError, Global};
 
@@ -56,39 +56,37 @@ pub(crate) fn tells_once(scope: &Scope) -> bool
         Scope::Now => false,
         Scope::AfterLan(names) => has_open(names),
         Scope::AfterBridge(names) => has_open(names),
+        Scope::AfterRisk(names) => has_open(names),
         Scope::Always => true,
     }
 }
 
 /// Whether a place is looked at for a promise: it is judged there, or what the network itself gives is told once, and that is the place.
-pub fn is_looked_at(has_prior: bool, promise: &Promise, place: &Option<Failure>) -> bool
+pub fn is_looked_at(has_prior: bool, promise: &Promise, place: &Option<Event>) -> bool
     ensures { result ≡ looks_at has_prior promise.now place.now }
 {
     (tells_once(&promise.scope) && place.is_none()) || is_asked(has_prior, promise, place)
 }
 
 /// Whether a promise is judged in a place.
-pub fn is_asked(has_prior: bool, promise: &Promise, place: &Option<Failure>) -> bool
+pub fn is_asked(has_prior: bool, promise: &Promise, place: &Option<Event>) -> bool
     ensures { result ≡ asks_at has_prior promise.now place.now }
 {
     match place {
         None => asks_now(has_prior, promise),
-        Some(failure) => asks(promise, failure),
+        Some(event) => asks(promise, event),
     }
 }
 
 /// Whether a scope has the very name of what failed.
-fn names_it(scope: &Scope, failure: &Failure) -> bool
-    ensures { result ≡ scope_names scope.now failure.now }
+fn names_it(scope: &Scope, cause: &Cause) -> bool
+    ensures { result ≡ scope_names scope.now cause.now }
 {
-    let name = match failure {
-        Failure::Lan(lan) => lan,
-        Failure::Bridge(bridge) => bridge,
-    };
     match scope {
         Scope::Now => false,
-        Scope::AfterLan(names) => names.lists(name),
-        Scope::AfterBridge(names) => names.lists(name),
+        Scope::AfterLan(names) => names.lists(cause.name()),
+        Scope::AfterBridge(names) => names.lists(cause.name()),
+        Scope::AfterRisk(names) => names.lists(cause.name()),
         Scope::Always => false,
     }
 }
@@ -97,7 +95,7 @@ fn names_it(scope: &Scope, failure: &Failure) -> bool
 fn add_reasons(
     alloc: Global,
     number: u64,
-    place: &Option<Failure>,
+    place: &Option<Cause>,
     reasons: &[Reason],
     texts: &mut Texts,
 ) -> Result<(), AllocError>
@@ -172,15 +170,15 @@ impl<'a> Folding<'a> {
 fn is_left_out(
     alloc: Global,
     folding: &Folding,
-    place: &Option<Failure>,
+    place: &Option<Cause>,
     reason: &Reason,
 ) -> Result<bool, AllocError>
     ensures { (nows : List Row) → FoldsBy nows folding.now → IfOk result (λ is. is ≡ is_left folding.now.number folding.now.scope.now nows place.now reason.now) }
 {
     match place {
         None => Ok(false),
-        Some(failure) => {
-            if names_it(folding.scope, failure) {
+        Some(cause) => {
+            if names_it(folding.scope, cause) {
                 return Ok(false);
             }
             let text = reason_text(alloc, folding.number, &None, reason)?;
@@ -189,11 +187,11 @@ fn is_left_out(
     }
 }
 
-/// Adds the line of text of a reason in a place to these, if it is left out, with `now` in the place of the failure. Answers whether it is.
+/// Adds the line of text of a reason in a place to these, if it is left out, with `now` in the place of what failed. Answers whether it is.
 fn add_if_left(
     alloc: Global,
     folding: &Folding,
-    place: &Option<Failure>,
+    place: &Option<Cause>,
     reason: &Reason,
     texts: &mut Texts,
 ) -> Result<bool, AllocError>
@@ -339,7 +337,7 @@ fn put_same<R: Rows>(number: u64, count: u64, out: &mut R) -> Result<(), AllocEr
 fn put_kept<R: Rows>(
     alloc: Global,
     folding: &Folding,
-    place: &Option<Failure>,
+    place: &Option<Cause>,
     reasons: &[Reason],
     out: &mut R,
 ) -> Result<(), AllocError>

@@ -1,6 +1,6 @@
-ghost use Rattle.std.specs.Prelude.{◌≡◌, ◌∷◌, ◌++◌, [], false, List, None, Some, IfOk, OnOk, count_by, length, map};
+ghost use Rattle.std.specs.Prelude.{◌≡◌, ◌∷◌, ◌++◌, [], false, List, IfOk, OnOk, count_by, length, map};
 ghost use Rattle.mst_rows.specs.Rows.{Row, said};
-ghost use Rattle.mst_reasons.specs.Judged.{asks_at};
+ghost use Rattle.mst_reasons.specs.Judged.{asks_at, places};
 ghost use Rattle.mst_telling.specs.Judged.{count_by_read, network_counts};
 ghost use Rattle.mst_telling.specs.Verified.{does_hold, holds_of, judged_count, last_row, promise_of, promises_of, scope_told};
 
@@ -8,27 +8,24 @@ use crate::judgement::Judgement;
 use crate::once::is_asked;
 use mst_kinds::{Kind, VerifyLine};
 use mst_policy::{PolicyLine, Promise, Scope};
-use mst_reasons::{Failure, asks};
+use mst_reasons::{Event, asks};
 use mst_rows::{PromiseScope, PromiseTold, Rows, Value, put};
 use std::alloc::{AllocError, Global};
 
-/// In how many networks a promise is judged: in the network itself, and in those of these failures.
-fn count_asked(promise: &Promise, failures: &[Failure]) -> u64
-    ensures { result ≡ count_by (asks_at false promise.now) (None ∷ map Some failures.now) }
+/// In how many networks a promise is judged: in the network itself, and in those of these events.
+fn count_asked(promise: &Promise, events: &[Event]) -> u64
+    ensures { result ≡ count_by (asks_at false promise.now) (places events.now) }
 {
-    let failed = failures
-        .iter()
-        .filter(|failure| asks(promise, failure))
-        .count() as u64;
+    let failed = events.iter().filter(|event| asks(promise, event)).count() as u64;
     failed + is_asked(false, promise, &None) as u64
 }
 
 /// In how many networks a line is judged.
-fn count_networks(line: &PolicyLine, is_whole: bool, failures: &[Failure]) -> u64
-    ensures { result ≡ count_by_read line.now.read is_whole failures.now }
+fn count_networks(line: &PolicyLine, is_whole: bool, events: &[Event]) -> u64
+    ensures { result ≡ count_by_read line.now.read is_whole events.now }
 {
-    match &line.read {
-        Ok(promise) if is_whole => count_asked(promise, failures),
+    match line.promise() {
+        Some(promise) if is_whole => count_asked(promise, events),
         _ => 0,
     }
 }
@@ -37,15 +34,15 @@ fn count_networks(line: &PolicyLine, is_whole: bool, failures: &[Failure]) -> u6
 pub fn networks(
     alloc: Global,
     lines: &[PolicyLine],
-    failures: &[Failure],
+    events: &[Event],
     judgement: &Judgement,
 ) -> Result<Vec<u64>, AllocError>
-    ensures { IfOk result (λ counts. counts.items ≡ network_counts lines.now failures.now judgement.now) }
+    ensures { IfOk result (λ counts. counts.items ≡ network_counts lines.now events.now judgement.now) }
 {
     let mut counts = Vec::new(alloc);
     for n in 0..lines.len() {
         let is_whole = judgement.lacks(n).is_none();
-        counts.push(count_networks(&lines[n], is_whole, failures))?;
+        counts.push(count_networks(&lines[n], is_whole, events))?;
     }
     Ok(counts)
 }
@@ -58,6 +55,7 @@ fn scope_of(scope: &Scope) -> PromiseScope
         Scope::Now => PromiseScope::Now,
         Scope::AfterLan(_) => PromiseScope::AfterLan,
         Scope::AfterBridge(_) => PromiseScope::AfterBridge,
+        Scope::AfterRisk(_) => PromiseScope::AfterRisk,
         Scope::Always => PromiseScope::Always,
     }
 }
@@ -73,18 +71,18 @@ fn holds(networks: u64, is_unkept: bool) -> Option<bool>
     }
 }
 
-/// Adds what is told of the promise of a line that can be read to these.
+/// Adds what is told of the promise of a line to these, if it is one.
 fn add_promise<'a>(
     line: &'a PolicyLine,
     networks: u64,
     is_unkept: bool,
     promises: &mut Vec<PromiseTold<'a>>,
 ) -> Result<(), AllocError>
-    ensures { OnOk result (map said promises.new.items ≡ map said promises.old.items ++ promise_of line.now line.now.read networks is_unkept) }
+    ensures { OnOk result (map said promises.new.items ≡ map said promises.old.items ++ promise_of line.now networks is_unkept) }
 {
-    match &line.read {
-        Err(_) => Ok(()),
-        Ok(promise) => promises.extend_from_slice(&[PromiseTold {
+    match line.promise() {
+        None => Ok(()),
+        Some(promise) => promises.extend_from_slice(&[PromiseTold {
             line: line.number,
             promise: line.words.as_bytes(),
             scope: scope_of(&promise.scope),
@@ -95,7 +93,7 @@ fn add_promise<'a>(
     }
 }
 
-/// What is told of the promise of each line that can be read.
+/// What is told of the promise of each line that is one.
 pub(crate) fn promises<'a>(
     alloc: Global,
     lines: &'a [PolicyLine],

@@ -7,7 +7,7 @@ ghost use Rattle.mst_telling.specs.Rows.{front_cells, kind_at, limit_cells, name
 
 use mst_ids::{Name, Tree, VidSet};
 use mst_kinds::{Kind, VerifyLine};
-use mst_reasons::{Failure, Parts, Reason, Word};
+use mst_reasons::{Cause, Parts, Reason, Word, cause_value};
 use mst_roles::Role;
 use mst_rows::{Rows, Value, put};
 use std::alloc::{AllocError, Global};
@@ -20,13 +20,12 @@ pub(crate) struct At {
 }
 
 /// What failed, as a value.
-fn place(failure: &Option<Failure>) -> Value<'_>
-    ensures { cell result ≡ place_of failure.now }
+fn place(cause: &Option<Cause>) -> Value<'_>
+    ensures { cell result ≡ place_of cause.now }
 {
-    match failure {
+    match cause {
         None => Value::NoFailure,
-        Some(Failure::Lan(lan)) => Value::FailedLan(lan),
-        Some(Failure::Bridge(bridge)) => Value::FailedBridge(bridge),
+        Some(cause) => cause_value(cause),
     }
 }
 
@@ -229,18 +228,14 @@ fn push_cost<'a>(
 }
 
 /// The values in front of those of a reason: the step, if there is one, the number of the line, and what failed.
-fn front(alloc: Global, at: At, failure: &Option<Failure>) -> Result<Vec<Value<'_>>, AllocError>
-    ensures { IfOk result (λ values. map cell values.items ≡ front_cells at.step at.number failure.now) }
+fn front(alloc: Global, at: At, cause: &Option<Cause>) -> Result<Vec<Value<'_>>, AllocError>
+    ensures { IfOk result (λ values. map cell values.items ≡ front_cells at.step at.number cause.now) }
 {
     match at.step {
-        None => Vec::from_slice(alloc, &[Value::Number(at.number), place(failure)]),
+        None => Vec::from_slice(alloc, &[Value::Number(at.number), place(cause)]),
         Some(step) => Vec::from_slice(
             alloc,
-            &[
-                Value::Number(step),
-                Value::Number(at.number),
-                place(failure),
-            ],
+            &[Value::Number(step), Value::Number(at.number), place(cause)],
         ),
     }
 }
@@ -259,13 +254,13 @@ fn kind_of(step: Option<u64>, line: VerifyLine) -> Kind
 pub(crate) fn put_reason<R: Rows>(
     alloc: Global,
     at: At,
-    failure: &Option<Failure>,
+    cause: &Option<Cause>,
     reason: &Reason,
     out: &mut R,
 ) -> Result<(), AllocError>
-    ensures { (first : R) (rows : List Row) → R.grew first out.old rows → OnOk result (R.grew first out.new (rows ++ row_at at.step (reason_row at.number failure.now reason.now) ∷ [])) }
+    ensures { (first : R) (rows : List Row) → R.grew first out.old rows → OnOk result (R.grew first out.new (rows ++ row_at at.step (reason_row at.number cause.now reason.now) ∷ [])) }
 {
-    let mut values = front(alloc, at, failure)?;
+    let mut values = front(alloc, at, cause)?;
     push_values(reason, &mut values)?;
     out.row(kind_of(at.step, line_of(reason)), values.as_slice())
 }
@@ -274,13 +269,13 @@ pub(crate) fn put_reason<R: Rows>(
 pub(crate) fn reason_text(
     alloc: Global,
     number: u64,
-    failure: &Option<Failure>,
+    cause: &Option<Cause>,
     reason: &Reason,
 ) -> Result<Vec<u8>, AllocError>
-    ensures { IfOk result (λ text. text.items ≡ row_line (reason_row number failure.now reason.now)) }
+    ensures { IfOk result (λ text. text.items ≡ row_line (reason_row number cause.now reason.now)) }
 {
     let mut text = Vec::new(alloc);
     let at = At { step: None, number };
-    put_reason(alloc, at, failure, reason, &mut text)?;
+    put_reason(alloc, at, cause, reason, &mut text)?;
     Ok(text)
 }

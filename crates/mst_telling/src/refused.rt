@@ -83,6 +83,22 @@ pub fn put_unread<R: Rows>(
     }
 }
 
+/// Puts that a line is refused for what it lacks, if it lacks something. Answers whether it does.
+pub fn put_lacking_line<R: Rows>(
+    line: &PolicyLine,
+    missing: Option<Missing>,
+    out: &mut R,
+) -> Result<bool, AllocError>
+    ensures is { IfOk result (λ is_any. is_any ≡ has_any (missing_rows line.now.number missing)) }
+    ensures put { (first : R) (rows : List Row) → R.grew first out.old rows → OnOk result (R.grew first out.new (rows ++ missing_rows line.now.number missing)) }
+{
+    let at = At {
+        step: None,
+        number: line.number,
+    };
+    put_lacking(at, missing, out)
+}
+
 /// The line of text of what a line lacks.
 pub(crate) fn missing_text(
     alloc: Global,

@@ -1,9 +1,10 @@
-ghost use Rattle.std.specs.Prelude.{◌≡◌, ◌++◌, ◌∷◌, [], List, IfOk, OnOk, length, map};
-ghost use Rattle.std.specs.List.{flat_map};
+ghost use Rattle.std.specs.Prelude.{◌≡◌, ◌++◌, ◌∷◌, [], List, IfOk, OnOk, is_some, length, map};
+ghost use Rattle.std.specs.List.{flat_map, list_all};
+ghost use Rattle.mst_policy.specs.Lines.{risk_in};
 ghost use Rattle.mst_rows.specs.Rows.{Row};
 ghost use Rattle.mst_telling.specs.Judged.{change_at, each_from, told_in};
-ghost use Rattle.mst_telling.specs.Rows.{behind, start_row};
-ghost use Rattle.mst_telling.specs.Steps.{breaks as breaks_of, changes, front_rows, is_broken_by_step, is_final as is_final_by, judged_rows, mends, new_fails, new_refused, nothing_rows, start_rows, unkept_count as unkept_in};
+ghost use Rattle.mst_telling.specs.Rows.{behind, nothing_row, start_row};
+ghost use Rattle.mst_telling.specs.Steps.{breaks as breaks_of, changes, front_rows, is_broken_by_step, is_final as is_final_by, judged_rows, mends, new_fails, new_refused, start_rows, unkept_count as unkept_in};
 ghost use Rattle.mst_telling.specs.Told.{unread_rows};
 
 use crate::broken::is_unkept;
@@ -18,25 +19,22 @@ use mst_reasons::Missing;
 use mst_rows::{Rows, Value, put};
 use std::alloc::{AllocError, Global};
 
-/// Puts that a policy has no line, if it has none, and answers how many rows that is.
-fn put_nothing<R: Rows>(lines: &[PolicyLine], out: &mut R) -> Result<u64, AllocError>
-    ensures count { IfOk result (λ count. count ≡ length (nothing_rows lines.now)) }
-    ensures put { (first : R) (rows : List Row) → R.grew first out.old rows → OnOk result (R.grew first out.new (rows ++ map (behind 0) (nothing_rows lines.now))) }
+/// Whether each of these lines is of a risk.
+fn are_of_risks(lines: &[PolicyLine]) -> bool
+    ensures { result ≡ list_all (λ line. is_some (risk_in line.read)) lines.now }
 {
-    match lines {
-        [] => {
-            put_missing(
-                At {
-                    step: Some(0),
-                    number: 0,
-                },
-                Missing::Failure,
-                out,
-            )?;
-            Ok(1)
-        }
-        _ => Ok(0),
-    }
+    lines.iter().all(|line| line.risk().is_some())
+}
+
+/// Puts that a policy has no line but those of risks.
+fn put_nothing<R: Rows>(out: &mut R) -> Result<(), AllocError>
+    ensures { (first : R) (rows : List Row) → R.grew first out.old rows → OnOk result (R.grew first out.new (rows ++ behind 0 nothing_row ∷ [])) }
+{
+    let at = At {
+        step: Some(0),
+        number: 0,
+    };
+    put_missing(at, Missing::Failure, out)
 }
 
 /// Puts the lines that can't be read, and answers how many there are.
@@ -52,15 +50,18 @@ fn put_all_unread<R: Rows>(lines: &[PolicyLine], out: &mut R) -> Result<u64, All
     Ok(count)
 }
 
-/// Puts what is told of a policy in front of all steps: that it has no line, or which of its lines can't be read. Answers how many rows
+/// Puts what is told of a policy in front of all steps: that it has no line but those of risks, or which of its lines can't be read. Answers how many rows
 /// that is. `AllocError`: memory was wanted and refused; some of the rows may have been put.
+#[tactic(auto, using(crate::proofs::Front::none_unread))]
 pub fn put_front<R: Rows>(lines: &[PolicyLine], out: &mut R) -> Result<u64, AllocError>
     ensures count { IfOk result (λ count. count ≡ length (front_rows lines.now)) }
     ensures put { (first : R) (rows : List Row) → R.grew first out.old rows → OnOk result (R.grew first out.new (rows ++ front_rows lines.now)) }
 {
-    let nothing = put_nothing(lines, out)?;
-    let unread = put_all_unread(lines, out)?;
-    Ok(nothing + unread)
+    if are_of_risks(lines) {
+        put_nothing(out)?;
+        return Ok(1);
+    }
+    put_all_unread(lines, out)
 }
 
 /// Puts that a line is refused behind a step, if it is, and the network before doesn't tell so.
@@ -201,9 +202,9 @@ pub fn put_judged<R: Rows>(
 fn is_final(line: &PolicyLine) -> bool
     ensures { result ≡ is_final_by line.now.read }
 {
-    match &line.read {
-        Err(_) => false,
-        Ok(promise) => promise.is_final,
+    match line.promise() {
+        None => false,
+        Some(promise) => promise.is_final,
     }
 }
 

@@ -34,7 +34,7 @@ fn put_promise<R: Rows>(
     }
 }
 
-/// The same, if the line can be read.
+/// The same, if the line promises something.
 pub(crate) fn put_unkept<R: Rows>(
     alloc: Global,
     step: Option<u64>,
@@ -47,9 +47,9 @@ pub(crate) fn put_unkept<R: Rows>(
     ensures { (those : List Row) → AreTexts those texts.now → (first : R) (rows : List Row) → R.grew first out.old rows
         → OnOk result (R.grew first out.new (rows ++ map (row_at step) (news those (unkept_by line.now.number line.now.read (line_found n found.now))))) }
 {
-    match &line.read {
-        Err(_) => Ok(()),
-        Ok(promise) => {
+    match line.promise() {
+        None => Ok(()),
+        Some(promise) => {
             let at = At {
                 step,
                 number: line.number,

@@ -1,10 +1,10 @@
-ghost use Rattle.std.specs.Prelude.{◌≡◌, ◌+◌, ◌≤◌, ◌++◌, List, None, true, IfOk, OnOk, count_by, length, map};
+ghost use Rattle.std.specs.Prelude.{◌≡◌, ◌+◌, ◌≤◌, ◌++◌, List, true, IfOk, OnOk, count_by, length, map};
 ghost use Rattle.mst_reasons.specs.Named.{nothing_before};
 ghost use Rattle.mst_rows.specs.Rows.{Row, said};
 ghost use Rattle.mst_graph.specs.Lists.{has_any};
 ghost use Rattle.mst_tables.specs.Tables.{Net};
 ghost use Rattle.mst_roles.specs.forest.Outcome.{Outcome};
-ghost use Rattle.mst_reasons.specs.sweep.Failures.{failures as failures_of};
+ghost use Rattle.mst_reasons.specs.Risks.{events as events_of};
 ghost use Rattle.mst_telling.specs.Judged.{AreLinesJudged, Puts, counts_of, line_found, refused_at, refused_by, verdicts_by, tells_some};
 ghost use Rattle.mst_telling.specs.Verified.{IsVerified, joined, rows_of_read, verdict_rows, whole_rows};
 
@@ -13,9 +13,9 @@ use crate::judgement::{Finding, Judgement, one_if, put_found};
 use crate::once::{put_once, tells_once};
 use crate::promises::{count_judged, networks, promises, put_last};
 use crate::reason::At;
-use crate::refused::{put_lacking, put_missing, put_unread};
+use crate::refused::{put_lacking_line, put_missing, put_unread};
 use mst_policy::{PolicyLine, Promise};
-use mst_reasons::{Failure, Missing};
+use mst_reasons::{Event, Missing};
 use mst_rows::Rows;
 use std::alloc::{AllocError, Global};
 
@@ -50,13 +50,7 @@ fn put_refused_line<R: Rows>(
 {
     match &line.read {
         Err(_) => put_unread(None, line, out),
-        Ok(_) => {
-            let at = At {
-                step: None,
-                number: line.number,
-            };
-            put_lacking(at, missing, out)
-        }
+        Ok(_) => put_lacking_line(line, missing, out),
     }
 }
 
@@ -116,7 +110,7 @@ fn put_verdict_of<R: Rows>(
     }
 }
 
-/// Puts why a line isn't kept, if it can be read, and answers whether it isn't.
+/// Puts why a line isn't kept, if it promises something, and answers whether it isn't.
 fn put_line<R: Rows>(
     alloc: Global,
     line: &PolicyLine,
@@ -127,9 +121,9 @@ fn put_line<R: Rows>(
     ensures is { IfOk result (λ is_any. is_any ≡ has_any (rows_of_read line.now.number line.now.read (line_found n found.now))) }
     ensures put { (first : R) (rows : List Row) → R.grew first out.old rows → OnOk result (R.grew first out.new (rows ++ rows_of_read line.now.number line.now.read (line_found n found.now))) }
 {
-    match &line.read {
-        Err(_) => Ok(false),
-        Ok(promise) => {
+    match line.promise() {
+        None => Ok(false),
+        Some(promise) => {
             put_verdict_of(alloc, line.number, promise, n, found, out)?;
             Ok(is_broken(&promise.scope, n, found))
         }
@@ -161,20 +155,20 @@ fn count_set(flags: &[bool]) -> u64
     flags.iter().filter(|flag| **flag).count() as u64
 }
 
-/// Puts the rows of a policy of a network, of which these are the failures and this was judged: all refused lines, then why each other one
+/// Puts the rows of a policy of a network, of which these are the events and this was judged: all refused lines, then why each other one
 /// isn't kept, and the last row. `AllocError`: memory was wanted and refused; some of the rows may have been put.
 pub fn put_verdict<R: Rows>(
     alloc: Global,
     lines: &[PolicyLine],
-    failures: &[Failure],
+    events: &[Event],
     judgement: &Judgement,
     out: &mut R,
 ) -> Result<Verdict, AllocError>
-    ensures told { IfOk result (λ verdict. (net : Net) (o : Outcome) → failures.now ≡ failures_of net → AreLinesJudged net o nothing_before true lines.now judgement.now
+    ensures told { IfOk result (λ verdict. (net : Net) (o : Outcome) → events.now ≡ events_of net lines.now → AreLinesJudged net o nothing_before true lines.now judgement.now
         → (rows : List Row) × IsVerified net o lines.now (counts_of verdict) rows × Puts R.grew out.old out.new rows) }
     ensures few { IfOk result (λ verdict. verdict.refused ≤ length lines.now + 1) }
 {
-    let networks = networks(alloc, lines, failures, judgement)?;
+    let networks = networks(alloc, lines, events, judgement)?;
     let counts = networks.as_slice();
     let judged = count_judged(counts);
     let refused = put_refused(lines, judgement, out)?;

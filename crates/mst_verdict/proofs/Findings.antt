@@ -7,14 +7,16 @@ use Rattle.std.proofs.lemmas.List.Elements.{filter-append}
 use Rattle.mst_policy.specs.declared.expectation.Expectation.{Expectation}
 use Rattle.mst_policy.specs.declared.policy.PolicyLine.{PolicyLine}
 use Rattle.mst_graph.specs.Lists.{has_any}
-use Rattle.mst_sweeping.specs.sweep.declared.failure.Failure.{Failure}
+use Rattle.mst_sweeping.specs.sweep.Failures.{Event}
+use Rattle.mst_sweeping.specs.sweep.declared.event.Cause.{Cause}
 use Rattle.mst_sweeping.proofs.sweep_lemmas.SweptParts.{zip_joined}
 use Rattle.mst_verify.specs.tree_judges.judged.reasons.Judged.{places}
 use Rattle.mst_verify.specs.tree_judges.judged.reasons.Placed.{AreReasonsAt}
+use Rattle.mst_verify.specs.tree_judges.judged.reasons.Risks.{events}
 use Rattle.mst_verify.specs.tree_judges.judged.reasons.declared.missing.Missing.{Missing}
 use Rattle.mst_verify.specs.tree_judges.judged.reasons.declared.reason.Reason.{Reason}
 use Rattle.mst_telling.specs.Judged.{AreLinesJudged, IsKeptOf, NoneIsKeptOf, found_at, line_found, line_lacks}
-use Rattle.mst_telling.specs.Told.{Found, IsFoundAt, expected_at, has_reason, is_judged_at, lacked}
+use Rattle.mst_telling.specs.Told.{Found, IsFoundAt, cause_at, expected_at, has_reason, is_judged_at, lacked}
 use Rattle.mst_telling.specs.declared.judgement.Finding.{Finding}
 use Rattle.mst_telling.specs.declared.judgement.Judgement.{Judgement}
 use Rattle.mst_verdict.specs.Verifying.{AreFoundOf, AreLacking, AreReasonsEach, AreReasonsOf, FindsAt, FoundIn, IsFoundOf, Sitting, expected_of, found_of, lacks_in}
@@ -61,16 +63,16 @@ pub line_found_more : (n : ℕ) (old : List Finding) (f : Finding) → line_foun
 line_found_more n old f = ap (filter has_reason) (map-append (found_at n) old (f ∷ [])) ∙ filter-append has_reason (map (found_at n) old) (found_at n f ∷ [])
 
 -- a place where no line has a reason adds nothing
-pub nothing_more : (found : List Found) (place : Option Failure) (reasons : List (List Reason)) (n : ℕ) → slice_index_or reasons n [] ≡ [] → found ≡ found ++ filter has_reason (found_of place reasons n ∷ [])
+pub nothing_more : (found : List Found) (place : Option Cause) (reasons : List (List Reason)) (n : ℕ) → slice_index_or reasons n [] ≡ [] → found ≡ found ++ filter has_reason (found_of place reasons n ∷ [])
 nothing_more found place reasons n e =
     sym (append-nil found) ∙ ap (λ (those : List Reason). found ++ filter has_reason (record { place = place; reasons = those } ∷ [])) (sym e)
 
 module _ (s : Sitting) where
   -- ---- all lines in one place
-  pub finds_by : (lines : List PolicyLine) (place : Option Failure) (reasons : List (List Reason)) (old new : List Finding) → AreReasonsEach s lines place reasons
-      → ((n : ℕ) → line_found n new ≡ line_found n old ++ filter has_reason (found_of place reasons n ∷ [])) → FindsAt s lines place old new
+  pub finds_by : (lines : List PolicyLine) (place : Option Event) (reasons : List (List Reason)) (old new : List Finding) → AreReasonsEach s lines place reasons
+      → ((n : ℕ) → line_found n new ≡ line_found n old ++ filter has_reason (found_of (cause_at place) reasons n ∷ [])) → FindsAt s lines place old new
   finds_by lines place reasons old new are added n line at = record {
-    found = found_of place reasons n;
+    found = found_of (cause_at place) reasons n;
     is = record { at = refl; are = zip_at (λ line those. AreReasonsOf s line place those) lines reasons n line [] are at.below at.is };
     added = added n;
   }
@@ -78,14 +80,14 @@ module _ (s : Sitting) where
   abbrev nothing : List Reason
   nothing = []
 
-  no_reason : (line : PolicyLine) (place : Option Failure) → expected_of s line place ≡ None → AreReasonsOf s line place nothing
+  no_reason : (line : PolicyLine) (place : Option Event) → expected_of s line place ≡ None → AreReasonsOf s line place nothing
   no_reason line place e =
       let same : nothing ≡ nothing = refl in
       subst (λ (expected : Option Expectation). MatchOption expected (nothing ≡ nothing) (λ expectation. AreReasonsAt s.net s.outcome s.prior place expectation nothing)) (sym e) same
 
-  pub finds_none : (lines : List PolicyLine) (place : Option Failure) (found : List Finding) → AllByRecursion (λ line. expected_of s line place ≡ None) lines → FindsAt s lines place found found
+  pub finds_none : (lines : List PolicyLine) (place : Option Event) (found : List Finding) → AllByRecursion (λ line. expected_of s line place ≡ None) lines → FindsAt s lines place found found
   finds_none lines place found none n line at = record {
-    found = record { place = place; reasons = nothing };
+    found = record { place = cause_at place; reasons = nothing };
     is = record { at = refl; are = no_reason line place (all_at (λ line. expected_of s line place ≡ None) lines n line none at.below at.is) };
     added = sym (append-nil (line_found n found));
   }
@@ -94,7 +96,7 @@ module _ (s : Sitting) where
   pub found_none : (lines : List PolicyLine) → FoundIn s lines [] []
   found_none lines n line at = record { all = []; each = tt; are = refl }
 
-  pub found_more : (lines : List PolicyLine) (some : List (Option Failure)) (place : Option Failure) (old new : List Finding) → FoundIn s lines some old → FindsAt s lines place old new → FoundIn s lines (some ++ place ∷ []) new
+  pub found_more : (lines : List PolicyLine) (some : List (Option Event)) (place : Option Event) (old new : List Finding) → FoundIn s lines some old → FindsAt s lines place old new → FoundIn s lines (some ++ place ∷ []) new
   found_more lines some place old new so_far finds n line at =
       let f = finds n line at in
       let x = so_far n line at in
@@ -106,41 +108,41 @@ module _ (s : Sitting) where
 
   -- ---- in all places
   -- what is found of a line that is judged is what is kept of it
-  judged_there : (line : PolicyLine) → is_judged_at s.is_last line ≡ true → (place : Option Failure) (f : Found) → IsFoundOf s line place f → IsFoundAt s.net s.outcome s.prior line place f
+  judged_there : (line : PolicyLine) → is_judged_at s.is_last line ≡ true → (place : Option Event) (f : Found) → IsFoundOf s line place f → IsFoundAt s.net s.outcome s.prior s.events line place f
   judged_there line e place f x = record {
     at = x.at;
     are = subst
-        (λ b. MatchOption (cond b (expected_at s.net (is_some s.prior.before) line place) None) (f.reasons ≡ []) (λ expectation. AreReasonsAt s.net s.outcome s.prior place expectation f.reasons)) e
+        (λ b. MatchOption (cond b (expected_at s.net s.events (is_some s.prior.before) line place) None) (f.reasons ≡ []) (λ expectation. AreReasonsAt s.net s.outcome s.prior place expectation f.reasons)) e
         x.are;
   }
 
   -- and nothing of one that isn't
-  not_there : (line : PolicyLine) → is_judged_at s.is_last line ≡ false → (place : Option Failure) (f : Found) → IsFoundOf s line place f → f.reasons ≡ []
+  not_there : (line : PolicyLine) → is_judged_at s.is_last line ≡ false → (place : Option Event) (f : Found) → IsFoundOf s line place f → f.reasons ≡ []
   not_there line e place f x =
-      subst (λ b. MatchOption (cond b (expected_at s.net (is_some s.prior.before) line place) None) (f.reasons ≡ []) (λ expectation. AreReasonsAt s.net s.outcome s.prior place expectation f.reasons)) e
+      subst (λ b. MatchOption (cond b (expected_at s.net s.events (is_some s.prior.before) line place) None) (f.reasons ≡ []) (λ expectation. AreReasonsAt s.net s.outcome s.prior place expectation f.reasons)) e
       x.are
 
-  none_found : (line : PolicyLine) → is_judged_at s.is_last line ≡ false → (some : List (Option Failure)) (all : List Found) → AllZip (IsFoundOf s line) some all → filter has_reason all ≡ []
+  none_found : (line : PolicyLine) → is_judged_at s.is_last line ≡ false → (some : List (Option Event)) (all : List Found) → AllZip (IsFoundOf s line) some all → filter has_reason all ≡ []
   none_found line e [] [] h = refl
   none_found line e [] (f ∷ all) h = absurd h
   none_found line e (place ∷ some) [] h = absurd h
   none_found line e (place ∷ some) (f ∷ all) h =
       ap (λ (those : List Reason). cond (has_any those) (f ∷ filter has_reason all) (filter has_reason all)) (not_there line e place f h.0) ∙ none_found line e some all h.1
 
-  pub lines_judged : (lines : List PolicyLine) (judgement : Judgement) → AreLacking s.net s.is_last lines judgement.missing.items → FoundIn s lines (places s.net) judgement.found.items
+  pub lines_judged : (lines : List PolicyLine) (judgement : Judgement) → s.events ≡ events s.net lines → AreLacking s.net s.is_last lines judgement.missing.items → FoundIn s lines (places s.events) judgement.found.items
       → AreLinesJudged s.net s.outcome s.prior s.is_last lines judgement
-  lines_judged lines judgement lacking found n line at = by (found n line at) (is_judged_at s.is_last line) refl
+  lines_judged lines judgement those lacking found n line at = by (found n line at) (is_judged_at s.is_last line) refl
     where
-      lacks : line_lacks n judgement ≡ lacks_in s.net s.is_last line
-      lacks = ap (λ (l : List (Option Missing)). slice_index_or l n None) lacking ∙ mapped_at (lacks_in s.net s.is_last) lines n line None at.below at.is
+      lacks : line_lacks n judgement ≡ lacks_in s.net s.events s.is_last line
+      lacks = ap (λ (l : List (Option Missing)). slice_index_or l n None) lacking ∙ mapped_at (lacks_in s.net (events s.net lines) s.is_last) lines n line None at.below at.is ∙ ap (λ events. lacks_in s.net events s.is_last line) (sym those)
 
-      by : AreFoundOf s line (places s.net) (line_found n judgement.found.items) → (b : Bool) → is_judged_at s.is_last line ≡ b
-          → MatchBool b (IsKeptOf s.net s.outcome s.prior n line judgement) (NoneIsKeptOf n judgement)
-      by x true e = record {
-        lacks = lacks ∙ ap (λ b. cond b (lacked s.net line.read) None) e;
-        found = record { all = x.all; each = zip_weaker (IsFoundOf s line) (IsFoundAt s.net s.outcome s.prior line) (judged_there line e) (places s.net) x.all x.each; are = x.are };
-      }
+      by : AreFoundOf s line (places s.events) (line_found n judgement.found.items) → (b : Bool) → is_judged_at s.is_last line ≡ b
+          → MatchBool b (IsKeptOf s.net s.outcome s.prior (events s.net lines) n line judgement) (NoneIsKeptOf n judgement)
+      by x true e = subst (λ events. IsKeptOf s.net s.outcome s.prior events n line judgement) those (record {
+        lacks = lacks ∙ ap (λ b. cond b (lacked s.net s.events line.read) None) e;
+        found = record { all = x.all; each = zip_weaker (IsFoundOf s line) (IsFoundAt s.net s.outcome s.prior s.events line) (judged_there line e) (places s.events) x.all x.each; are = x.are };
+      })
       by x false e = record {
-        lacks = lacks ∙ ap (λ b. cond b (lacked s.net line.read) None) e;
-        found = x.are ∙ none_found line e (places s.net) x.all x.each;
+        lacks = lacks ∙ ap (λ b. cond b (lacked s.net s.events line.read) None) e;
+        found = x.are ∙ none_found line e (places s.events) x.all x.each;
       }

@@ -1,5 +1,5 @@
 -- What lines of a policy expect, and what a failure leaves of what they are judged by.
-use Rattle.std.proofs.Common.{◌≡◌, ℕ, ◌+◌, ◌<◌, Bool, true, false, true≢false, ◌&&◌, cond, not, List, [], ◌∷◌, ◌++◌, length, map, take, get_or, Option, Some, None, is_some, Bor, Result, Ok, Err, refl, sym, ap, subst, ◌∙◌}
+use Rattle.std.proofs.Common.{◌≡◌, ℕ, ◌+◌, ◌<◌, Bool, true, false, true≢false, ◌&&◌, cond, not, List, [], ◌∷◌, ◌++◌, length, map, take, get_or, Option, Some, None, is_none, is_some, Bor, Result, Ok, Err, refl, sym, ap, subst, ◌∙◌}
 use Rattle.std.specs.Prelude.{MatchOption}
 use Rattle.std.specs.List.{AllByRecursion, AllZip, Contains, list_all, list_any}
 use Rattle.std.specs.Option.{option_and_then, option_map}
@@ -10,10 +10,10 @@ use Rattle.mst_lang.specs.declared.line.Edit.{Edit}
 use Rattle.mst_lang.specs.declared.line.Fault.{Fault}
 use Rattle.mst_lang.specs.declared.line.LanChange.TheVariants.{State}
 use Rattle.mst_lang.specs.declared.line.LanState.TheVariants.{Down}
-use Rattle.mst_net.specs.tables.After.{after, lan_with}
+use Rattle.mst_net.specs.tables.After.{change, effect, lan_with}
 use Rattle.mst_net.specs.tables.ByTree.{ByTree, table_in, vlans_in}
-use Rattle.mst_net.specs.tables.Contents.{Contents, Tables, ahead_of}
-use Rattle.mst_net.specs.tables.Tables.{Net, Numbers, BridgeRow}
+use Rattle.mst_net.specs.tables.Contents.{Contents, Tables}
+use Rattle.mst_net.specs.tables.Tables.{Net, Numbers, BridgeRow, LanRow}
 use Rattle.mst_net.proofs.tables_lemmas.Changed.{get_changed}
 use Rattle.mst_net.proofs.tables_lemmas.Keys.{names}
 use Rattle.mst_graph.specs.declared.keys.Numbering.{Numbering}
@@ -29,30 +29,32 @@ use Rattle.mst_policy.specs.declared.expectation.Expectation.{Expectation}
 use Rattle.mst_policy.specs.declared.expectation.Expectation.TheVariants as expect
 use Rattle.mst_policy.specs.declared.expectation.Promise.{Promise}
 use Rattle.mst_policy.specs.declared.item.NameItem.TheVariants.{Is}
+use Rattle.mst_policy.specs.Lines.{promise_in}
 use Rattle.mst_policy.specs.declared.policy.PolicyLine.{PolicyLine}
+use Rattle.mst_policy.specs.declared.risk.Said.{Said}
+use Rattle.mst_policy.specs.declared.risk.Said.TheVariants as says
 use Rattle.mst_sweeping.specs.sweep.vlan.classes.Classes.{AreClasses}
 use Rattle.mst_forest.specs.Forest.{Forest}
 use Rattle.mst_forest.specs.Outcome.{Outcome, IsOutcome}
-use Rattle.mst_forest.specs.Settled.{SettledNet, settled_net}
+use Rattle.mst_forest.specs.Settled.{SettledNet, settled_net, tables_with}
 use Rattle.mst_forest.proofs.Lists.{mapped_twice}
-use Rattle.mst_sweeping.specs.sweep.Failures.{edit_of}
+use Rattle.mst_sweeping.specs.sweep.Failures.{Event, edit_of, failed, lans_failed}
 use Rattle.mst_sweeping.specs.sweep.Left.{AreLeft}
-use Rattle.mst_sweeping.specs.sweep.Pairs.{failed}
 use Rattle.mst_sweeping.specs.sweep.declared.failure.Failure.{Failure}
 use Rattle.mst_sweeping.specs.sweep.declared.failure.Failure.TheVariants.{Lan, Bridge}
 use Rattle.mst_sweeping.proofs.sweep_lemmas.Failed.{are_left}
 use Rattle.mst_sweeping.proofs.sweep_lemmas.SweptParts.{zip_joined}
-use Rattle.mst_verify.specs.tree_judges.judged.reasons.Missing.{has_one, lans_of, missing, scope_lans}
+use Rattle.mst_verify.specs.tree_judges.judged.reasons.Missing.{lans_of, missing, scope_lans}
 use Rattle.mst_verify.specs.tree_judges.judged.reasons.Over.{HasItsLan, is_lan}
 use Rattle.mst_verify.specs.tree_judges.judged.Islands.{IsKeptBefore, IsKeptOf, IsOneOf}
-use Rattle.mst_verify.specs.tree_judges.judged.reasons.Judged.{gone_of}
+use Rattle.mst_verify.specs.tree_judges.judged.reasons.Risks.{events, has_one}
 use Rattle.mst_verify.specs.tree_judges.judged.reasons.Named.{Prior, with_before}
 use Rattle.mst_verify.specs.tree_judges.judged.reasons.Placed.{AreReasonsAfter}
 use Rattle.mst_verify.specs.tree_judges.judged.reasons.declared.missing.Missing.{Missing}
 use Rattle.mst_verify.specs.tree_judges.judged.declared.prior.Prior.{Prior as KeptPrior}
 use Rattle.mst_verify.specs.tree_judges.judged.reasons.declared.reason.Reason.{Reason}
 use Rattle.mst_verify.proofs.JudgedSomewhere.{whole}
-use Rattle.mst_telling.specs.Told.{expected_at, is_due, is_judged_at, judged_of, lacked, looks_at, where_whole}
+use Rattle.mst_telling.specs.Told.{expected_at, is_due, is_judged_at, lacked, lacks_nothing, looks_at, says_due}
 use Rattle.mst_verdict.specs.Verifying.{AreLacking, AreReasonsEach, AreReasonsIf, AreReasonsOf, HaveLans, IsBeforeOf, IsCarriage, IsPrior, IsPriorOf, Sitting, asked_by, expected_by, expected_in, expected_of, lacks_in, plan_outcome, sitting_of}
 use Rattle.mst_verdict.specs.declared.judging.Judging.{Judging}
 use Rattle.mst_sweeping.specs.sweep.vlan.Carried.{ViewWithTrees}
@@ -79,23 +81,30 @@ zip_weaker R S f (x ∷ xs) (y ∷ ys) h = (f x y h.0, zip_weaker R S f xs ys h.
 -- ---- what lines expect
 -- a line is judged by what it lacks
 pub lacks_at : (net : Net) (is_last : Bool) (lines : List PolicyLine) (missing : List (Option Missing)) → AreLacking net is_last lines missing → (n : ℕ) (line : PolicyLine) (d : Option Missing)
-    → n < length lines → line ≡ get_or lines n line → get_or missing n d ≡ lacks_in net is_last line
+    → n < length lines → line ≡ get_or lines n line → get_or missing n d ≡ lacks_in net (events net lines) is_last line
 lacks_at net is_last lines missing are n line d below line_is =
-    ap (λ l. get_or l n d) are ∙ get_or-map (lacks_in net is_last) lines n line d below ∙ ap (lacks_in net is_last) (sym line_is)
+    ap (λ l. get_or l n d) are ∙ get_or-map (lacks_in net (events net lines) is_last) lines n line d below ∙ ap (lacks_in net (events net lines) is_last) (sym line_is)
 
-expected_read : (j : Judging) (net : Net) (read : Result Promise Fault) (place : Option Failure) → asked_by j (cond (is_due j.is_last read) (lacked net read) None) read place
-    ≡ cond (is_due j.is_last read) (option_and_then (λ promise. cond (looks_at (is_some j.prior) promise place) (Some promise.expectation) None) (judged_of net read)) None
-expected_read j net (Err fault) place = refl
-expected_read j net (Ok promise) place = by (is_due j.is_last (Ok promise)) (missing net promise)
+-- what a promise that can be read expects in a place, if the line is judged
+abbrev if_judged : Judging → Net → List Event → Option Event → Result Said Fault → Option Expectation
+if_judged j net events place read =
+    option_and_then (λ promise. cond (looks_at (is_some j.prior) promise place) (Some promise.expectation) None)
+    (option_and_then (λ promise. cond (lacks_nothing net events promise) (Some promise) None) (promise_in read))
+
+expected_read : (j : Judging) (net : Net) (events : List Event) (read : Result Said Fault) (place : Option Event)
+    → option_and_then (λ promise. asked_by j (cond (is_due j.is_last read) (lacked net events read) None) promise place) (promise_in read) ≡ cond (is_due j.is_last read) (if_judged j net events place read) None
+expected_read j net events (Err fault) place = refl
+expected_read j net events (Ok (says.Risk line)) place = refl
+expected_read j net events (Ok (says.Promise promise)) place = by (says_due j.is_last (says.Promise promise)) (missing net events promise)
   where
     by : (due : Bool) (what : Option Missing) → cond (due && (not (is_some (cond due what None)) && looks_at (is_some j.prior) promise place)) (Some promise.expectation) None
-        ≡ cond due (option_and_then (λ (promise : Promise). cond (looks_at (is_some j.prior) promise place) (Some promise.expectation) None) (where_whole promise what)) None
+        ≡ cond due (option_and_then (λ (promise : Promise). cond (looks_at (is_some j.prior) promise place) (Some promise.expectation) None) (cond (is_none what) (Some promise) None)) None
     by false what = refl
     by true None = refl
     by true (Some what) = refl
 
-pub expected_so : (j : Judging) (net : Net) (line : PolicyLine) (lacks : Option Missing) (place : Option Failure) → lacks ≡ lacks_in net j.is_last line → expected_by j line lacks place ≡ expected_in j net line place
-expected_so j net line lacks place e = ap (λ l. asked_by j l line.read place) e ∙ expected_read j net line.read place
+pub expected_so : (j : Judging) (net : Net) (line : PolicyLine) (lacks : Option Missing) (place : Option Event) → lacks ≡ lacks_in net (events net j.lines.now) j.is_last line → expected_by j line lacks place ≡ expected_in j net line place
+expected_so j net line lacks place e = ap (λ l. expected_by j line l place) e ∙ expected_read j net (events net j.lines.now) line.read place
 
 -- ---- the LANs that they name
 none_some : {A : Type 0} (x : A) → None ≡ Some x → ⊥
@@ -140,12 +149,12 @@ has_lan net (expect.Carries lan vids) h = one_there net lan h
 has_lan net (expect.Avoids lan vids) h = one_there net lan h
 has_lan net expect.Fits h = tt
 
-judged_lan : (net : Net) (promise : Promise) → missing net promise ≡ None → HasItsLan net promise.expectation
-judged_lan net promise e =
+judged_lan : (net : Net) (events : List Event) (promise : Promise) → missing net events promise ≡ None → HasItsLan net promise.expectation
+judged_lan net events promise e =
     has_lan net promise.expectation (all_appended (has_one (fin.keys net.lans)) (scope_lans promise.scope) (lans_of promise.expectation)
-    (not_false (list_all (has_one (fin.keys net.lans)) (scope_lans promise.scope ++ lans_of promise.expectation)) (whole net promise e).0))
+    (not_false (list_all (has_one (fin.keys net.lans)) (scope_lans promise.scope ++ lans_of promise.expectation)) (whole net events promise e).0))
 
-pub have_lans : (j : Judging) (net : Net) (place : Option Failure) → HaveLans j net net place
+pub have_lans : (j : Judging) (net : Net) (place : Option Event) → HaveLans j net net place
 have_lans j net place line e h = go (is_judged_at j.is_last line) line.read h
   where
     asked : (promise : Promise) → HasItsLan net promise.expectation → (b : Bool) → cond b (Some promise.expectation) None ≡ Some e → HasItsLan net e
@@ -155,45 +164,50 @@ have_lans j net place line e h = go (is_judged_at j.is_last line) line.read h
         some_same a b k = cc
     asked promise has false k = absurd (none_some e k)
 
-    by : (promise : Promise) (what : Option Missing) → missing net promise ≡ what
-        → option_and_then (λ (promise : Promise). cond (looks_at (is_some j.prior) promise place) (Some promise.expectation) None) (where_whole promise what) ≡ Some e → HasItsLan net e
-    by promise None m k = asked promise (judged_lan net promise m) (looks_at (is_some j.prior) promise place) k
+    by : (promise : Promise) (what : Option Missing) → missing net (events net j.lines.now) promise ≡ what
+        → option_and_then (λ (promise : Promise). cond (looks_at (is_some j.prior) promise place) (Some promise.expectation) None) (cond (is_none what) (Some promise) None) ≡ Some e → HasItsLan net e
+    by promise None m k = asked promise (judged_lan net (events net j.lines.now) promise m) (looks_at (is_some j.prior) promise place) k
     by promise (Some what) m k = absurd (none_some e k)
 
-    go : (due : Bool) (read : Result Promise Fault)
-        → cond due (option_and_then (λ (promise : Promise). cond (looks_at (is_some j.prior) promise place) (Some promise.expectation) None) (judged_of net read)) None ≡ Some e → HasItsLan net e
+    go : (due : Bool) (read : Result Said Fault) → cond due (if_judged j net (events net j.lines.now) place read) None ≡ Some e → HasItsLan net e
     go false read k = absurd (none_some e k)
     go true (Err fault) k = absurd (none_some e k)
-    go true (Ok promise) k = by promise (missing net promise) refl k
+    go true (Ok (says.Risk line)) k = absurd (none_some e k)
+    go true (Ok (says.Promise promise)) k = by promise (missing net (events net j.lines.now) promise) refl k
 
--- a failure takes no LAN away
+-- failures take no LAN away
 some_kept : {A : Type 0} (t : Bool) (f : A → A) (o : Option A) → is_some (cond t (option_map f o) o) ≡ is_some o
 some_kept true f None = refl
 some_kept true f (Some x) = refl
 some_kept false f o = refl
 
-lan_kept : (failure : Failure) (net : Net) (lan : List ℕ) → is_lan (failed (failure ∷ []) net) lan ≡ is_lan net lan
-lan_kept (Lan own) net lan = ap is_some (get_changed names net.lans own (lan_with (State Down)) lan) ∙ some_kept (same_name own lan) (lan_with (State Down)) (fin.get net.lans lan)
-lan_kept (Bridge bridge) net lan = refl
+lans_kept : (failures : List Failure) (lans : fin.FinMap name_cmp LanRow) (lan : List ℕ) → is_some (fin.get (lans_failed failures lans) lan) ≡ is_some (fin.get lans lan)
+lans_kept [] lans lan = refl
+lans_kept (Lan own ∷ others) lans lan =
+    lans_kept others (change lans own (lan_with (State Down))) lan ∙ ap is_some (get_changed names lans own (lan_with (State Down)) lan) ∙ some_kept (same_name own lan) (lan_with (State Down)) (fin.get lans lan)
+lans_kept (Bridge bridge ∷ others) lans lan = lans_kept others lans lan
 
-its_lan_kept : (failure : Failure) (net : Net) (e : Expectation) → HasItsLan net e → HasItsLan (failed (failure ∷ []) net) e
-its_lan_kept failure net (expect.Root tree b next) h = tt
-its_lan_kept failure net (expect.Region bridges) h = tt
-its_lan_kept failure net (expect.Role tree ports roles) h = tt
-its_lan_kept failure net (expect.Reach vids bridges) h = tt
-its_lan_kept failure net (expect.Apart vids bridges others) h = tt
-its_lan_kept failure net (expect.Leaves vids bridges) h = tt
-its_lan_kept failure net (expect.Together vids bridges) h = tt
-its_lan_kept failure net (expect.Leaf tree bridges) h = tt
-its_lan_kept failure net (expect.Depth tree steps) h = tt
-its_lan_kept failure net (expect.Hops vids most bridges) h = tt
-its_lan_kept failure net (expect.Via vids a b c) h = tt
-its_lan_kept failure net (expect.Carries lan vids) h = lan_kept failure net lan ∙ h
-its_lan_kept failure net (expect.Avoids lan vids) h = lan_kept failure net lan ∙ h
-its_lan_kept failure net expect.Fits h = tt
+lan_kept : (failures : List Failure) (net : Net) (lan : List ℕ) → is_lan (failed failures net) lan ≡ is_lan net lan
+lan_kept failures net lan = lans_kept failures net.lans lan
 
-pub have_lans_failed : (j : Judging) (net : Net) (failure : Failure) (place : Option Failure) → HaveLans j net (failed (failure ∷ []) net) place
-have_lans_failed j net failure place line e h = its_lan_kept failure net e (have_lans j net place line e h)
+its_lan_kept : (failures : List Failure) (net : Net) (e : Expectation) → HasItsLan net e → HasItsLan (failed failures net) e
+its_lan_kept failures net (expect.Root tree b next) h = tt
+its_lan_kept failures net (expect.Region bridges) h = tt
+its_lan_kept failures net (expect.Role tree ports roles) h = tt
+its_lan_kept failures net (expect.Reach vids bridges) h = tt
+its_lan_kept failures net (expect.Apart vids bridges others) h = tt
+its_lan_kept failures net (expect.Leaves vids bridges) h = tt
+its_lan_kept failures net (expect.Together vids bridges) h = tt
+its_lan_kept failures net (expect.Leaf tree bridges) h = tt
+its_lan_kept failures net (expect.Depth tree steps) h = tt
+its_lan_kept failures net (expect.Hops vids most bridges) h = tt
+its_lan_kept failures net (expect.Via vids a b c) h = tt
+its_lan_kept failures net (expect.Carries lan vids) h = lan_kept failures net lan ∙ h
+its_lan_kept failures net (expect.Avoids lan vids) h = lan_kept failures net lan ∙ h
+its_lan_kept failures net expect.Fits h = tt
+
+pub have_lans_failed : (j : Judging) (net : Net) (failures : List Failure) (place : Option Event) → HaveLans j net (failed failures net) place
+have_lans_failed j net failures place line e h = its_lan_kept failures net e (have_lans j net place line e h)
 
 -- ---- classes of VIDs
 all_names : {A B : Type 0} (P : B → Type 0) (name : A → B) (xs : List A) → AllByRecursion (λ x. P (name x)) xs → AllByRecursion P (map name xs)
@@ -230,25 +244,26 @@ classes_left a b n k v w of_v of_w left c are =
       classes = are.classes;
     }
 
--- so they are those of a network that failed
-pub classes_stay : (failure : Failure) (a b : Net) (n k : Numbers) (v w : Viewed) → after (edit_of failure) a ≡ Ok b → IsView a n v → IsView b k w → (c : Numbering) → AreClasses v c → AreClasses w c
-classes_stay failure a b n k v w e of_v of_w c are = classes_left a b n k v w of_v of_w (are_left failure a b e) c are
+-- so they are those of the network with some failures
+pub classes_stay : (failures : List Failure) (a : Net) (n k : Numbers) (v w : Viewed) → IsView a n v → IsView (failed failures a) k w → (c : Numbering) → AreClasses v c → AreClasses w c
+classes_stay failures a n k v w of_v of_w c are = classes_left a (failed failures a) n k v w of_v of_w (are_left failures a) c are
 
--- ---- a network with a failure
--- it is what its edit makes of the network
-abbrev pub tables_failed : Failure → Contents → Tables
-tables_failed failure c = record { net = failed (failure ∷ []) c.net; numbers = c.numbers }
+-- ---- a network with failures
+-- it is what their edits make of the network
+abbrev pub tables_failed : List Failure → Contents → Tables
+tables_failed failures c = record { net = failed failures c.net; numbers = c.numbers }
 
-tables_ahead : (failure : Failure) (c : Contents) → ahead_of c (edit_of failure) ≡ tables_failed failure c
-tables_ahead (Lan lan) c = refl
-tables_ahead (Bridge bridge) c = refl
+pub tables_ahead : (failures : List Failure) (c : Contents) → tables_with c (map edit_of failures) ≡ tables_failed failures c
+tables_ahead [] c = refl
+tables_ahead (Lan lan ∷ others) c = tables_ahead others (record c { net = effect (edit_of (Lan lan)) c.net })
+tables_ahead (Bridge bridge ∷ others) c = tables_ahead others (record c { net = effect (edit_of (Bridge bridge)) c.net })
 
-pub failed_ahead : (failure : Failure) (edit : Edit) (c : Contents) → edit ≡ edit_of failure → ahead_of c edit ≡ tables_failed failure c
-failed_ahead failure edit c is = ap (ahead_of c) is ∙ tables_ahead failure c
+pub tables_made : (failures : List Failure) (edits : List Edit) (c : Contents) → edits ≡ map edit_of failures → tables_with c edits ≡ tables_failed failures c
+tables_made failures edits c is = ap (tables_with c) is ∙ tables_ahead failures c
 
 -- and so it is settled
-pub failed_plan : (failure : Failure) (edit : Edit) (c : Contents) → edit ≡ edit_of failure → (v : Viewed) (forest : Forest) (s : SettledNet) → s ≡ settled_net (ahead_of c edit) v forest → s ≡ settled_net (tables_failed failure c) v forest
-failed_plan failure edit c is v forest s e = e ∙ ap (λ t. settled_net t v forest) (failed_ahead failure edit c is)
+pub failed_plan : (failures : List Failure) (edits : List Edit) (c : Contents) → edits ≡ map edit_of failures → (v : Viewed) (forest : Forest) (s : SettledNet) → s ≡ settled_net (tables_with c edits) v forest → s ≡ settled_net (tables_failed failures c) v forest
+failed_plan failures edits c is v forest s e = e ∙ ap (λ t. settled_net t v forest) (tables_made failures edits c is)
 
 -- ---- the network before
 prior_there : (kept : Option (Bor ViewWithTrees)) (before : Option (Net × Outcome)) → IsBeforeOf (option_map (λ c. c.now) kept) before → is_some kept ≡ is_some before
@@ -292,37 +307,37 @@ module _ (j : Judging) (net : Net) (numbers : Numbers) (prior : Prior) (is : IsP
   abbrev s : Sitting
   s = sitting_of net numbers j prior
 
-  same_expected : (line : PolicyLine) (place : Option Failure) → expected_in j net line place ≡ expected_of s line place
-  same_expected line place = ap (λ b. cond (is_judged_at j.is_last line) (expected_at net b line place) None) (prior_there j.prior prior.before is.0)
+  same_expected : (line : PolicyLine) (place : Option Event) → expected_in j net line place ≡ expected_of s line place
+  same_expected line place = ap (λ b. cond (is_judged_at j.is_last line) (expected_at net (events net j.lines.now) b line place) None) (prior_there j.prior prior.before is.0)
 
-  pub none_of : (place : Option Failure) (lines : List PolicyLine) → AllByRecursion (λ line. expected_in j net line place ≡ None) lines → AllByRecursion (λ line. expected_of s line place ≡ None) lines
+  pub none_of : (place : Option Event) (lines : List PolicyLine) → AllByRecursion (λ line. expected_in j net line place ≡ None) lines → AllByRecursion (λ line. expected_of s line place ≡ None) lines
   none_of place [] h = tt
   none_of place (line ∷ lines) h = (sym (same_expected line place) ∙ h.0, none_of place lines h.1)
 
   -- those in the network itself
-  line_now : (line : PolicyLine) (those : List Reason) → AreReasonsIf net s.outcome net None prior (expected_in j net line None) those → AreReasonsOf s line None those
-  line_now line those h = subst (λ (expected : Option Expectation). AreReasonsIf net s.outcome net None prior expected those) (same_expected line None) h
+  line_now : (line : PolicyLine) (those : List Reason) → AreReasonsIf net s.outcome net [] prior (expected_in j net line None) those → AreReasonsOf s line None those
+  line_now line those h = subst (λ (expected : Option Expectation). AreReasonsIf net s.outcome net [] prior expected those) (same_expected line None) h
 
-  pub lines_now : (lines : List PolicyLine) (all : List (List Reason)) → AllZip (λ line those. AreReasonsIf net s.outcome net None prior (expected_in j net line None) those) lines all → AreReasonsEach s lines None all
-  lines_now lines all h = zip_weaker (λ line those. AreReasonsIf net s.outcome net None prior (expected_in j net line None) those) (λ line those. AreReasonsOf s line None those) line_now lines all h
+  pub lines_now : (lines : List PolicyLine) (all : List (List Reason)) → AllZip (λ line those. AreReasonsIf net s.outcome net [] prior (expected_in j net line None) those) lines all → AreReasonsEach s lines None all
+  lines_now lines all h = zip_weaker (λ line those. AreReasonsIf net s.outcome net [] prior (expected_in j net line None) those) (λ line those. AreReasonsOf s line None those) line_now lines all h
 
-  -- and those in the network that a failure makes are those of the line in its place
-  module _ (there : Net) (p : Outcome) (failure : Failure) (e : after (edit_of failure) net ≡ Ok there) (settled : IsOutcome there p) where
+  -- and those in the network with the failures of an event are those of the line in its place
+  module _ (event : Event) (p : Outcome) (settled : IsOutcome (failed event.failures net) p) where
     abbrev Then : PolicyLine → List Reason → Type 0
-    Then line those = AreReasonsIf there p net (gone_of failure) (with_before net s.outcome prior) (expected_in j net line (Some failure)) those
+    Then line those = AreReasonsIf (failed event.failures net) p net event.failures (with_before net s.outcome prior) (expected_in j net line (Some event)) those
 
-    line_after : (line : PolicyLine) (those : List Reason) → Then line those → AreReasonsOf s line (Some failure) those
+    line_after : (line : PolicyLine) (those : List Reason) → Then line those → AreReasonsOf s line (Some event) those
     line_after line those h =
-        by (expected_of s line (Some failure))
-        (subst (λ (expected : Option Expectation). AreReasonsIf there p net (gone_of failure) (with_before net s.outcome prior) expected those) (same_expected line (Some failure)) h)
+        by (expected_of s line (Some event))
+        (subst (λ (expected : Option Expectation). AreReasonsIf (failed event.failures net) p net event.failures (with_before net s.outcome prior) expected those) (same_expected line (Some event)) h)
       where
-        by : (expected : Option Expectation) → AreReasonsIf there p net (gone_of failure) (with_before net s.outcome prior) expected those
-            → MatchOption expected (those ≡ []) (λ expectation. AreReasonsAfter net s.outcome prior failure expectation those)
+        by : (expected : Option Expectation) → AreReasonsIf (failed event.failures net) p net event.failures (with_before net s.outcome prior) expected those
+            → MatchOption expected (those ≡ []) (λ expectation. AreReasonsAfter net s.outcome prior event.failures expectation those)
         by None h = h
-        by (Some expectation) h = record { failed = there; made = e; outcome = p; is_outcome = settled; are = h }
+        by (Some expectation) h = record { outcome = p; is_outcome = settled; are = h }
 
-    pub lines_after : (lines : List PolicyLine) (all : List (List Reason)) → AllZip Then lines all → AreReasonsEach s lines (Some failure) all
-    lines_after lines all h = zip_weaker Then (λ line those. AreReasonsOf s line (Some failure) those) line_after lines all h
+    pub lines_after : (lines : List PolicyLine) (all : List (List Reason)) → AllZip Then lines all → AreReasonsEach s lines (Some event) all
+    lines_after lines all h = zip_weaker Then (λ line those. AreReasonsOf s line (Some event) those) line_after lines all h
 
 pub as_many : (net : Net) (is_last : Bool) (lines : List PolicyLine) (missing : List (Option Missing)) → AreLacking net is_last lines missing → length missing ≡ length lines
-as_many net is_last lines missing are = ap length are ∙ length-map lines (lacks_in net is_last)
+as_many net is_last lines missing are = ap length are ∙ length-map lines (lacks_in net (events net lines) is_last)

@@ -10,7 +10,7 @@ use Rattle.mst_verify.specs.tree_judges.judged.reasons.Reasons.{AreReasons}
 use Rattle.mst_verify.specs.tree_judges.judged.reasons.declared.reason.Reason.{Reason}
 
 pub nothing_back : (net : Net) (o : Outcome) (leaving : Leaving) (e : Expectation) (reasons : List Reason) → looks_back e ≡ true
-    → AreReasons net o net None (record { before = None; leaving = leaving }) e reasons → reasons ≡ []
+    → AreReasons net o net [] (record { before = None; leaving = leaving }) e reasons → reasons ≡ []
 nothing_back net o leaving (expect.Root tree b next) reasons e r = absurd (true≢false (sym e))
 nothing_back net o leaving (expect.Region names) reasons e r = absurd (true≢false (sym e))
 nothing_back net o leaving (expect.Role tree ports roles) reasons e r = absurd (true≢false (sym e))

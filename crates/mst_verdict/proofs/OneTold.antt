@@ -1,23 +1,24 @@
 -- What is told of lines is settled by the network, what is before it, and the lines alone.
-use Rattle.std.proofs.Common.{◌≡◌, ◌∙◌, ◌++◌, ◌∷◌, [], List, map, is_some, Option, Some, None, Ok, refl, sym, ap, subst, inl, inr}
+use Rattle.std.proofs.Common.{◌≡◌, ◌∙◌, ◌++◌, ◌∷◌, [], List, is_some, Option, Some, None, refl, sym, ap, subst}
 use Rattle.std.specs.Prelude.{MatchOption}
 use Rattle.std.specs.List.{AllZip, Contains, filter}
-use Rattle.mst_graph.proofs.Members.{cases, from_map, here, there}
+use Rattle.mst_graph.proofs.Members.{here, there}
 use Rattle.mst_policy.specs.declared.expectation.Expectation.{Expectation}
 use Rattle.mst_policy.specs.declared.policy.PolicyLine.{PolicyLine}
 use Rattle.mst_rows.specs.Rows.{Row}
-use Rattle.mst_net.specs.tables.After.{after}
 use Rattle.mst_net.specs.tables.Tables.{Net, IsNetwork}
 use Rattle.mst_forest.specs.Outcome.{Outcome, IsOutcome}
-use Rattle.mst_sweeping.specs.sweep.Failures.{edit_of, failures}
+use Rattle.mst_sweeping.specs.sweep.Failures.{Event, failed}
 use Rattle.mst_sweeping.specs.sweep.declared.failure.Failure.{Failure}
-use Rattle.mst_verify.specs.tree_judges.judged.reasons.Judged.{gone_of, places}
-use Rattle.mst_verify.specs.tree_judges.judged.reasons.Named.{Gone, OfNetwork, Prior, nothing_before, with_before}
+use Rattle.mst_sweeping.proofs.sweep_lemmas.Together.{failed_network}
+use Rattle.mst_verify.specs.tree_judges.judged.reasons.Judged.{places}
+use Rattle.mst_verify.specs.tree_judges.judged.reasons.Named.{OfNetwork, Prior, nothing_before, with_before}
 use Rattle.mst_verify.specs.tree_judges.judged.reasons.Placed.{AreReasonsAfter, AreReasonsAt}
 use Rattle.mst_verify.specs.tree_judges.judged.reasons.Reasons.{AreReasons, HasOneList}
+use Rattle.mst_verify.specs.tree_judges.judged.reasons.Risks.{events as events_of}
 use Rattle.mst_verify.specs.tree_judges.judged.reasons.declared.reason.Reason.{Reason}
 use Rattle.mst_telling.specs.Lines.{IsLineTold, unkept_by}
-use Rattle.mst_telling.specs.Told.{AreFound, AreLineReasons, Found, IsFoundAt, expected_at, has_reason, lacking_rows}
+use Rattle.mst_telling.specs.Told.{AreFound, AreLineReasons, Found, IsFoundAt, cause_at, expected_at, has_reason, lacking_rows}
 use Rattle.mst_telling.specs.Verified.{Counts, IsVerdict, IsVerified, all_refused, counts_in, joined, judged_in, last_row, promises_in, rows_of_read}
 
 -- ---- lists
@@ -41,111 +42,91 @@ zip_some R (x ∷ xs) some =
     let rest = zip_some R xs (λ w c. some w (there x w xs c)) in
     (first.0 ∷ rest.0, (first.1, rest.1))
 
-no_some : {A : Type 0} (x : A) → None ≡ Some x → ⊥
-no_some x e = absurd (cc)
-
-some_is : {A : Type 0} (x y : A) → Some x ≡ Some y → x ≡ y
-some_is x y e = cc
-
-pub of_place : (net : Net) (failure : Failure) → Contains (places net) (Some failure) → Contains (failures net) failure
-of_place net failure h = elim (cases None (Some failure) (map Some (failures net)) h) [
-  | inl e ↦ absurd (no_some failure e)
-  | inr k ↦ let r = from_map Some (failures net) (Some failure) k in subst (Contains (failures net)) (some_is r.0 failure r.2) r.1
-]
-
--- a failure makes a network
-pub record MakesNet (net : Net) (failure : Failure) : Type 0 where
-  pub failed : Net
-  pub made : after (edit_of failure) net ≡ Ok failed
-  pub is_network : IsNetwork failed
-
-module _ (net : Net) (o : Outcome) (is : IsNetwork net) (are : IsOutcome net o) (makes : (failure : Failure) → Contains (failures net) failure → MakesNet net failure) (prior : Prior) where
+module _ (net : Net) (o : Outcome) (is : IsNetwork net) (are : IsOutcome net o) (prior : Prior) (events : List Event) where
   -- ---- at most one
   module _ (single : (net : Net) (o p : Outcome) → IsNetwork net → IsOutcome net o → IsOutcome net p → o ≡ p)
-      (one : (net : Net) (o : Outcome) (before : Net) (gone : Gone) (prior : Prior) (e : Expectation) → IsNetwork net → IsOutcome net o → HasOneList net o before gone prior e) where
-    after_same : (failure : Failure) → Contains (failures net) failure → (e : Expectation) (reasons others : List Reason) → AreReasonsAfter net o prior failure e reasons → AreReasonsAfter net o prior failure e others → reasons ≡ others
-    after_same failure h e reasons others x y =
-        let m = makes failure h in
-        let first = x.made in
-        let second = y.made in
-        let own = m.made in
-        let made : y.failed ≡ x.failed = cc in
-        let its : m.failed ≡ x.failed = cc in
-        let ok : IsNetwork x.failed = subst IsNetwork its m.is_network in
-        let outcome : y.outcome ≡ x.outcome = single x.failed y.outcome x.outcome ok (subst (λ n. IsOutcome n y.outcome) made y.is_outcome) x.is_outcome in
-        let other : AreReasons x.failed x.outcome net (gone_of failure) (with_before net o prior) e others =
-        subst (λ p. AreReasons x.failed p net (gone_of failure) (with_before net o prior) e others) outcome (subst (λ n. AreReasons n y.outcome net (gone_of failure) (with_before net o prior) e others) made y.are) in
-        one x.failed x.outcome net (gone_of failure) (with_before net o prior) e ok x.is_outcome reasons others x.are other
+      (one : (net : Net) (o : Outcome) (before : Net) (lost : List Failure) (prior : Prior) (e : Expectation) → IsNetwork net → IsOutcome net o → HasOneList net o before lost prior e) where
+    pub after_same : (failures : List Failure) (e : Expectation) (reasons others : List Reason) → AreReasonsAfter net o prior failures e reasons → AreReasonsAfter net o prior failures e others → reasons ≡ others
+    after_same failures e reasons others x y =
+        let new : Net = failed failures net in
+        let ok : IsNetwork new = failed_network failures net is in
+        let outcome : y.outcome ≡ x.outcome = single new y.outcome x.outcome ok y.is_outcome x.is_outcome in
+        let other : AreReasons new x.outcome net failures (with_before net o prior) e others = subst (λ p. AreReasons new p net failures (with_before net o prior) e others) outcome y.are in
+        one new x.outcome net failures (with_before net o prior) e ok x.is_outcome reasons others x.are other
 
-    at_same : (place : Option Failure) → Contains (places net) place → (e : Expectation) (reasons others : List Reason) → AreReasonsAt net o prior place e reasons → AreReasonsAt net o prior place e others → reasons ≡ others
-    at_same None h e reasons others x y = one net o net None prior e is are reasons others x y
-    at_same (Some failure) h e reasons others x y = after_same failure (of_place net failure h) e reasons others x y
+    at_same : (place : Option Event) (e : Expectation) (reasons others : List Reason) → AreReasonsAt net o prior place e reasons → AreReasonsAt net o prior place e others → reasons ≡ others
+    at_same None e reasons others x y = one net o net [] prior e is are reasons others x y
+    at_same (Some event) e reasons others x y = after_same event.failures e reasons others x y
 
     module _ (line : PolicyLine) where
-      reasons_same : (place : Option Failure) → Contains (places net) place → (reasons others : List Reason) → AreLineReasons net o prior line place reasons → AreLineReasons net o prior line place others → reasons ≡ others
-      reasons_same place h reasons others = go (expected_at net (is_some prior.before) line place)
+      reasons_same : (place : Option Event) (reasons others : List Reason) → AreLineReasons net o prior events line place reasons → AreLineReasons net o prior events line place others → reasons ≡ others
+      reasons_same place reasons others = go (expected_at net events (is_some prior.before) line place)
         where
           go : (expected : Option Expectation) → MatchOption expected (reasons ≡ []) (λ e. AreReasonsAt net o prior place e reasons) → MatchOption expected (others ≡ []) (λ e. AreReasonsAt net o prior place e others) → reasons ≡ others
           go None x y = x ∙ sym y
-          go (Some e) x y = at_same place h e reasons others x y
+          go (Some e) x y = at_same place e reasons others x y
 
-      place_same : (place : Option Failure) → Contains (places net) place → (f g : Found) → IsFoundAt net o prior line place f → IsFoundAt net o prior line place g → f ≡ g
+      place_same : (place : Option Event) → Contains (places events) place → (f g : Found) → IsFoundAt net o prior events line place f → IsFoundAt net o prior events line place g → f ≡ g
       place_same place h f g x y =
-          let reasons = reasons_same place h f.reasons g.reasons x.are y.are in
+          let reasons = reasons_same place f.reasons g.reasons x.are y.are in
           λ i. record { place = (x.at ∙ sym y.at) i; reasons = reasons i }
 
-      pub found_same : (found other : List Found) → AreFound net o prior line found → AreFound net o prior line other → found ≡ other
-      found_same found other x y = x.are ∙ ap (filter has_reason) (zip_same (IsFoundAt net o prior line) (places net) x.all y.all place_same x.each y.each) ∙ sym y.are
+      pub found_same : (found other : List Found) → AreFound net o prior events line found → AreFound net o prior events line other → found ≡ other
+      found_same found other x y = x.are ∙ ap (filter has_reason) (zip_same (IsFoundAt net o prior events line) (places events) x.all y.all place_same x.each y.each) ∙ sym y.are
 
-    pub told_same : (line : PolicyLine) (rows other : List Row) → IsLineTold net o prior line rows → IsLineTold net o prior line other → rows ≡ other
-    told_same line rows other x y = x.are ∙ ap (λ found. lacking_rows net line ++ unkept_by line.number line.read found) (found_same line x.found y.found x.are_found y.are_found) ∙ sym y.are
+    pub told_same : (line : PolicyLine) (rows other : List Row) → IsLineTold net o prior events line rows → IsLineTold net o prior events line other → rows ≡ other
+    told_same line rows other x y = x.are ∙ ap (λ found. lacking_rows net events line ++ unkept_by line.number line.read found) (found_same line x.found y.found x.are_found y.are_found) ∙ sym y.are
 
   -- ---- and one at least
   module _ (of : OfNetwork prior) (outcomes : (net : Net) → IsNetwork net → (o : Outcome) × IsOutcome net o)
-      (some : (net : Net) (o : Outcome) (before : Net) (gone : Gone) (prior : Prior) (e : Expectation) → IsNetwork net → IsOutcome net o → OfNetwork prior → (reasons : List Reason) × AreReasons net o before gone prior e reasons) where
-    some_after : (failure : Failure) → Contains (failures net) failure → (e : Expectation) → (reasons : List Reason) × AreReasonsAfter net o prior failure e reasons
-    some_after failure h e =
-        let m = makes failure h in
-        let p = outcomes m.failed m.is_network in
-        let r = some m.failed p.0 net (gone_of failure) (with_before net o prior) e m.is_network p.1 is in
-        (r.0, record { failed = m.failed; made = m.made; outcome = p.0; is_outcome = p.1; are = r.1 })
+      (some : (net : Net) (o : Outcome) (before : Net) (lost : List Failure) (prior : Prior) (e : Expectation) → IsNetwork net → IsOutcome net o → OfNetwork prior → (reasons : List Reason) × AreReasons net o before lost prior e reasons) where
+    some_after : (failures : List Failure) (e : Expectation) → (reasons : List Reason) × AreReasonsAfter net o prior failures e reasons
+    some_after failures e =
+        let new : Net = failed failures net in
+        let ok : IsNetwork new = failed_network failures net is in
+        let p = outcomes new ok in
+        let r = some new p.0 net failures (with_before net o prior) e ok p.1 is in
+        (r.0, record { outcome = p.0; is_outcome = p.1; are = r.1 })
 
-    some_at : (place : Option Failure) → Contains (places net) place → (e : Expectation) → (reasons : List Reason) × AreReasonsAt net o prior place e reasons
-    some_at None h e = some net o net None prior e is are of
-    some_at (Some failure) h e = some_after failure (of_place net failure h) e
+    some_at : (place : Option Event) (e : Expectation) → (reasons : List Reason) × AreReasonsAt net o prior place e reasons
+    some_at None e = some net o net [] prior e is are of
+    some_at (Some event) e = some_after event.failures e
 
     module _ (line : PolicyLine) where
-      some_reasons : (place : Option Failure) → Contains (places net) place → (reasons : List Reason) × AreLineReasons net o prior line place reasons
-      some_reasons place h = go (expected_at net (is_some prior.before) line place)
+      some_reasons : (place : Option Event) → (reasons : List Reason) × AreLineReasons net o prior events line place reasons
+      some_reasons place = go (expected_at net events (is_some prior.before) line place)
         where
           go : (expected : Option Expectation) → (reasons : List Reason) × MatchOption expected (reasons ≡ []) (λ e. AreReasonsAt net o prior place e reasons)
           go None = ([], refl)
-          go (Some e) = some_at place h e
+          go (Some e) = some_at place e
 
-      some_place : (place : Option Failure) → Contains (places net) place → (f : Found) × IsFoundAt net o prior line place f
-      some_place place h = let r = some_reasons place h in (record { place = place; reasons = r.0 }, record { at = refl; are = r.1 })
+      some_place : (place : Option Event) → Contains (places events) place → (f : Found) × IsFoundAt net o prior events line place f
+      some_place place h = let r = some_reasons place in (record { place = cause_at place; reasons = r.0 }, record { at = refl; are = r.1 })
 
-      pub some_found : (found : List Found) × AreFound net o prior line found
-      some_found = let z = zip_some (IsFoundAt net o prior line) (places net) some_place in (filter has_reason z.0, record { all = z.0; each = z.1; are = refl })
+      pub some_found : (found : List Found) × AreFound net o prior events line found
+      some_found = let z = zip_some (IsFoundAt net o prior events line) (places events) some_place in (filter has_reason z.0, record { all = z.0; each = z.1; are = refl })
 
-    pub some_told : (line : PolicyLine) → (rows : List Row) × IsLineTold net o prior line rows
-    some_told line = let f = some_found line in (lacking_rows net line ++ unkept_by line.number line.read f.0, record { found = f.0; are_found = f.1; are = refl })
+    pub some_told : (line : PolicyLine) → (rows : List Row) × IsLineTold net o prior events line rows
+    some_told line = let f = some_found line in (lacking_rows net events line ++ unkept_by line.number line.read f.0, record { found = f.0; are_found = f.1; are = refl })
 
 -- ---- the whole of a network
 module _ (net : Net) (o : Outcome) (lines : List PolicyLine) where
-  pub verified_same : ((line : PolicyLine) (found other : List Found) → AreFound net o nothing_before line found → AreFound net o nothing_before line other → found ≡ other)
+  abbrev those : List Event
+  those = events_of net lines
+
+  pub verified_same : ((line : PolicyLine) (found other : List Found) → AreFound net o nothing_before those line found → AreFound net o nothing_before those line other → found ≡ other)
       → (c d : Counts) (rows other : List Row) → IsVerified net o lines c rows → IsVerified net o lines d other → (c ≡ d) × (rows ≡ other)
   verified_same one c d rows other x y =
       let told : x.told ≡ y.told =
-      zip_same (IsVerdict net o) lines x.told y.told
+      zip_same (IsVerdict net o those) lines x.told y.told
       (λ line _ a b v w. v.are ∙ ap (rows_of_read line.number line.read) (one line v.found w.found v.are_found w.are_found) ∙ sym w.are) x.each y.each in (
         x.counted ∙ ap (counts_in net lines) told ∙ sym y.counted,
         x.are ∙ (λ i. all_refused net lines ++ joined (told i) ++ last_row (judged_in net lines) (promises_in net lines (told i)) ∷ []) ∙ sym y.are,
       )
 
-  pub verified_some : ((line : PolicyLine) → (found : List Found) × AreFound net o nothing_before line found) → (counts : Counts) × (rows : List Row) × IsVerified net o lines counts rows
+  pub verified_some : ((line : PolicyLine) → (found : List Found) × AreFound net o nothing_before those line found) → (counts : Counts) × (rows : List Row) × IsVerified net o lines counts rows
   verified_some some =
-      let z = zip_some (IsVerdict net o) lines (λ line _. let f = some line in (rows_of_read line.number line.read f.0, record { found = f.0; are_found = f.1; are = refl })) in (
+      let z = zip_some (IsVerdict net o those) lines (λ line _. let f = some line in (rows_of_read line.number line.read f.0, record { found = f.0; are_found = f.1; are = refl })) in (
         counts_in net lines z.0,
         all_refused net lines ++ joined z.0 ++ last_row (judged_in net lines) (promises_in net lines z.0) ∷ [],
         record { told = z.0; each = z.1; counted = refl; are = refl },

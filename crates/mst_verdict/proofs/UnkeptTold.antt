@@ -1,32 +1,35 @@
 -- A line that is judged has no rows just where its promise is kept.
-use Rattle.std.proofs.Common.{◌≡◌, ◌↔◌, ◌∙◌, ℕ, append-nil, ◌++◌, ◌∷◌, ◌&&◌, ◌||◌, not, Bool, true, false, true≢false, [], List, cond, map, is_some, Option, Some, None, Ok, Err, Result, refl, sym, ap, subst, inl, inr}
+use Rattle.std.proofs.Common.{◌≡◌, ◌↔◌, ◌∙◌, ℕ, append-nil, ◌++◌, ◌∷◌, ◌&&◌, ◌||◌, not, Bool, true, false, true≢false, [], List, cond, map, is_none, is_some, Option, Some, None, Ok, Err, Result, refl, sym, ap, subst, inl, inr}
 use Rattle.std.specs.Prelude.{MatchOption}
 use Rattle.std.specs.List.{AllZip, Contains, filter, list_any}
-use Rattle.std.specs.Option.{option_and_then}
-use Rattle.mst_graph.proofs.Members.{cases, here, in_map, in_none, there}
+use Rattle.std.specs.Option.{option_and_then, option_map_or}
+use Rattle.mst_graph.proofs.Members.{cases, from_map, here, in_map, in_none, there}
 use Rattle.mst_lang.specs.declared.line.Fault.{Fault}
 use Rattle.mst_policy.specs.Leaving.{Leaving}
 use Rattle.mst_policy.specs.declared.expectation.Expectation.{Expectation}
 use Rattle.mst_policy.specs.declared.expectation.Promise.{Promise}
+use Rattle.mst_policy.specs.Lines.{promise_in}
 use Rattle.mst_policy.specs.declared.policy.PolicyLine.{PolicyLine}
+use Rattle.mst_policy.specs.declared.risk.Said.{Said}
+use Rattle.mst_policy.specs.declared.risk.Said.TheVariants as says
 use Rattle.mst_rows.specs.Rows.{Row}
 use Rattle.mst_graph.specs.Lists.{has_any}
 use Rattle.mst_net.specs.tables.Tables.{Net, IsNetwork}
 use Rattle.mst_forest.specs.Outcome.{Outcome, IsOutcome}
-use Rattle.mst_sweeping.specs.sweep.Failures.{failures}
+use Rattle.mst_sweeping.specs.sweep.Failures.{Event, failed}
 use Rattle.mst_sweeping.specs.sweep.declared.failure.Failure.{Failure}
 use Rattle.mst_verify.specs.tree_judges.judged.reasons.Holds.{Holds}
-use Rattle.mst_verify.specs.tree_judges.judged.reasons.Judged.{HoldsAfter, IsKept, asks_at, asks_now, gone_of, has_now, looks_back, places}
+use Rattle.mst_verify.specs.tree_judges.judged.reasons.Judged.{HoldsAfter, IsKept, asks_at, asks_now, has_now, looks_back, places}
 use Rattle.mst_verify.specs.tree_judges.judged.reasons.Missing.{missing}
-use Rattle.mst_verify.specs.tree_judges.judged.reasons.Named.{Gone, Prior, nothing_before, with_before}
+use Rattle.mst_verify.specs.tree_judges.judged.reasons.Named.{Prior, nothing_before, with_before}
 use Rattle.mst_verify.specs.tree_judges.judged.reasons.Placed.{AreReasonsAfter, AreReasonsAt}
 use Rattle.mst_verify.specs.tree_judges.judged.reasons.Reasons.{AreReasons}
 use Rattle.mst_verify.specs.tree_judges.judged.reasons.declared.missing.Missing.{Missing}
 use Rattle.mst_verify.specs.tree_judges.judged.reasons.declared.reason.Reason.{Reason}
-use Rattle.mst_telling.specs.Lines.{IsLineTold, IsToldWhereUnkept, unkept_by}
-use Rattle.mst_telling.specs.Told.{AreFound, AreLineReasons, Found, IsFoundAt, expected_at, has_reason, is_now, judged, judged_of, lacked, lacking_rows, looks_at, missing_rows, tells_once, where_whole}
+use Rattle.mst_telling.specs.Lines.{IsLineTold, IsToldWhereUnkept, unkept_by, unkept_rows}
+use Rattle.mst_telling.specs.Told.{AreFound, AreLineReasons, Found, IsFoundAt, cause_at, expected_at, has_reason, is_now, judged, lacked, lacking_rows, lacks_nothing, looks_at, missing_rows, tells_once}
 use Rattle.mst_telling.specs.Verified.{IsToldWhereBroken, IsVerdict, is_broken_by, rows_of_read, verdict_rows}
-use Rattle.mst_verdict.proofs.OneTold.{MakesNet, of_place}
+use Rattle.mst_sweeping.proofs.sweep_lemmas.Together.{failed_network}
 use Rattle.mst_telling.proofs.Only.{no_more, nothing_unkept, unkept_some, verdict_some}
 
 -- ---- lists
@@ -86,72 +89,88 @@ first_not false b e k = refl
 first_false : (a b : Bool) → a ≡ false → (a && b) ≡ false
 first_false a b e = ap (λ a. a && b) e
 
-module _ (net : Net) (o : Outcome) (is : IsNetwork net) (are : IsOutcome net o) (makes : (failure : Failure) → Contains (failures net) failure → MakesNet net failure)
+-- a place is the network itself by what it is told by
+now_of : (place : Option Event) → is_now (cause_at place) ≡ is_now place
+now_of None = refl
+now_of (Some event) = refl
+
+no_some : {A : Type 0} (x : A) → None ≡ Some x → ⊥
+no_some x e = absurd (cc)
+
+some_is : {A : Type 0} (x y : A) → Some x ≡ Some y → x ≡ y
+some_is x y e = cc
+
+of_place : (events : List Event) (event : Event) → Contains (places events) (Some event) → Contains events event
+of_place events event h = elim (cases None (Some event) (map Some events) h) [
+  | inl e ↦ absurd (no_some event e)
+  | inr k ↦ let r = from_map Some events (Some event) k in subst (Contains events) (some_is r.0 event r.2) r.1
+]
+
+module _ (net : Net) (o : Outcome) (is : IsNetwork net) (are : IsOutcome net o) (events : List Event)
     (single : (net : Net) (o p : Outcome) → IsNetwork net → IsOutcome net o → IsOutcome net p → o ≡ p)
-    (broken : (net : Net) (o : Outcome) (before : Net) (gone : Gone) (prior : Prior) (e : Expectation) (reasons : List Reason) → IsNetwork net → IsOutcome net o → AreReasons net o before gone prior e reasons → (reasons ≡ []) ↔ Holds net o before gone prior e)
-    (nothing_back : (leaving : Leaving) (e : Expectation) (reasons : List Reason) → looks_back e ≡ true → AreReasons net o net None (record { before = None; leaving = leaving }) e reasons → reasons ≡ []) where
+    (broken : (net : Net) (o : Outcome) (before : Net) (lost : List Failure) (prior : Prior) (e : Expectation) (reasons : List Reason) → IsNetwork net → IsOutcome net o → AreReasons net o before lost prior e reasons → (reasons ≡ []) ↔ Holds net o before lost prior e)
+    (nothing_back : (leaving : Leaving) (e : Expectation) (reasons : List Reason) → looks_back e ≡ true → AreReasons net o net [] (record { before = None; leaving = leaving }) e reasons → reasons ≡ []) where
   -- ---- one place
-  abbrev HoldsAt : Prior → Option Failure → Expectation → Type 0
-  HoldsAt prior None e = Holds net o net None prior e
-  HoldsAt prior (Some failure) e = HoldsAfter net o prior failure e
+  abbrev HoldsAt : Prior → Option Event → Expectation → Type 0
+  HoldsAt prior None e = Holds net o net [] prior e
+  HoldsAt prior (Some event) e = HoldsAfter net o prior event.failures e
 
-  module _ (prior : Prior) (failure : Failure) (h : Contains (failures net) failure) (e : Expectation) (reasons : List Reason) (x : AreReasonsAfter net o prior failure e reasons) where
-    ok : IsNetwork x.failed
-    ok = let m = makes failure h in let own = m.made in let other = x.made in let same : m.failed ≡ x.failed = cc in subst IsNetwork same m.is_network
+  module _ (prior : Prior) (failures : List Failure) (e : Expectation) (reasons : List Reason) (x : AreReasonsAfter net o prior failures e reasons) where
+    abbrev new : Net
+    new = failed failures net
 
-    told_after : (reasons ≡ []) ↔ Holds x.failed x.outcome net (gone_of failure) (with_before net o prior) e
-    told_after = broken x.failed x.outcome net (gone_of failure) (with_before net o prior) e reasons ok x.is_outcome x.are
+    ok : IsNetwork new
+    ok = failed_network failures net is
 
-    holds_after : reasons ≡ [] → HoldsAfter net o prior failure e
-    holds_after none other p made its =
-        let first = x.made in
-        let same : other ≡ x.failed = cc in
-        let outcome : p ≡ x.outcome = single x.failed p x.outcome ok (subst (λ n. IsOutcome n p) same its) x.is_outcome in
-        subst (λ n. Holds n p net (gone_of failure) (with_before net o prior) e) (sym same) (subst (λ q. Holds x.failed q net (gone_of failure) (with_before net o prior) e) (sym outcome) (told_after.0 none))
+    told_after : (reasons ≡ []) ↔ Holds new x.outcome net failures (with_before net o prior) e
+    told_after = broken new x.outcome net failures (with_before net o prior) e reasons ok x.is_outcome x.are
 
-    after_told : HoldsAfter net o prior failure e → reasons ≡ []
-    after_told holds = told_after.1 (holds x.failed x.outcome x.made x.is_outcome)
+    holds_after : reasons ≡ [] → HoldsAfter net o prior failures e
+    holds_after none p its = subst (λ q. Holds new q net failures (with_before net o prior) e) (sym (single new p x.outcome ok its x.is_outcome)) (told_after.0 none)
 
-  told_at : (prior : Prior) (place : Option Failure) → Contains (places net) place → (e : Expectation) (reasons : List Reason) → AreReasonsAt net o prior place e reasons → (reasons ≡ []) ↔ HoldsAt prior place e
-  told_at prior None h e reasons r = broken net o net None prior e reasons is are r
-  told_at prior (Some failure) h e reasons r = (holds_after prior failure (of_place net failure h) e reasons r, after_told prior failure (of_place net failure h) e reasons r)
+    after_told : HoldsAfter net o prior failures e → reasons ≡ []
+    after_told holds = told_after.1 (holds x.outcome x.is_outcome)
+
+  told_at : (prior : Prior) (place : Option Event) (e : Expectation) (reasons : List Reason) → AreReasonsAt net o prior place e reasons → (reasons ≡ []) ↔ HoldsAt prior place e
+  told_at prior None e reasons r = broken net o net [] prior e reasons is are r
+  told_at prior (Some event) e reasons r = (holds_after prior event.failures e reasons r, after_told prior event.failures e reasons r)
 
   -- ---- one line
-  module _ (prior : Prior) (line : PolicyLine) (promise : Promise) (its : judged net line ≡ Some promise) where
-    looked : (place : Option Failure) (b : Bool) → looks_at (is_some prior.before) promise place ≡ b → expected_at net (is_some prior.before) line place ≡ cond b (Some promise.expectation) None
+  module _ (prior : Prior) (line : PolicyLine) (promise : Promise) (its : judged net events line ≡ Some promise) where
+    looked : (place : Option Event) (b : Bool) → looks_at (is_some prior.before) promise place ≡ b → expected_at net events (is_some prior.before) line place ≡ cond b (Some promise.expectation) None
     looked place b e = ap (option_and_then (λ promise. cond (looks_at (is_some prior.before) promise place) (Some promise.expectation) None)) its ∙ ap (λ b. cond b (Some promise.expectation) None) e
 
-    reasons_there : (place : Option Failure) (b : Bool) → looks_at (is_some prior.before) promise place ≡ b → (reasons : List Reason) → AreLineReasons net o prior line place reasons
+    reasons_there : (place : Option Event) (b : Bool) → looks_at (is_some prior.before) promise place ≡ b → (reasons : List Reason) → AreLineReasons net o prior events line place reasons
         → MatchOption (cond b (Some promise.expectation) None) (reasons ≡ []) (λ e. AreReasonsAt net o prior place e reasons)
     reasons_there place b e reasons r = subst (λ expected. MatchOption expected (reasons ≡ []) (λ e. AreReasonsAt net o prior place e reasons)) (looked place b e) r
 
     -- where it is judged, the place is looked at, and it is one that counts
-    asked_looked : (place : Option Failure) → asks_at (is_some prior.before) promise place ≡ true → looks_at (is_some prior.before) promise place ≡ true
+    asked_looked : (place : Option Event) → asks_at (is_some prior.before) promise place ≡ true → looks_at (is_some prior.before) promise place ≡ true
     asked_looked place e = ap (λ b. (tells_once promise.scope && is_now place) || b) e ∙ or_true (tells_once promise.scope && is_now place)
       where
         or_true : (b : Bool) → (b || true) ≡ true
         or_true true = refl
         or_true false = refl
 
-    asked_counts : (place : Option Failure) → asks_at (is_some prior.before) promise place ≡ true → ((not (tells_once promise.scope) || has_now promise.scope) || not (is_now place)) ≡ true
+    asked_counts : (place : Option Event) → asks_at (is_some prior.before) promise place ≡ true → ((not (tells_once promise.scope) || has_now promise.scope) || not (is_now place)) ≡ true
     asked_counts None e = go (not (tells_once promise.scope)) (has_now promise.scope) e
       where
         go : (a b : Bool) → (b && (is_some prior.before || not (looks_back promise.expectation))) ≡ true → ((a || b) || false) ≡ true
         go true b e = refl
         go false true e = refl
         go false false e = e
-    asked_counts (Some failure) e = go (not (tells_once promise.scope) || has_now promise.scope)
+    asked_counts (Some event) e = go (not (tells_once promise.scope) || has_now promise.scope)
       where
         go : (a : Bool) → (a || true) ≡ true
         go true = refl
         go false = refl
 
-    holds_where : (place : Option Failure) → Contains (places net) place → asks_at (is_some prior.before) promise place ≡ true → (f : Found) → IsFoundAt net o prior line place f → (f.reasons ≡ []) ↔ HoldsAt prior place promise.expectation
-    holds_where place h asked f x = told_at prior place h promise.expectation f.reasons (reasons_there place true (asked_looked place asked) f.reasons x.are)
+    holds_where : (place : Option Event) → asks_at (is_some prior.before) promise place ≡ true → (f : Found) → IsFoundAt net o prior events line place f → (f.reasons ≡ []) ↔ HoldsAt prior place promise.expectation
+    holds_where place asked f x = told_at prior place promise.expectation f.reasons (reasons_there place true (asked_looked place asked) f.reasons x.are)
 
     -- a place where it isn't judged tells nothing that counts
     module _ (f : Found) where
-      unlooked : (place : Option Failure) → IsFoundAt net o prior line place f → looks_at (is_some prior.before) promise place ≡ false → has_reason f ≡ false
+      unlooked : (place : Option Event) → IsFoundAt net o prior events line place f → looks_at (is_some prior.before) promise place ≡ false → has_reason f ≡ false
       unlooked place x e = none_there f.reasons (reasons_there place false e f.reasons x.are)
 
       -- what looks back at no network has no reason
@@ -159,7 +178,7 @@ module _ (net : Net) (o : Outcome) (is : IsNetwork net) (are : IsOutcome net o) 
       back None q n r are = nothing_back prior.leaving promise.expectation f.reasons r (subst (λ (p : Option (Net × Outcome)). AreReasonsAt net o (record { before = p; leaving = prior.leaving }) None promise.expectation f.reasons) q are)
       back (Some p) q n r are = absurd (true≢false n)
 
-      looked_now : IsFoundAt net o prior line None f → looks_at (is_some prior.before) promise None ≡ true → asks_now (is_some prior.before) promise ≡ false
+      looked_now : IsFoundAt net o prior events line None f → looks_at (is_some prior.before) promise None ≡ true → asks_now (is_some prior.before) promise ≡ false
           → (has_reason f && ((not (tells_once promise.scope) || has_now promise.scope) || false)) ≡ false
       looked_now x e unasked = go (tells_once promise.scope) (has_now promise.scope) (is_some prior.before) (looks_back promise.expectation) refl refl refl refl
         where
@@ -170,86 +189,86 @@ module _ (net : Net) (o : Outcome) (is : IsNetwork net) (are : IsOutcome net o) 
           go true true true b u v w r = absurd (true≢false (sym (λ i. v i && (w i || not (looks_back promise.expectation))) ∙ unasked))
           go false n p b u v w r = absurd (true≢false (sym e ∙ (λ i. (u i && true) || unasked i)))
 
-      uncounted : (place : Option Failure) → IsFoundAt net o prior line place f → asks_at (is_some prior.before) promise place ≡ false → (has_reason f && ((not (tells_once promise.scope) || has_now promise.scope) || not (is_now place))) ≡ false
+      uncounted : (place : Option Event) → IsFoundAt net o prior events line place f → asks_at (is_some prior.before) promise place ≡ false → (has_reason f && ((not (tells_once promise.scope) || has_now promise.scope) || not (is_now place))) ≡ false
       uncounted place x unasked = go (looks_at (is_some prior.before) promise place) refl
         where
-          at : (place : Option Failure) → IsFoundAt net o prior line place f → asks_at (is_some prior.before) promise place ≡ false → looks_at (is_some prior.before) promise place ≡ true
+          at : (place : Option Event) → IsFoundAt net o prior events line place f → asks_at (is_some prior.before) promise place ≡ false → looks_at (is_some prior.before) promise place ≡ true
               → (has_reason f && ((not (tells_once promise.scope) || has_now promise.scope) || not (is_now place))) ≡ false
           at None x unasked e = looked_now x e unasked
-          at (Some failure) x unasked e = absurd (true≢false (sym e ∙ (λ i. and_false (tells_once promise.scope) i || unasked i)))
+          at (Some event) x unasked e = absurd (true≢false (sym e ∙ (λ i. and_false (tells_once promise.scope) i || unasked i)))
 
           go : (b : Bool) → looks_at (is_some prior.before) promise place ≡ b → (has_reason f && ((not (tells_once promise.scope) || has_now promise.scope) || not (is_now place))) ≡ false
           go true e = at place x unasked e
           go false e = first_false (has_reason f) ((not (tells_once promise.scope) || has_now promise.scope) || not (is_now place)) (unlooked place x e)
 
-    module _ (found : List Found) (x : AreFound net o prior line found) where
+    module _ (found : List Found) (x : AreFound net o prior events line found) where
       any_is : list_any (is_broken_by promise.scope) found ≡ list_any (is_broken_by promise.scope) x.all
       any_is = ap (list_any (is_broken_by promise.scope)) x.are
           ∙ any_kept has_reason (is_broken_by promise.scope) (λ f e. first_false (has_reason f) ((not (tells_once promise.scope) || has_now promise.scope) || not (is_now f.place)) e) x.all
 
-      holds_at : list_any (is_broken_by promise.scope) found ≡ false → (place : Option Failure) → Contains (places net) place → asks_at (is_some prior.before) promise place ≡ true → HoldsAt prior place promise.expectation
+      holds_at : list_any (is_broken_by promise.scope) found ≡ false → (place : Option Event) → Contains (places events) place → asks_at (is_some prior.before) promise place ≡ true → HoldsAt prior place promise.expectation
       holds_at e place h asked =
-          let r = zip_at (IsFoundAt net o prior line) (places net) x.all x.each place h in
+          let r = zip_at (IsFoundAt net o prior events line) (places events) x.all x.each place h in
           let f = r.0 in
           let unbroken : is_broken_by promise.scope f ≡ false = none_has (is_broken_by promise.scope) x.all (sym any_is ∙ e) f r.1 in
-          let counts : ((not (tells_once promise.scope) || has_now promise.scope) || not (is_now f.place)) ≡ true = ap (λ p. (not (tells_once promise.scope) || has_now promise.scope) || not (is_now p)) r.2.at ∙ asked_counts place asked in
+          let counts : ((not (tells_once promise.scope) || has_now promise.scope) || not (is_now f.place)) ≡ true =
+          ap (λ now. (not (tells_once promise.scope) || has_now promise.scope) || not now) (ap is_now r.2.at ∙ now_of place) ∙ asked_counts place asked in
           let none : f.reasons ≡ [] = no_more f.reasons (first_not (has_reason f) ((not (tells_once promise.scope) || has_now promise.scope) || not (is_now f.place)) unbroken counts) in
-          (holds_where place h asked f r.2).0 none
+          (holds_where place asked f r.2).0 none
 
-      kept : list_any (is_broken_by promise.scope) found ≡ false → IsKept net o prior promise
+      kept : list_any (is_broken_by promise.scope) found ≡ false → IsKept net o prior events promise
       kept e = record {
-        now = λ asked. holds_at e None (here None (map Some (failures net))) asked;
-        failed = λ failure h asked. holds_at e (Some failure) (there None (Some failure) (map Some (failures net)) (in_map Some (failures net) failure h)) asked;
+        now = λ asked. holds_at e None (here None (map Some events)) asked;
+        failed = λ event h asked. holds_at e (Some event) (there None (Some event) (map Some events) (in_map Some events event h)) asked;
       }
 
-      asked_holds : IsKept net o prior promise → (place : Option Failure) → Contains (places net) place → asks_at (is_some prior.before) promise place ≡ true → HoldsAt prior place promise.expectation
+      asked_holds : IsKept net o prior events promise → (place : Option Event) → Contains (places events) place → asks_at (is_some prior.before) promise place ≡ true → HoldsAt prior place promise.expectation
       asked_holds keeps None h asked = keeps.now asked
-      asked_holds keeps (Some failure) h asked = keeps.failed failure (of_place net failure h) asked
+      asked_holds keeps (Some event) h asked = keeps.failed event (of_place events event h) asked
 
-      unbroken_at : IsKept net o prior promise → (f : Found) → Contains x.all f → is_broken_by promise.scope f ≡ false
+      unbroken_at : IsKept net o prior events promise → (f : Found) → Contains x.all f → is_broken_by promise.scope f ≡ false
       unbroken_at keeps f h =
-          let r = at_zip (IsFoundAt net o prior line) (places net) x.all x.each f h in
-          ap (λ p. has_reason f && ((not (tells_once promise.scope) || has_now promise.scope) || not (is_now p))) r.2.at ∙ go r.0 r.1 r.2 (asks_at (is_some prior.before) promise r.0) refl
+          let r = at_zip (IsFoundAt net o prior events line) (places events) x.all x.each f h in
+          ap (λ now. has_reason f && ((not (tells_once promise.scope) || has_now promise.scope) || not now)) (ap is_now r.2.at ∙ now_of r.0) ∙ go r.0 r.1 r.2 (asks_at (is_some prior.before) promise r.0) refl
         where
-          go : (place : Option Failure) → Contains (places net) place → IsFoundAt net o prior line place f → (b : Bool) → asks_at (is_some prior.before) promise place ≡ b
+          go : (place : Option Event) → Contains (places events) place → IsFoundAt net o prior events line place f → (b : Bool) → asks_at (is_some prior.before) promise place ≡ b
               → (has_reason f && ((not (tells_once promise.scope) || has_now promise.scope) || not (is_now place))) ≡ false
           go place there at true e =
-              first_false (has_reason f) ((not (tells_once promise.scope) || has_now promise.scope) || not (is_now place)) (none_there f.reasons ((holds_where place there e f at).1 (asked_holds keeps place there e)))
+              first_false (has_reason f) ((not (tells_once promise.scope) || has_now promise.scope) || not (is_now place)) (none_there f.reasons ((holds_where place e f at).1 (asked_holds keeps place there e)))
           go place there at false e = uncounted f place at e
 
-      none_broken : IsKept net o prior promise → list_any (is_broken_by promise.scope) found ≡ false
+      none_broken : IsKept net o prior events promise → list_any (is_broken_by promise.scope) found ≡ false
       none_broken keeps = any_is ∙ has_none (is_broken_by promise.scope) x.all (unbroken_at keeps)
 
   -- the promise of a line that is judged is that which is read
-  read_judged : (read : Result Promise Fault) (promise : Promise) → judged_of net read ≡ Some promise → read ≡ Ok promise
+  read_judged : (read : Result Said Fault) (promise : Promise) → option_and_then (λ promise. cond (lacks_nothing net events promise) (Some promise) None) (promise_in read) ≡ Some promise → promise_in read ≡ Some promise
   read_judged (Err fault) promise e = absurd (cc)
-  read_judged (Ok own) promise e = go (missing net own) e
+  read_judged (Ok (says.Risk line)) promise e = absurd (cc)
+  read_judged (Ok (says.Promise own)) promise e = go (lacks_nothing net events own) e
     where
-      reading : Promise → Result Promise Fault
-      reading p = Ok p
+      go : (whole : Bool) → cond whole (Some own) None ≡ Some promise → Some own ≡ Some promise
+      go true e = e
+      go false e = absurd (cc)
 
-      go : (what : Option Missing) → where_whole own what ≡ Some promise → reading own ≡ reading promise
-      go None e = cc
-      go (Some what) e = absurd (cc)
+  module _ (line : PolicyLine) (rows : List Row) (x : IsVerdict net o events line rows) where
+    rows_any : (promise : Promise) → promise_in line.read ≡ Some promise → has_any rows ≡ list_any (is_broken_by promise.scope) x.found
+    rows_any promise e = ap has_any (x.are ∙ ap (λ said. option_map_or (λ promise. verdict_rows line.number promise x.found) said []) e) ∙ verdict_some line.number promise x.found
 
-  module _ (line : PolicyLine) (rows : List Row) (x : IsVerdict net o line rows) where
-    rows_any : (promise : Promise) → line.read ≡ Ok promise → has_any rows ≡ list_any (is_broken_by promise.scope) x.found
-    rows_any promise e = ap has_any (x.are ∙ ap (λ read. rows_of_read line.number read x.found) e) ∙ verdict_some line.number promise x.found
-
-    pub told_where_unkept : IsToldWhereBroken net o line rows
-    told_where_unkept = go (judged net line) refl
+    pub told_where_unkept : IsToldWhereBroken net o events line rows
+    told_where_unkept = go (judged net events line) refl
       where
-        silent : judged net line ≡ None → (f : Found) → Contains x.are_found.all f → has_reason f ≡ false
+        silent : judged net events line ≡ None → (f : Found) → Contains x.are_found.all f → has_reason f ≡ false
         silent e f h =
-            let r = at_zip (IsFoundAt net o nothing_before line) (places net) x.are_found.all x.are_found.each f h in
-            let none : expected_at net false line r.0 ≡ None = ap (option_and_then (λ promise. cond (looks_at false promise r.0) (Some promise.expectation) None)) e in
+            let r = at_zip (IsFoundAt net o nothing_before events line) (places events) x.are_found.all x.are_found.each f h in
+            let none : expected_at net events false line r.0 ≡ None = ap (option_and_then (λ promise. cond (looks_at false promise r.0) (Some promise.expectation) None)) e in
             none_there f.reasons (subst (λ expected. MatchOption expected (f.reasons ≡ []) (λ e. AreReasonsAt net o nothing_before r.0 e f.reasons)) none r.2.are)
 
-        nothing_read : (read : Result Promise Fault) → rows_of_read line.number read [] ≡ []
+        nothing_read : (read : Result Said Fault) → rows_of_read line.number read [] ≡ []
         nothing_read (Err fault) = refl
-        nothing_read (Ok promise) = no_more (verdict_rows line.number promise []) (verdict_some line.number promise [])
+        nothing_read (Ok (says.Risk line)) = refl
+        nothing_read (Ok (says.Promise promise)) = no_more (verdict_rows line.number promise []) (verdict_some line.number promise [])
 
-        go : (promise : Option Promise) → judged net line ≡ promise → MatchOption promise (rows ≡ []) (λ promise. (rows ≡ []) ↔ IsKept net o nothing_before promise)
+        go : (promise : Option Promise) → judged net events line ≡ promise → MatchOption promise (rows ≡ []) (λ promise. (rows ≡ []) ↔ IsKept net o nothing_before events promise)
         go None e = x.are ∙ ap (rows_of_read line.number line.read) (x.are_found.are ∙ filter_none has_reason x.are_found.all (silent e)) ∙ nothing_read line.read
         go (Some promise) e =
             let read = read_judged line.read promise e in (
@@ -258,35 +277,36 @@ module _ (net : Net) (o : Outcome) (is : IsNetwork net) (are : IsOutcome net o) 
             )
 
   -- ---- a line in one of several networks
-  module _ (prior : Prior) (line : PolicyLine) (rows : List Row) (x : IsLineTold net o prior line rows) where
+  module _ (prior : Prior) (line : PolicyLine) (rows : List Row) (x : IsLineTold net o prior events line rows) where
     -- one that is judged lacks nothing, and its rows are those of its promise
-    lacks_none : (n : ℕ) (read : Result Promise Fault) (promise : Promise) → judged_of net read ≡ Some promise → missing_rows n (lacked net read) ≡ []
+    lacks_none : (n : ℕ) (read : Result Said Fault) (promise : Promise) → option_and_then (λ promise. cond (lacks_nothing net events promise) (Some promise) None) (promise_in read) ≡ Some promise → missing_rows n (lacked net events read) ≡ []
     lacks_none n (Err fault) promise e = refl
-    lacks_none n (Ok own) promise e = by (missing net own) e
+    lacks_none n (Ok (says.Risk line)) promise e = absurd (cc)
+    lacks_none n (Ok (says.Promise own)) promise e = by (missing net events own) e
       where
-        by : (what : Option Missing) → where_whole own what ≡ Some promise → missing_rows n what ≡ []
+        by : (what : Option Missing) → cond (is_none what) (Some own) None ≡ Some promise → missing_rows n what ≡ []
         by None e = refl
         by (Some what) e = absurd (cc)
 
-    told_any : (promise : Promise) → judged net line ≡ Some promise → has_any rows ≡ list_any (is_broken_by promise.scope) x.found
+    told_any : (promise : Promise) → judged net events line ≡ Some promise → has_any rows ≡ list_any (is_broken_by promise.scope) x.found
     told_any promise e =
-        ap has_any (x.are ∙ (λ i. lacks_none line.number line.read promise e i ++ unkept_by line.number (read_judged line.read promise e i) x.found)) ∙ unkept_some line.number promise x.found
+        ap has_any (x.are ∙ (λ i. lacks_none line.number line.read promise e i ++ option_map_or (λ promise. unkept_rows line.number promise x.found) (read_judged line.read promise e i) [])) ∙ unkept_some line.number promise x.found
 
     -- one that isn't judged has no reasons
-    unjudged : judged net line ≡ None → x.found ≡ []
+    unjudged : judged net events line ≡ None → x.found ≡ []
     unjudged e = x.are_found.are ∙ filter_none has_reason x.are_found.all none
       where
         none : (f : Found) → Contains x.are_found.all f → has_reason f ≡ false
         none f h =
-            let r = at_zip (IsFoundAt net o prior line) (places net) x.are_found.all x.are_found.each f h in
-            let expected : expected_at net (is_some prior.before) line r.0 ≡ None = ap (option_and_then (λ promise. cond (looks_at (is_some prior.before) promise r.0) (Some promise.expectation) None)) e in
+            let r = at_zip (IsFoundAt net o prior events line) (places events) x.are_found.all x.are_found.each f h in
+            let expected : expected_at net events (is_some prior.before) line r.0 ≡ None = ap (option_and_then (λ promise. cond (looks_at (is_some prior.before) promise r.0) (Some promise.expectation) None)) e in
             none_there f.reasons (subst (λ expected. MatchOption expected (f.reasons ≡ []) (λ e. AreReasonsAt net o prior r.0 e f.reasons)) expected r.2.are)
 
-    pub line_where_unkept : IsToldWhereUnkept net o prior line rows
-    line_where_unkept = go (judged net line) refl
+    pub line_where_unkept : IsToldWhereUnkept net o prior events line rows
+    line_where_unkept = go (judged net events line) refl
       where
-        go : (promise : Option Promise) → judged net line ≡ promise → MatchOption promise (rows ≡ lacking_rows net line) (λ promise. (rows ≡ []) ↔ IsKept net o prior promise)
-        go None e = x.are ∙ ap (λ found. lacking_rows net line ++ unkept_by line.number line.read found) (unjudged e) ∙ ap (λ more. lacking_rows net line ++ more) (nothing_unkept line.number line.read) ∙ append-nil (lacking_rows net line)
+        go : (promise : Option Promise) → judged net events line ≡ promise → MatchOption promise (rows ≡ lacking_rows net events line) (λ promise. (rows ≡ []) ↔ IsKept net o prior events promise)
+        go None e = x.are ∙ ap (λ found. lacking_rows net events line ++ unkept_by line.number line.read found) (unjudged e) ∙ ap (λ more. lacking_rows net events line ++ more) (nothing_unkept line.number line.read) ∙ append-nil (lacking_rows net events line)
         go (Some promise) e = (
           λ none. kept prior line promise e x.found x.are_found (sym (told_any promise e) ∙ none_there rows none),
           λ keeps. no_more rows (told_any promise e ∙ none_broken prior line promise e x.found x.are_found keeps),

@@ -1,7 +1,6 @@
 ghost use Rattle.std.specs.Prelude.{◌≡◌, ◌++◌, ◌∷◌, [], ℕ, None, Some, IfOk, MatchOption, OnOk, filter, length, map, option_map, ⊤};
 ghost use Rattle.std.specs.List.{AllByRecursion, AllZip, list_any};
 ghost use Rattle.mst_view.specs.Viewed.{IsView};
-ghost use Rattle.mst_net.specs.tables.After.{after};
 ghost use Rattle.mst_net.specs.tables.Tables.{Net};
 ghost use Rattle.mst_graph.specs.Lists.{has_any};
 ghost use Rattle.mst_forest.specs.Outcome.{IsOutcome};
@@ -10,12 +9,13 @@ ghost use Rattle.mst_policy.specs.Leaving.{sets_of};
 ghost use Rattle.mst_policy.specs.declared.expectation.Expectation.{Expectation as ExpectationOf};
 ghost use Rattle.mst_sweeping.specs.plan.Plan.{IsPlan};
 ghost use Rattle.mst_verdict.specs.Verifying.{AreLacking, AreReasonsEach, AreReasonsIf, AreReasonsThere, FindsAt, FoundIn, HaveLans, IsCarriage, IsJudging, IsOpened, IsPrior, Judges, OfSittings, expected_by, expected_in, found_of, is_asked_by, lacks_in, plan_outcome};
-ghost use Rattle.mst_sweeping.specs.sweep.Failures.{edit_of, failures as failures_of};
-ghost use Rattle.mst_sweeping.specs.sweep.Pairs.{failed};
+ghost use Rattle.mst_sweeping.specs.sweep.Failures.{failed};
+ghost use Rattle.mst_policy.specs.declared.risk.Said.TheVariants as says;
 ghost use Rattle.mst_telling.specs.Judged.{AreLinesJudged, line_found, reasons_in, told_in};
-ghost use Rattle.mst_telling.specs.Told.{has_reason, is_due as is_due_of};
+ghost use Rattle.mst_telling.specs.Told.{has_reason, says_due};
 ghost use Rattle.mst_verify.specs.tree_judges.judged.Islands.{AreKept, HasIslandsOf, IsBeside, IsKeptOf};
-ghost use Rattle.mst_verify.specs.tree_judges.judged.reasons.Judged.{gone_of, places};
+ghost use Rattle.mst_verify.specs.tree_judges.judged.reasons.Judged.{places};
+ghost use Rattle.mst_verify.specs.tree_judges.judged.reasons.Risks.{events as events_of, items_lack};
 ghost use Rattle.mst_verify.specs.tree_judges.judged.reasons.sweep.vlan.classes.Classes.{AreInSame};
 ghost use Rattle.mst_verify.specs.tree_judges.judged.reasons.Named.{Prior as PriorOf};
 ghost use Rattle.mst_verify.specs.tree_judges.judged.reasons.Over.{HasItsLan};
@@ -23,11 +23,11 @@ ghost use Rattle.mst_verify.specs.tree_judges.judged.Seen.{IsBefore};
 
 use crate::laws::line_where_unkept;
 use mst_forest::Settled;
-use mst_ids::{Name, Vid, VidSet};
+use mst_ids::{Vid, VidSet};
 use mst_net::Network;
-use mst_policy::{Expectation, Leaving, PolicyLine, Promise};
-use mst_sweeping::{Carriage, Failure, Plan, failures, trees_failed, view, without_failure};
-use mst_telling::{Finding, Judgement, is_looked_at, missing_in};
+use mst_policy::{Expectation, Leaving, PolicyLine, Promise, RiskItems, RiskLine, Said};
+use mst_sweeping::{Carriage, Cause, Event, Plan, edits_of, trees_failed, view, without_failures};
+use mst_telling::{Finding, Hazards, Judgement, is_looked_at, is_whole, missing_in};
 use mst_verify::{Before, Beside, Homes, Judged, Missing, Prior, Reason, reasons};
 use mst_view::View;
 use std::alloc::{AllocError, Global};
@@ -51,18 +51,33 @@ pub(crate) struct Judging<'a> {
 
 /// Whether a promise is judged: one of the last of several networks alone only in that.
 fn is_due(promise: &Promise, is_last: bool) -> bool
-    ensures { result ≡ is_due_of is_last (Ok promise.now) }
+    ensures { result ≡ says_due is_last (says.Promise promise.now) }
 {
     is_last || !promise.is_final
 }
 
 /// What a line that is judged names and the network hasn't, or that nothing is judged of it there.
-fn lacking(plan: &Settled, line: &PolicyLine, is_last: bool) -> Option<Missing>
-    ensures { result ≡ lacks_in plan.now.net is_last line.now }
+fn lacking(plan: &Settled, events: &[Event], line: &PolicyLine, is_last: bool) -> Option<Missing>
+    ensures { result ≡ lacks_in plan.now.net events.now is_last line.now }
 {
     match &line.read {
-        Ok(promise) if is_due(promise, is_last) => missing_in(plan, promise),
+        Ok(Said::Promise(promise)) if is_due(promise, is_last) => missing_in(plan, events, promise),
+        Ok(Said::Risk(risk)) => lacking_items(plan, risk),
         _ => None,
+    }
+}
+
+/// What a line of a risk names and the network hasn't.
+pub(crate) fn lacking_items(plan: &Settled, risk: &RiskLine) -> Option<Missing>
+    ensures { result ≡ items_lack plan.now.net risk.now.items }
+{
+    plan.known();
+    if is_whole(plan.view(), risk) {
+        return None;
+    }
+    match risk.items {
+        RiskItems::Lans(_) => Some(Missing::Lan),
+        RiskItems::Bridges(_) => Some(Missing::Bridge),
     }
 }
 
@@ -70,14 +85,16 @@ fn lacking(plan: &Settled, line: &PolicyLine, is_last: bool) -> Option<Missing>
 fn all_lacking(
     alloc: Global,
     plan: &Settled,
+    events: &[Event],
     lines: &[PolicyLine],
     is_last: bool,
 ) -> Result<Vec<Option<Missing>>, AllocError>
+    requires { events.now ≡ events_of plan.now.net lines.now }
     ensures { IfOk result (λ missing. AreLacking plan.now.net is_last lines.now missing.items) }
 {
     lines
         .iter()
-        .map(|line| lacking(plan, line, is_last))
+        .map(|line| lacking(plan, events, line, is_last))
         .collect(alloc)
 }
 
@@ -86,12 +103,12 @@ fn expected<'a>(
     judging: &Judging,
     line: &'a PolicyLine,
     missing: &Option<Missing>,
-    place: &Option<Failure>,
+    place: &Option<Event>,
 ) -> Option<&'a Expectation>
     ensures { option_map (λ e. e.now) result ≡ expected_by judging.now line.now missing.now place.now }
 {
-    match &line.read {
-        Ok(promise) if is_asked(judging, promise, missing, place) => Some(&promise.expectation),
+    match line.promise() {
+        Some(promise) if is_asked(judging, promise, missing, place) => Some(&promise.expectation),
         _ => None,
     }
 }
@@ -101,7 +118,7 @@ fn is_asked(
     judging: &Judging,
     promise: &Promise,
     missing: &Option<Missing>,
-    place: &Option<Failure>,
+    place: &Option<Event>,
 ) -> bool
     ensures { result ≡ is_asked_by judging.now missing.now promise.now place.now }
 {
@@ -139,8 +156,8 @@ fn every_asked(lines: &[PolicyLine], missing: &[Option<Missing>], is_last: bool)
 {
     let mut vids = VidSet::none();
     for n in 0..lines.len() {
-        match &lines[n].read {
-            Ok(promise) if missing[n].is_none() && is_due(promise, is_last) => {
+        match lines[n].promise() {
+            Some(promise) if missing[n].is_none() && is_due(promise, is_last) => {
                 add_asked(&promise.expectation, &mut vids)
             }
             _ => {}
@@ -150,7 +167,7 @@ fn every_asked(lines: &[PolicyLine], missing: &[Option<Missing>], is_last: bool)
 }
 
 /// The VIDs of whose islands the lines ask for which a place is looked at, if it is for some line.
-fn asked_vids(judging: &Judging, place: &Option<Failure>) -> Option<VidSet>
+fn asked_vids(judging: &Judging, place: &Option<Event>) -> Option<VidSet>
     requires { length judging.now.missing.now ≡ length judging.now.lines.now }
     ensures { result ≡ None → (net : Net) → AreLacking net judging.now.is_last judging.now.lines.now judging.now.missing.now
         → AllByRecursion (λ line. expected_in judging.now net line place.now ≡ None) judging.now.lines.now }
@@ -188,7 +205,7 @@ fn line_reasons(
     alloc: Global,
     judging: &Judging,
     judged: &Judged,
-    place: &Option<Failure>,
+    place: &Option<Event>,
     line: &PolicyLine,
     missing: &Option<Missing>,
 ) -> Result<Vec<Reason>, AllocError>
@@ -197,7 +214,7 @@ fn line_reasons(
     requires prior { MatchOption judged.now.prior ⊤ (IsBeside judged.now.plan.now) }
     requires same { MatchOption judged.now.prior ⊤ (λ prior. AreInSame (sets_of judged.now.leaving.now) prior.classes.now) }
     ensures { IfOk result (λ reasons. (before : Net) (prior : PriorOf) → IsBefore before judged.now.before.now → IsKeptOf prior judged.now.prior judged.now.leaving.now
-        → AreReasonsIf judged.now.plan.now.net (outcome_of judged.now.plan.now) before judged.now.gone prior (expected_by judging.now line.now missing.now place.now) reasons.items) }
+        → AreReasonsIf judged.now.plan.now.net (outcome_of judged.now.plan.now) before judged.now.lost.now prior (expected_by judging.now line.now missing.now place.now) reasons.items) }
 {
     match expected(judging, line, missing, place) {
         None => Ok(Vec::new(alloc)),
@@ -210,7 +227,7 @@ fn judge_place(
     alloc: Global,
     judging: &Judging,
     judged: &Judged,
-    place: &Option<Failure>,
+    place: &Option<Event>,
 ) -> Result<Vec<Vec<Reason>>, AllocError>
     requires kept { AreKept judged.now.plan.now judged.now.before.now judged.now.homes.now }
     requires missing { length judging.now.missing.now ≡ length judging.now.lines.now }
@@ -218,7 +235,7 @@ fn judge_place(
     requires prior { MatchOption judged.now.prior ⊤ (IsBeside judged.now.plan.now) }
     requires same { MatchOption judged.now.prior ⊤ (λ prior. AreInSame (sets_of judged.now.leaving.now) prior.classes.now) }
     ensures { IfOk result (λ all. (net before : Net) (prior : PriorOf) → AreLacking net judging.now.is_last judging.now.lines.now judging.now.missing.now → IsBefore before judged.now.before.now
-        → IsKeptOf prior judged.now.prior judged.now.leaving.now → AreReasonsThere judging.now net judged.now.plan.now before judged.now.gone prior place.now (reasons_in all)) }
+        → IsKeptOf prior judged.now.prior judged.now.leaving.now → AreReasonsThere judging.now net judged.now.plan.now before judged.now.lost.now prior place.now (reasons_in all)) }
 {
     let mut all = Vec::new(alloc);
     for n in 0..judging.lines.len() {
@@ -243,7 +260,7 @@ fn has_some(reasons: &[Vec<Reason>]) -> bool
 
 /// Keeps the reasons of lines in a place behind what was found, if there are some.
 fn add_finding(
-    place: Option<Failure>,
+    place: Option<Cause>,
     reasons: Vec<Vec<Reason>>,
     found: &mut Vec<Finding>,
 ) -> Result<(), AllocError>
@@ -270,13 +287,13 @@ fn judge_now(
     requires before { IsBefore plan.now.net judging.now.before.now }
     requires prior { MatchOption prior ⊤ (IsBeside plan.now) }
     requires same { MatchOption prior ⊤ (λ kept. AreInSame (sets_of judging.now.leaving.now) kept.classes.now) }
-    ensures { IfOk result (λ all. (before : PriorOf) → IsKeptOf before prior.entry judging.now.leaving.now → AreReasonsThere judging.now plan.now.net plan.now plan.now.net None before None (reasons_in all)) }
+    ensures { IfOk result (λ all. (before : PriorOf) → IsKeptOf before prior.entry judging.now.leaving.now → AreReasonsThere judging.now plan.now.net plan.now plan.now.net [] before None (reasons_in all)) }
 {
     let judged = Judged {
         plan,
         before: judging.before,
         homes,
-        gone: None,
+        lost: &[],
         prior,
         leaving: judging.leaving,
     };
@@ -327,36 +344,26 @@ fn find_now(
     }
 }
 
-/// The bridge that a failure takes away.
-fn gone(failure: &Failure) -> Option<Name>
-    ensures { result ≡ gone_of failure.now }
-{
-    match failure {
-        Failure::Lan(_) => None,
-        Failure::Bridge(bridge) => Some(*bridge),
-    }
-}
-
-/// Why each line isn't kept in the network with a failure, by one repair of the trees that stand. The network itself is the one before.
-/// The view, which is that network's, is the other's then.
+/// Why each line isn't kept in the network with the failures of an event, by one repair of the trees that stand. The network itself is the
+/// one before. The view, which is that network's, is the other's then.
 fn reasons_failed(
     alloc: Global,
     network: &Network,
     judging: &Judging,
-    failure: &Failure,
+    event: &Event,
     vids: &VidSet,
     seen: &mut View,
 ) -> Result<Vec<Vec<Reason>>, AllocError>
     requires of { IsPlan network.now.net network.now.numbers judging.now.plan.now }
     requires judging { IsJudging network.now.net network.now.numbers judging.now }
-    requires accepted { after (edit_of failure.now) network.now.net ≡ Ok (failed (failure.now ∷ []) network.now.net) }
     requires seen { IsView network.now.net network.now.numbers seen.old }
-    ensures reasons { IfOk result (λ all. OfSittings network.now.net network.now.numbers judging.now (λ s. AreReasonsEach s judging.now.lines.now (Some failure.now) (reasons_in all))) }
-    ensures seen { OnOk result (IsView (failed (failure.now ∷ []) network.now.net) network.now.numbers seen.new) }
+    ensures reasons { IfOk result (λ all. OfSittings network.now.net network.now.numbers judging.now (λ s. AreReasonsEach s judging.now.lines.now (Some event.now) (reasons_in all))) }
+    ensures seen { OnOk result (IsView (failed event.now.failures network.now.net) network.now.numbers seen.new) }
 {
-    let trees = trees_failed(alloc, network, judging.plan, failure, seen)?;
-    let edit = failure.edit();
-    let plan = Settled::ahead(network, &edit, seen, &trees);
+    let failures = event.failures();
+    let trees = trees_failed(alloc, network, judging.plan, failures, seen)?;
+    let edits = edits_of(alloc, failures)?;
+    let plan = Settled::ahead(network, edits.as_slice(), seen, &trees);
     plan.known();
     let homes = Homes::beside(alloc, judging.carriage, &plan, judging.before, vids)?;
     let prior = Prior::failed(judging.carriage, &plan, judging.before, &homes);
@@ -364,59 +371,56 @@ fn reasons_failed(
         plan: &plan,
         before: judging.before,
         homes: &homes,
-        gone: gone(failure),
+        lost: failures,
         prior: Some(prior),
         leaving: judging.leaving,
     };
-    judge_place(alloc, judging, &judged, &Some(*failure))
+    judge_place(alloc, judging, &judged, &Some(event.copied()))
 }
 
-/// Keeps why lines aren't kept in the network with a failure, if that is looked at for some line. The view is that of the network
-/// itself, and stays so: it is renewed for the failure, and then back.
+/// Keeps why lines aren't kept in the network with the failures of an event, if that is looked at for some line. The view is that of the
+/// network itself, and stays so: it is renewed for the failures, and then back.
 fn find_after(
     alloc: Global,
     network: &Network,
     judging: &Judging,
-    failure: &Failure,
+    event: &Event,
     seen: &mut View,
     found: &mut Vec<Finding>,
 ) -> Result<(), AllocError>
     requires of { IsPlan network.now.net network.now.numbers judging.now.plan.now }
     requires judging { IsJudging network.now.net network.now.numbers judging.now }
-    requires accepted { after (edit_of failure.now) network.now.net ≡ Ok (failed (failure.now ∷ []) network.now.net) }
     requires seen { IsView network.now.net network.now.numbers seen.old }
-    ensures found { OnOk result (OfSittings network.now.net network.now.numbers judging.now (λ s. FindsAt s judging.now.lines.now (Some failure.now) found.old.items found.new.items)) }
+    ensures found { OnOk result (OfSittings network.now.net network.now.numbers judging.now (λ s. FindsAt s judging.now.lines.now (Some event.now) found.old.items found.new.items)) }
     ensures seen { OnOk result (IsView network.now.net network.now.numbers seen.new) }
 {
-    let place = Some(*failure);
-    match asked_vids(judging, &place) {
+    match asked_vids(judging, &Some(event.copied())) {
         None => Ok(()),
         Some(vids) => {
-            let reasons = reasons_failed(alloc, network, judging, failure, &vids, seen)?;
-            without_failure(alloc, network, failure, seen)?;
-            add_finding(place, reasons, found)
+            let reasons = reasons_failed(alloc, network, judging, event, &vids, seen)?;
+            without_failures(alloc, network, event.failures(), seen)?;
+            add_finding(Some(*event.cause()), reasons, found)
         }
     }
 }
 
-/// Why lines aren't kept, place by place: in the network itself, and then in that with each failure, in their order. A failure that no
+/// Why lines aren't kept, place by place: in the network itself, and then in that of each event, in their order. An event that no
 /// line asks for isn't looked at, and each other one is once, for all lines.
 fn find_all(
     alloc: Global,
     network: &Network,
     judging: &Judging,
-    failures: &[Failure],
+    events: &[Event],
 ) -> Result<Vec<Finding>, AllocError>
     requires of { IsPlan network.now.net network.now.numbers judging.now.plan.now }
     requires judging { IsJudging network.now.net network.now.numbers judging.now }
-    requires failures { failures.now ≡ failures_of network.now.net }
-    ensures { IfOk result (λ found. OfSittings network.now.net network.now.numbers judging.now (λ s. FoundIn s judging.now.lines.now (places network.now.net) found.items)) }
+    ensures { IfOk result (λ found. OfSittings network.now.net network.now.numbers judging.now (λ s. FoundIn s judging.now.lines.now (places events.now) found.items)) }
 {
     let mut found = Vec::new(alloc);
     find_now(alloc, network, judging, &mut found)?;
     let mut seen = view(alloc, network)?;
-    for failure in failures {
-        find_after(alloc, network, judging, failure, &mut seen, &mut found)?;
+    for event in events {
+        find_after(alloc, network, judging, event, &mut seen, &mut found)?;
     }
     Ok(found)
 }
@@ -439,12 +443,13 @@ fn opening(
 ) -> Result<Opened, AllocError>
     requires of { IsPlan network.now.net network.now.numbers plan.now }
     requires carriage { IsCarriage plan.now carriage.now }
+    requires events { asking.now.events.now ≡ events_of network.now.net lines.now }
     ensures opened { IfOk result (IsOpened network.now.net plan.now asking.now.is_last lines.now) }
     ensures same { IfOk result (λ opened. AreInSame (sets_of asking.now.leaving.now) opened.before.classes) }
     ensures islands { IfOk result (λ opened. HasIslandsOf carriage.now network.now.numbers opened.before) }
 {
     let settled = Settled::new(network, &plan.view, &plan.forest);
-    let missing = all_lacking(alloc, &settled, lines, asking.is_last)?;
+    let missing = all_lacking(alloc, &settled, asking.events, lines, asking.is_last)?;
     let asked = every_asked(lines, missing.as_slice(), asking.is_last);
     let before = Before::with_islands(alloc, &settled, carriage, &asked, asking.leaving)?;
     Ok(Opened { before, missing })
@@ -458,19 +463,20 @@ pub(crate) struct Asking<'a, 'b> {
     pub(crate) leaving: &'a Leaving<'b>,
     /// Promises of the last of several networks are judged.
     pub(crate) is_last: bool,
+    /// After what promises can be judged.
+    pub(crate) events: &'a [Event<'a>],
 }
 
-/// Why lines of a policy aren't kept in a network, by its plan and its failures.
+/// Why lines of a policy aren't kept in a network, by its plan and its events.
 pub(crate) fn judge_lines(
     alloc: Global,
     network: &Network,
     plan: &Plan,
     lines: &[PolicyLine],
-    failures: &[Failure],
     asking: &Asking,
 ) -> Result<Judgement, AllocError>
     requires of { IsPlan network.now.net network.now.numbers plan.now }
-    requires failures { failures.now ≡ failures_of network.now.net }
+    requires events { asking.now.events.now ≡ events_of network.now.net lines.now }
     ensures { IfOk result (λ judgement. (prior : PriorOf) → IsPrior (option_map (λ c. c.now) asking.now.prior) asking.now.leaving.now prior
         → AreLinesJudged network.now.net (plan_outcome network.now.net network.now.numbers plan.now) prior asking.now.is_last lines.now judgement) }
 {
@@ -486,7 +492,7 @@ pub(crate) fn judge_lines(
         missing: opened.missing.as_slice(),
         is_last: asking.is_last,
     };
-    let found = find_all(alloc, network, &judging, failures)?;
+    let found = find_all(alloc, network, &judging, asking.events)?;
     Ok(Judgement {
         missing: opened.missing,
         found,
@@ -495,7 +501,7 @@ pub(crate) fn judge_lines(
 
 /// Judges the lines of a policy in one of several networks, by its plan, by what carries VIDs in the network before, if there is one, and by
 /// which bridges are meant to leave which VIDs: of each line what it lacks there, or why it isn't kept in the network itself, and in that of each
-/// failure for which it asks. `AllocError`: memory was wanted and refused.
+/// failure and each risk for which it asks. `AllocError`: memory was wanted and refused.
 pub fn judge(
     alloc: Global,
     network: &Network,
@@ -512,11 +518,13 @@ pub fn judge(
     if lines.is_empty() {
         return Ok(Judgement::none(alloc));
     }
-    let failures = failures(alloc, &plan.view)?;
+    let hazards = Hazards::new(alloc, &plan.view, lines)?;
+    let events = hazards.events(alloc)?;
     let asking = Asking {
         prior,
         leaving,
         is_last,
+        events: events.as_slice(),
     };
-    judge_lines(alloc, network, plan, lines, failures.as_slice(), &asking)
+    judge_lines(alloc, network, plan, lines, &asking)
 }

@@ -9,8 +9,8 @@ use crate::laws::told_where_unkept;
 use mst_net::Network;
 use mst_policy::{Leaving, PolicyLine};
 use mst_rows::Rows;
-use mst_sweeping::{Plan, failures};
-use mst_telling::{Verdict, put_verdict};
+use mst_sweeping::Plan;
+use mst_telling::{Hazards, Verdict, put_verdict};
 use std::alloc::{AllocError, Global};
 
 /// Puts whether a network does what the lines of a policy promise, by its plan. `AllocError`: memory was wanted and refused; some of the
@@ -27,13 +27,15 @@ pub fn verify_network<R: Rows>(
     ensures few { IfOk result (λ verdict. verdict.refused ≤ length lines.now + 1) }
 {
     told_where_unkept();
-    let failures = failures(alloc, &plan.view)?;
+    let hazards = Hazards::new(alloc, &plan.view, lines)?;
+    let events = hazards.events(alloc)?;
     let leaving = Leaving::none(alloc);
     let asking = Asking {
         prior: None,
         leaving: &leaving,
         is_last: true,
+        events: events.as_slice(),
     };
-    let judgement = judge_lines(alloc, network, plan, lines, failures.as_slice(), &asking)?;
-    put_verdict(alloc, lines, failures.as_slice(), &judgement, out)
+    let judgement = judge_lines(alloc, network, plan, lines, &asking)?;
+    put_verdict(alloc, lines, events.as_slice(), &judgement, out)
 }

@@ -4,7 +4,8 @@ use Rattle.mst_view.specs.declared.in_view.BridgeInView.{BridgeInView}
 use Rattle.mst_policy.specs.declared.item.NameItem.{NameItem}
 use Rattle.mst_policy.specs.declared.item.PortItem.{PortItem}
 use Rattle.mst_reasons.proofs.summary_lemmas.Lists.{all_mapped}
-use Rattle.mst_reasons.specs.Missing.{bridges_of, has_one}
+use Rattle.mst_reasons.specs.Risks.{has_one}
+use Rattle.mst_reasons.specs.Missing.{bridges_of}
 use Rattle.mst_telling.proofs.lacking.are_bridges.Goals as goal
 
 pub returns-in-Role : goal.returns-in-Role

@@ -2,7 +2,7 @@ use Rattle.std.proofs.Common.{◌&&◌, Bool, map, sym, ap, ◌∙◌}
 use Rattle.std.specs.List.{list_all}
 use Rattle.mst_view.specs.declared.in_view.BridgeInView.{BridgeInView}
 use Rattle.mst_policy.specs.declared.item.NameItem.{NameItem}
-use Rattle.mst_reasons.specs.Missing.{has_one}
+use Rattle.mst_reasons.specs.Risks.{has_one}
 use Rattle.mst_telling.proofs.LackedSeen.{all_appended}
 use Rattle.mst_telling.proofs.lacking.have_both.Goals as goal
 

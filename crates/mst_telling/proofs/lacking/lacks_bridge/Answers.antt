@@ -2,7 +2,8 @@ use Rattle.std.proofs.Common.{◌&&◌, ◌++◌, List, ℕ, not, map, ap, ◌�
 use Rattle.std.specs.List.{list_all}
 use Rattle.mst_view.specs.declared.in_view.BridgeInView.{BridgeInView}
 use Rattle.mst_graph.specs.Lists.{has_any}
-use Rattle.mst_reasons.specs.Missing.{bridges_of, has_one, scope_bridges}
+use Rattle.mst_reasons.specs.Risks.{has_one}
+use Rattle.mst_reasons.specs.Missing.{bridges_of, scope_bridges}
 use Rattle.mst_reasons.proofs.NamedIn.{names_are}
 use Rattle.mst_telling.proofs.lacking.lacks_bridge.Goals as goal
 

@@ -1,7 +1,8 @@
 use Rattle.std.proofs.Common.{◌++◌, not, map, ap, ◌∙◌}
 use Rattle.std.specs.List.{list_all}
 use Rattle.mst_view.specs.declared.in_view.MemberLan.{MemberLan}
-use Rattle.mst_reasons.specs.Missing.{lans_of, has_one, scope_lans}
+use Rattle.mst_reasons.specs.Risks.{has_one}
+use Rattle.mst_reasons.specs.Missing.{lans_of, scope_lans}
 use Rattle.mst_telling.proofs.LackedSeen.{lan_names}
 use Rattle.mst_telling.proofs.lacking.lacks_lan.Goals as goal
 

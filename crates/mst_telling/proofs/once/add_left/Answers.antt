@@ -3,7 +3,7 @@ use Rattle.std.specs.List.{filter}
 use Rattle.std.proofs.lemmas.List.{take_all}
 use Rattle.mst_rows.specs.Rows.{Row}
 use Rattle.mst_graph.specs.Lists.{has_any}
-use Rattle.mst_reasons.specs.sweep.declared.failure.Failure.{Failure}
+use Rattle.mst_reasons.specs.sweep.declared.event.Cause.{Cause}
 use Rattle.mst_reasons.specs.declared.reason.Reason.{Reason}
 use Rattle.mst_telling.specs.declared.once.Folding.{Folding}
 use Rattle.mst_telling.specs.Judged.{AreTexts}
@@ -37,7 +37,7 @@ loop-reason-preserved c =
           (subst (λ (more : List Row). AreTexts ((rows ++ so_far) ++ more) c.add_if_left.new.texts) (one_mapped (reason_row n None) reason is (test reason) (said.is nows folds)) (said.added (rows ++ so_far) (l.invariant.added nows rows folds are)));
     }
 
-abbrev all_left : Folding → Option Failure → List Row → List Reason → List Row
+abbrev all_left : Folding → Option Cause → List Row → List Reason → List Row
 all_left folding place nows reasons = reason_rows folding.number None (filter (is_left_out folding.number folding.scope.now nows place) reasons)
 
 pub returns-clause-is : goal.returns-clause-is

@@ -17,9 +17,9 @@ loop-n-preserved c =
     let lines = c.args.lines.now in
     let line : PolicyLine = c.index-lines-n.result in
     let line_is = c.index-lines-n.is in
-    let f : ℕ → PolicyLine → ℕ = λ n line. count_by_read line.read (is_none (line_lacks n c.args.judgement.now)) c.args.failures.now in
-    let here : c.count_networks.result ≡ f n line = c.count_networks.ensures ∙ ap (λ whole. count_by_read line.read whole c.args.failures.now) (none_is c.lacks.result c.is_none-is_whole.result c.is_none-is_whole.ensures ∙ ap is_none c.lacks.ensures) in
+    let f : ℕ → PolicyLine → ℕ = λ n line. count_by_read line.read (is_none (line_lacks n c.args.judgement.now)) c.args.events.now in
+    let here : c.count_networks.result ≡ f n line = c.count_networks.ensures ∙ ap (λ whole. count_by_read line.read whole c.args.events.now) (none_is c.lacks.result c.is_none-is_whole.result c.is_none-is_whole.ensures ∙ ap is_none c.lacks.ensures) in
     c.in_ok-push.ensures.items ∙ (λ i. c.loop-n.invariant i ++ here i ∷ []) ∙ sym (taken (each f) lines n line c.loop-n-test.true line_is)
 
 pub returns : goal.returns
-returns c = c.loop-n.invariant ∙ ap (λ l. network_counts l c.args.failures.now c.args.judgement.now) (take_all c.loop-n.n c.args.lines.now c.loop-n-test.false)
+returns c = c.loop-n.invariant ∙ ap (λ l. network_counts l c.args.events.now c.args.judgement.now) (take_all c.loop-n.n c.args.lines.now c.loop-n-test.false)

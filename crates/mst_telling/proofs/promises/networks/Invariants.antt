@@ -4,4 +4,4 @@ use Rattle.mst_telling.proofs.promises.networks.Given as goal
 
 -- those of the lines so far
 abbrev pub invariant-loop-n : goal.invariant-loop-n
-invariant-loop-n l = l.counts.items ≡ network_counts (take l.n l.lines) l.failures l.judgement
+invariant-loop-n l = l.counts.items ≡ network_counts (take l.n l.lines) l.events l.judgement

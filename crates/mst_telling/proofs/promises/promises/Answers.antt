@@ -13,7 +13,7 @@ loop-n-preserved c =
     let line_is = c.index-lines-n.is in
     let counts = c.args.networks.now in
     let flags = c.args.flags.now in
-    c.in_ok-add_promise.ensures ∙ ap (λ so_far. so_far ++ promise_of line line.read (get_or counts n 0) (get_or flags n false)) c.loop-n.invariant
+    c.in_ok-add_promise.ensures ∙ ap (λ so_far. so_far ++ promise_of line (get_or counts n 0) (get_or flags n false)) c.loop-n.invariant
     ∙ sym (promises_more lines counts flags n line c.loop-n-test.true line_is c.requires.counted c.requires.flagged)
 
 pub returns : goal.returns

@@ -23,7 +23,7 @@ returns-clause-told g c net o of_net are =
     let judgement = c.args.judgement.now in
     let told : List (List Row) = verdicts_by lines judgement in
     let those : List Row = refused_by lines judgement in
-    let counts : List ℕ = network_counts lines c.args.failures.now judgement in
+    let counts : List ℕ = network_counts lines c.args.events.now judgement in
     let counted : c.as_slice-counts.result.now ≡ counts = c.as_slice-counts.ensures.value ∙ c.in_ok-networks.ensures in
     let judged : c.count_judged-judged.result ≡ judged_count counts = c.count_judged-judged.ensures ∙ ap judged_count counted in
     let refused : c.in_ok-refused.refused ≡ length those = c.in_ok-refused.ensures.count in
@@ -34,7 +34,7 @@ returns-clause-told g c net o of_net are =
     (λ i. refused i + (c.in_ok-whole.ensures.count those refused ∙ ap (λ n. length (whole_rows n those)) judged) i) ∙ sym (length-append those (whole_rows (judged_count counts) those)) in
     let failing : c.count_set.result ≡ count_by has_any told = c.count_set.ensures ∙ ap (count_by (λ flag. flag)) flags ∙ flags_counted has_any told in (
       _,
-      verified net o lines told (verdicts_there net o judgement lines are) those (refused_there net o judgement lines are) counts (counts_there net o judgement lines c.args.failures.now of_net are) _ front judged failing,
+      verified net o lines told (verdicts_there net o judgement lines are) those (refused_there net o judgement lines are) counts (counts_there net o judgement lines c.args.events.now of_net are) _ front judged failing,
       λ first before h.
           subst (g.R.Rows.grew first c.put_last.new.out)
           ((λ i. (((before ++ those) ++ whole_rows (judged i) those) ++ joined told) ++ last_row (judged i) (promises i) ∷ [])

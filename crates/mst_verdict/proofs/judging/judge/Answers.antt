@@ -1,8 +1,9 @@
-use Rattle.std.proofs.Common.{◌≡◌, List, [], length, sym, subst, ◌∙◌}
+use Rattle.std.proofs.Common.{◌≡◌, List, [], length, ap, sym, subst, ◌∙◌}
 use Rattle.std.proofs.lemmas.Bool.{eqb-true}
 use Rattle.std.proofs.lemmas.List.{nil_from_length}
 use Rattle.std.proofs.lemmas.Result.{IfOk-weaker}
 use Rattle.mst_policy.specs.declared.policy.PolicyLine.{PolicyLine}
+use Rattle.mst_verify.specs.tree_judges.judged.reasons.Risks.{all_events, events}
 use Rattle.mst_telling.specs.Judged.{told_in}
 use Rattle.mst_telling.proofs.Lines.{told_there}
 use Rattle.mst_verdict.specs.Verifying.{Judges, plan_outcome}
@@ -17,8 +18,9 @@ returns-then-is_empty c = λ before is.
     subst (λ (lines : List PolicyLine). Judges old.net before c.args.is_last lines (told_in lines c.none.result)) (sym none)
     (record { outcome = plan_outcome old.net old.numbers c.args.plan.now; is_outcome = plan_settled old.net old.numbers c.args.plan.now c.requires; are = tt; unkept = tt })
 
-pub judge_lines-requires-clause-failures : goal.judge_lines-requires-clause-failures
-judge_lines-requires-clause-failures c = c.as_slice.ensures.value ∙ c.in_ok-failures.ensures c.args.network.now.net c.args.network.now.numbers c.requires.of.view
+pub judge_lines-requires-clause-events : goal.judge_lines-requires-clause-events
+judge_lines-requires-clause-events c =
+    c.as_slice.ensures.value ∙ c.in_ok-events.ensures ∙ ap all_events (c.in_ok-hazards.ensures c.args.network.now.net c.args.network.now.numbers c.requires.of.view)
 
 pub returns : goal.returns
 returns c =
@@ -30,7 +32,7 @@ returns c =
       is_outcome = plan_settled old.net old.numbers c.args.plan.now c.requires;
       are = told_there old.net o before c.args.is_last judgement c.args.lines.now (judged before is);
       unkept =
-          all_due c.args.is_last old.net o before (λ line rows told. c.line_where_unkept.ensures old.net o before line rows c.requires.of.network (plan_settled old.net old.numbers c.args.plan.now c.requires) told) c.args.lines.now
+          all_due c.args.is_last old.net o before (events old.net c.args.lines.now) (λ line rows told. c.line_where_unkept.ensures old.net o before (events old.net c.args.lines.now) line rows c.requires.of.network (plan_settled old.net old.numbers c.args.plan.now c.requires) told) c.args.lines.now
           (told_in c.args.lines.now judgement) (told_there old.net o before c.args.is_last judgement c.args.lines.now (judged before is));
     })
     c.judge_lines.ensures

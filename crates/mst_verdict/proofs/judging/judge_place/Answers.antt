@@ -24,7 +24,7 @@ pub loop-n-preserved : goal.loop-n-preserved
 loop-n-preserved c = λ net before prior are is kept.
     let j = c.args.judging.now in
     let s = c.args.judged.now.plan.now in
-    let lost = c.args.judged.now.gone in
+    let lost = c.args.judged.now.lost.now in
     let place = c.args.place.now in
     let n = c.loop-n.n in
     let line : PolicyLine = get_or j.lines.now n c.index-judging-n.result in
@@ -42,5 +42,5 @@ pub returns : goal.returns
 returns c = λ net before prior are is kept.
     let j = c.args.judging.now in
     let s = c.args.judged.now.plan.now in
-    subst (λ (l : List PolicyLine). AllZip (λ line those. AreReasonsIf s.net (outcome_of s) before c.args.judged.now.gone prior (expected_in j net line c.args.place.now) those) l (reasons_in c.loop-n.all))
+    subst (λ (l : List PolicyLine). AllZip (λ line those. AreReasonsIf s.net (outcome_of s) before c.args.judged.now.lost.now prior (expected_in j net line c.args.place.now) those) l (reasons_in c.loop-n.all))
     (take_all c.loop-n.n j.lines.now c.loop-n-test.false) (c.loop-n.invariant net before prior are is kept)

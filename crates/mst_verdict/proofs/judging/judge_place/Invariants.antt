@@ -13,4 +13,4 @@ use Rattle.mst_verdict.proofs.judging.judge_place.Given as goal
 abbrev pub invariant-loop-n : goal.invariant-loop-n
 invariant-loop-n l =
     (net before : Net) (prior : Prior) → AreLacking net l.judging.is_last l.judging.lines.now l.judging.missing.now → IsBefore before l.judged.before.now → IsKeptOf prior l.judged.prior l.judged.leaving.now
-    → AllZip (λ line those. AreReasonsIf l.judged.plan.now.net (outcome_of l.judged.plan.now) before l.judged.gone prior (expected_in l.judging net line l.place) those) (take l.n l.judging.lines.now) (reasons_in l.all)
+    → AllZip (λ line those. AreReasonsIf l.judged.plan.now.net (outcome_of l.judged.plan.now) before l.judged.lost.now prior (expected_in l.judging net line l.place) those) (take l.n l.judging.lines.now) (reasons_in l.all)

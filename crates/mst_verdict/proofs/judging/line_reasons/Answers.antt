@@ -15,6 +15,6 @@ returns-in-Some c =
     ap (option_map (λ (e : Bor ExpectationOf). e.now)) (sym c.in-Some.is) ∙ c.expected.ensures in
     subst
     (λ expected. IfOk c.reasons.result (λ reasons. (before : Net) (prior : Prior) → IsBefore before judged.before.now → IsKeptOf prior judged.prior judged.leaving.now
-    → AreReasonsIf judged.plan.now.net (outcome_of judged.plan.now) before judged.gone prior expected reasons.items))
+    → AreReasonsIf judged.plan.now.net (outcome_of judged.plan.now) before judged.lost.now prior expected reasons.items))
     is
     c.reasons.ensures

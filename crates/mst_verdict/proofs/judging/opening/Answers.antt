@@ -2,10 +2,14 @@ use Rattle.std.proofs.Common.{length, ap, subst, sym, ◌∙◌}
 use Rattle.mst_sweeping.specs.sweep.vlan.classes.Classes.{AreClasses}
 use Rattle.mst_forest.specs.Settled.{SettledNet}
 use Rattle.mst_verify.specs.tree_judges.judged.Islands.{HasIslandsOf, IsOfPlan}
+use Rattle.mst_verify.specs.tree_judges.judged.reasons.Risks.{events}
 use Rattle.mst_verify.specs.tree_judges.judged.Seen.{IsBefore}
 use Rattle.mst_verdict.specs.Verifying.{AreLacking}
 use Rattle.mst_verdict.proofs.Judgements.{as_many}
 use Rattle.mst_verdict.proofs.judging.opening.Goals as goal
+
+pub all_lacking-requires : goal.all_lacking-requires
+all_lacking-requires c = c.requires.events ∙ ap (λ (s : SettledNet). events s.net c.args.lines.now) (sym c.new-settled.ensures)
 
 pub every_asked-asked-requires : goal.every_asked-asked-requires
 every_asked-asked-requires c = ap length c.as_slice.ensures.value ∙ as_many c.new-settled.result.net c.args.asking.now.is_last c.args.lines.now c.in_ok-missing.missing.items c.in_ok-missing.ensures

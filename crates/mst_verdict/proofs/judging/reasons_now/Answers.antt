@@ -1,4 +1,4 @@
-use Rattle.std.proofs.Common.{None, subst, sym}
+use Rattle.std.proofs.Common.{[], None, subst, sym}
 use Rattle.std.proofs.lemmas.Result.{IfOk-weaker}
 use Rattle.mst_policy.specs.Leaving.{sets_of}
 use Rattle.mst_sweeping.specs.sweep.vlan.classes.Classes.{AreClasses, AreInSame}
@@ -54,7 +54,7 @@ returns-in-None c =
     let j = c.args.judging.now in
     IfOk-weaker c.judge_now.result _ _
     (λ all said prior is. lines_now j t.net t.numbers prior is j.lines.now (reasons_in all)
-    (subst (λ (s : SettledNet). AreReasonsThere j s.net s s.net None prior None (reasons_in all)) c.new-plan.ensures (said prior (not_kept j.prior j.leaving.now prior c.in-None.is is))))
+    (subst (λ (s : SettledNet). AreReasonsThere j s.net s s.net [] prior None (reasons_in all)) c.new-plan.ensures (said prior (not_kept j.prior j.leaving.now prior c.in-None.is is))))
     c.judge_now.ensures
 
 pub returns : goal.returns
@@ -63,6 +63,6 @@ returns c =
     let j = c.args.judging.now in
     IfOk-weaker c.judge_now-in-Some.result _ _
     (λ all said prior is. lines_now j t.net t.numbers prior is j.lines.now (reasons_in all)
-    (subst (λ (s : SettledNet). AreReasonsThere j s.net s s.net None prior None (reasons_in all)) c.new-plan.ensures
+    (subst (λ (s : SettledNet). AreReasonsThere j s.net s s.net [] prior None (reasons_in all)) c.new-plan.ensures
     (said prior (kept_of j.prior c.in-Some.old c.beside-prior.result j.leaving.now prior c.in-Some.is c.beside-prior.ensures.old is))))
     c.judge_now-in-Some.ensures

@@ -1,3 +1,4 @@
+use Rattle.mst_verify.specs.tree_judges.judged.reasons.Risks.{events}
 use Rattle.mst_telling.specs.Verified.{IsToldWhereBroken, IsVerdict}
 use Rattle.mst_verdict.proofs.Judgements.{zip_weaker}
 use Rattle.mst_verdict.proofs.laws.one_verification.Goals as goal
@@ -5,6 +6,7 @@ use Rattle.mst_verdict.proofs.laws.one_verification.Goals as goal
 pub returns-clause-some : goal.returns-clause-some
 returns-clause-some c = λ net lines ok.
     let o = c.has_outcome.ensures net ok in
+    let those = events net lines in
     let v = c.one_verified.ensures.some net o.0 lines ok o.1 in (
       v.0,
       v.1,
@@ -12,7 +14,7 @@ returns-clause-some c = λ net lines ok.
         outcome = o.0;
         is_outcome = o.1;
         told = v.2;
-        broken = zip_weaker (IsVerdict net o.0) (IsToldWhereBroken net o.0) (λ line rows is. c.told_where_unkept.ensures net o.0 line rows ok o.1 is) lines v.2.told v.2.each;
+        broken = zip_weaker (IsVerdict net o.0 those) (IsToldWhereBroken net o.0 those) (λ line rows is. c.told_where_unkept.ensures net o.0 those line rows ok o.1 is) lines v.2.told v.2.each;
       },
     )
 

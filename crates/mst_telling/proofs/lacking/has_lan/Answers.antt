@@ -1,7 +1,0 @@
-use Rattle.std.proofs.Common.{sym, ◌∙◌}
-use Rattle.mst_policy.specs.Items.{item_has}
-use Rattle.mst_reasons.proofs.summary_lemmas.Lists.{any_mapped}
-use Rattle.mst_telling.proofs.lacking.has_lan.Goals as goal
-
-pub returns : goal.returns
-returns c = c.any_lan.ensures ∙ sym (any_mapped (item_has c.args.item.now) (λ x. x.name) c.args.lans.now)
