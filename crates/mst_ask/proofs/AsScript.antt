@@ -32,7 +32,7 @@ use Rattle.mst_ask.specs.Kept.{lines_net, made_by, made_in, net_or, script_net}
 use Rattle.mst_ask.specs.Requests.{request_of}
 use Rattle.mst_ask.specs.Standing.{Made, Standing, Turn, Asks, AsksBy, answered, back, declined, edited, edits_of, left_after, passed, starved, stepped, traced, undone, verified}
 use Rattle.mst_ask.specs.declared.request.Request.{Request}
-use Rattle.mst_ask.specs.declared.request.Request.TheVariants.{Script, Word, Undo, Verify, Path}
+use Rattle.mst_ask.specs.declared.request.Request.TheVariants.{Script, Word, Undo, Policy, Path}
 use Rattle.mst_ask.proofs.Kept.{back_in, back_none, lines_net-append, loads_net}
 use Rattle.mst_ask.proofs.Requests.{script_said}
 
@@ -169,8 +169,8 @@ module _ (form : Form) (version : Version) (base : Net) where
   asked_of number now line (Ok (Word question)) t says is (inr h) = turn_of t (starved form number now) h.1 is
   asked_of number now line (Ok (Undo count)) t says is (inl h) = turn_of t (undone form number count now (back count now.state.net now.made)) h (undone_of number count now (back count now.state.net now.made) is refl)
   asked_of number now line (Ok (Undo count)) t says is (inr h) = turn_of t (starved form number now) h.1 is
-  asked_of number now line (Ok Verify) t says is (inl h) = turn_of t (verified form now h.0 h.1) h.3 is
-  asked_of number now line (Ok Verify) t says is (inr h) = turn_of t (starved form number now) h is
+  asked_of number now line (Ok (Policy question)) t says is (inl h) = turn_of t (verified form now h.0 h.1) h.3 is
+  asked_of number now line (Ok (Policy question)) t says is (inr h) = turn_of t (starved form number now) h is
   asked_of number now line (Ok (Path question)) t says is (inl h) = turn_of t (traced form now h.0 h.1) h.3 is
   asked_of number now line (Ok (Path question)) t says is (inr h) = turn_of t (starved form number now) h.1 is
 

@@ -12,6 +12,8 @@ use Rattle.mst_lang.specs.declared.line.Version.{Version}
 use Rattle.mst_net.specs.tables.After.{after}
 use Rattle.mst_net.specs.tables.Refusals as refusal
 use Rattle.mst_verifying.specs.verdict.Verifying.{Verifies}
+use Rattle.mst_verifying.specs.verdict.Risking.{TellsRisks}
+use Rattle.mst_verifying.specs.verdict.declared.risking.RiskCounts.{RiskCounts}
 use Rattle.mst_net.specs.tables.Tables.{Net, IsNetwork}
 use Rattle.mst_net.specs.tables.declared.refusal.Refusal.{Refusal}
 use Rattle.mst_questions.specs.tool.engine.Script.{ServesRead, answered as answered_by, marked}
@@ -31,7 +33,9 @@ use Rattle.mst_tracing.specs.declared.asked.Asked.{Asked}
 use Rattle.mst_tracing.specs.declared.asked.PathQuestion.{PathQuestion}
 use Rattle.mst_tracing.specs.declared.asked.PathQuestion.TheVariants as path
 use Rattle.mst_tracing.proofs.WholeTrace.{OneTrace, one_traced}
-use Rattle.mst_verifying.specs.Verify.{verify_row}
+use Rattle.mst_verifying.specs.Verify as by_policy
+use Rattle.mst_verifying.specs.declared.question.PolicyQuestion.{PolicyQuestion}
+use Rattle.mst_verifying.specs.declared.question.PolicyQuestion.TheVariants.{Promises, Risks}
 use Rattle.mst_questions.proofs.EarlyRefusals.{refused_answer}
 use Rattle.mst_questions.proofs.tool_lemmas.Shown.{one_shown}
 use Rattle.mst_questions.proofs.WholeAsk.{OneOfEach, one_answer}
@@ -39,7 +43,7 @@ use Rattle.mst_verifying.specs.verdict.telling.Verified.{Counts}
 use Rattle.mst_ask.specs.Requests.{request_of}
 use Rattle.mst_ask.specs.Standing.{Made, Standing, Turn, Asks, AsksBy, AsksLine, IsStanding, answered, back, declined, edited, lacking_of, left_after, passed, starved, stepped, traced, undone, verified}
 use Rattle.mst_ask.specs.declared.request.Request.{Request}
-use Rattle.mst_ask.specs.declared.request.Request.TheVariants.{Script, Word, Undo, Verify, Path}
+use Rattle.mst_ask.specs.declared.request.Request.TheVariants.{Script, Word, Undo, Policy, Path}
 use Rattle.mst_ask.proofs.Requests.{script_said}
 use Rattle.mst_ask.proofs.Turns.{alike_both, asks-first, asks-none}
 
@@ -47,9 +51,19 @@ use Rattle.mst_ask.proofs.Turns.{alike_both, asks-first, asks-none}
 abbrev InRanges : Result Request Fault → Type 0
 InRanges request = (e : Edit) → request ≡ Ok (Script (edit e)) → InRange e
 
--- a network is judged by a policy in one way
-abbrev pub OneVerification : Type 0
-OneVerification = (net : Net) (lines : List PolicyLine) (c d : Counts) (rows other : List Row) → IsNetwork net → Verifies net lines c rows → Verifies net lines d other → (c ≡ d) × (rows ≡ other)
+-- a network is judged by a policy in one way, and its risks are told in one way
+pub record OneByPolicy : Type 0 where
+  pub promises : (net : Net) (lines : List PolicyLine) (c d : Counts) (rows other : List Row) → IsNetwork net → Verifies net lines c rows → Verifies net lines d other → (c ≡ d) × (rows ≡ other)
+  pub risks : (net : Net) (lines : List PolicyLine) (c d : RiskCounts) (rows other : List Row) → IsNetwork net → TellsRisks net lines c rows → TellsRisks net lines d other → (c ≡ d) × (rows ≡ other)
+
+one_by_policy : OneByPolicy → (form : Form) (question : PolicyQuestion) (net : Net) (lines : List PolicyLine) (a b : by_policy.Told) (text other : List ℕ) → IsNetwork net
+    → by_policy.TellsAnswer form question net lines a text → by_policy.TellsAnswer form question net lines b other → (a ≡ b) × (text ≡ other)
+one_by_policy one form Promises net lines a b text other is h k =
+    let same = one_shown form by_policy.verify_row (Verifies net lines h.0) (Verifies net lines k.0) (h.0 ≡ k.0) (λ rows more p q. let both = one.promises net lines h.0 k.0 rows more is p q in (both.1, both.0)) text other h.1 k.1 in
+    (h.2 ∙ ap by_policy.told_of_promises same.1 ∙ sym k.2, same.0)
+one_by_policy one form Risks net lines a b text other is h k =
+    let same = one_shown form by_policy.risks_row (TellsRisks net lines h.0) (TellsRisks net lines k.0) (h.0 ≡ k.0) (λ rows more p q. let both = one.risks net lines h.0 k.0 rows more is p q in (both.1, both.0)) text other h.1 k.1 in
+    (h.2 ∙ ap by_policy.told_of_risks same.1 ∙ sym k.2, same.0)
 
 -- a path that is refused has an answer
 refused_path : (form : Form) (net : Net) (question : PathQuestion) → trace.is_refused net question ≡ true → (told : trace.Told) × (text : List ℕ) × trace.IsAnswer form net question told text
@@ -121,8 +135,8 @@ module _ (laws : Laws) (form : Form) where
   turn_kept number now line (Ok (Word question)) t is ranges (inr h) = turn_is t (starved form number now) h.1 is
   turn_kept number now line (Ok (Undo count)) t is ranges (inl h) = turn_is t (undone form number count now (back count now.state.net now.made)) h (undone_kept number count now (back count now.state.net now.made) is refl)
   turn_kept number now line (Ok (Undo count)) t is ranges (inr h) = turn_is t (starved form number now) h.1 is
-  turn_kept number now line (Ok Verify) t is ranges (inl h) = turn_is t (verified form now h.0 h.1) h.3 is
-  turn_kept number now line (Ok Verify) t is ranges (inr h) = turn_is t (starved form number now) h is
+  turn_kept number now line (Ok (Policy question)) t is ranges (inl h) = turn_is t (verified form now h.0 h.1) h.3 is
+  turn_kept number now line (Ok (Policy question)) t is ranges (inr h) = turn_is t (starved form number now) h is
   turn_kept number now line (Ok (Path question)) t is ranges (inl h) = turn_is t (traced form now h.0 h.1) h.3 is
   turn_kept number now line (Ok (Path question)) t is ranges (inr h) = turn_is t (starved form number now) h.1 is
 
@@ -157,7 +171,7 @@ module _ (laws : Laws) (form : Form) where
         by true h = let a = refused_answer form now.state.net question h in (answered form now a.0 a.1, inl (a.0, a.1, a.2, refl))
         by false h = (starved form number now, inr (h, refl))
     some_turn number now line (Ok (Undo count)) is = (undone form number count now (back count now.state.net now.made), inl refl)
-    some_turn number now line (Ok Verify) is = (starved form number now, inr refl)
+    some_turn number now line (Ok (Policy question)) is = (starved form number now, inr refl)
     some_turn number now line (Ok (Path question)) is = by (trace.is_refused now.state.net question) refl
       where
         by : (refused : Bool) → trace.is_refused now.state.net question ≡ refused → (t : Turn) × Asks form number now line (Ok (Path question)) t
@@ -194,7 +208,7 @@ module _ (laws : Laws) (form : Form) where
   steps_alike : (now : Standing) (s t : Turn) (a b : Step) → s ≡ stepped form now a → t ≡ stepped form now b → s.lacking ≡ t.lacking → a.lacking ≡ b.lacking
   steps_alike now s t a b h k alike = sym (ap (λ (u : Turn). u.lacking) h) ∙ alike ∙ ap (λ (u : Turn). u.lacking) k
 
-  module _ (answers : (q : Query) (now : State) (a b : Result (List Row) Refusal) → IsNetwork now.net → Answers q now a → Answers q now b → a ≡ b) (one : OneOfEach) (judged : OneVerification) (one_trace : OneTrace) where
+  module _ (answers : (q : Query) (now : State) (a b : Result (List Row) Refusal) → IsNetwork now.net → Answers q now a → Answers q now b → a ≡ b) (one : OneOfEach) (judged : OneByPolicy) (one_trace : OneTrace) where
     one_turn : (number : ℕ) (now : Standing) (line : List ℕ) (request : Result Request Fault) (s t : Turn) → IsStanding now → Asks form number now line request s → Asks form number now line request t → s.lacking ≡ t.lacking → s ≡ t
     one_turn number now line (Err f) s t is h k alike = h ∙ sym k
     one_turn number now line (Ok (Script Blank)) s t is h k alike = h ∙ sym k
@@ -216,13 +230,12 @@ module _ (laws : Laws) (form : Form) where
     one_turn number now line (Ok (Word question)) s t is (inl h) (inl k) alike =
         let same = one_answer one form now.state.net question h.0 k.0 h.1 k.1 is.state.network h.2 k.2 in
         h.3 ∙ (λ i. answered form now (sym same.0 i) (sym same.1 i)) ∙ sym k.3
-    one_turn number now line (Ok Verify) s t is (inr h) (inr k) alike = h ∙ sym k
-    one_turn number now line (Ok Verify) s t is (inl h) (inr k) alike = absurd (not_both s t (verified form now h.0 h.1) number now refl h.3 k alike)
-    one_turn number now line (Ok Verify) s t is (inr h) (inl k) alike = absurd (not_both t s (verified form now k.0 k.1) number now refl k.3 h (sym alike))
-    one_turn number now line (Ok Verify) s t is (inl h) (inl k) alike =
-        let net = now.state.net in
-        let same = one_shown form verify_row (Verifies net now.policy k.0) (Verifies net now.policy h.0) (k.0 ≡ h.0) (λ rows other p q. let both = judged net now.policy k.0 h.0 rows other is.state.network p q in (both.1, both.0)) k.1 h.1 k.2 h.2 in
-        h.3 ∙ (λ i. verified form now (sym same.1 i) (sym same.0 i)) ∙ sym k.3
+    one_turn number now line (Ok (Policy question)) s t is (inr h) (inr k) alike = h ∙ sym k
+    one_turn number now line (Ok (Policy question)) s t is (inl h) (inr k) alike = absurd (not_both s t (verified form now h.0 h.1) number now refl h.3 k alike)
+    one_turn number now line (Ok (Policy question)) s t is (inr h) (inl k) alike = absurd (not_both t s (verified form now k.0 k.1) number now refl k.3 h (sym alike))
+    one_turn number now line (Ok (Policy question)) s t is (inl h) (inl k) alike =
+        let same = one_by_policy judged form question now.state.net now.policy h.0 k.0 h.1 k.1 is.state.network h.2 k.2 in
+        h.3 ∙ (λ i. verified form now (same.0 i) (same.1 i)) ∙ sym k.3
     one_turn number now line (Ok (Path question)) s t is (inr h) (inr k) alike = h.1 ∙ sym k.1
     one_turn number now line (Ok (Path question)) s t is (inl h) (inr k) alike = absurd (not_both s t (traced form now h.0 h.1) number now refl h.3 k.1 alike)
     one_turn number now line (Ok (Path question)) s t is (inr h) (inl k) alike = absurd (not_both t s (traced form now k.0 k.1) number now refl k.3 h.1 (sym alike))

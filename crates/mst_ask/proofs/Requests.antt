@@ -19,8 +19,9 @@ use Rattle.mst_questions.specs.declared.asked.Question.TheVariants.{Pairs, Sweep
 use Rattle.mst_ask.specs.Requests.{Stays, asked_by, asked_in, counted, dot_of, dot_words, explain_words, is_readable, path_of, path_words, request_of, said_of, summary_words, sweep_of, sweep_words, undo_words, verify_words}
 use Rattle.mst_tracing.specs.Asked.{path_question}
 use Rattle.mst_tracing.specs.declared.asked.PathQuestion.{PathQuestion}
+use Rattle.mst_verifying.specs.declared.question.PolicyQuestion.TheVariants.{Risks}
 use Rattle.mst_ask.specs.declared.request.Request.{Request}
-use Rattle.mst_ask.specs.declared.request.Request.TheVariants.{Script, Word, Undo, Verify, Path}
+use Rattle.mst_ask.specs.declared.request.Request.TheVariants.{Script, Word, Undo, Policy, Path}
 
 -- what a word of the program, or `undo`, asks: no line of a script, and what leaves the planner as it was
 abbrev OfWord : Result Request Fault → Type 0
@@ -28,7 +29,7 @@ OfWord (Err f) = Unit {0}
 OfWord (Ok (Script line)) = ⊥
 OfWord (Ok (Word question)) = keeps question ≡ true
 OfWord (Ok (Undo count)) = Unit {0}
-OfWord (Ok Verify) = Unit {0}
+OfWord (Ok (Policy question)) = Unit {0}
 OfWord (Ok (Path question)) = Unit {0}
 
 abbrev AsksOfWord : Option (Result Request Fault) → Type 0
@@ -77,7 +78,8 @@ of_question (Some question) kept = kept
 
 of_sweep : (ws : List (List ℕ)) → OfWord (sweep_words ws)
 of_sweep [] = of_question (sweep_question None None) (sweeps None None)
-of_sweep (a ∷ []) = of_question (sweep_question (Some a) None) (sweeps (Some a) None)
+of_sweep (a ∷ []) =
+    elim (bytes_eq a (codes "risks")) as (λ b. OfWord (cond b (Ok (Policy Risks)) (sweep_of (sweep_question (Some a) None)))) [ true ↦ tt | false ↦ of_question (sweep_question (Some a) None) (sweeps (Some a) None) ]
 of_sweep (a ∷ b ∷ []) = of_question (sweep_question (Some a) (Some b)) (sweeps (Some a) (Some b))
 of_sweep (a ∷ b ∷ c ∷ ws) = tt
 
@@ -159,7 +161,7 @@ script_said version line said is = by (asked_in line) (of_line line) (reading_as
     inner (Ok (Script line)) other = line
     inner (Ok (Word question)) other = other
     inner (Ok (Undo count)) other = other
-    inner (Ok Verify) other = other
+    inner (Ok (Policy question)) other = other
     inner (Ok (Path question)) other = other
 
     by : (asked : Option (Result Request Fault)) → AsksOfWord asked → (r : Result Line Fault) → option_map_or (λ request. request) asked (said_of r) ≡ Ok (Script said) → r ≡ Ok said
@@ -173,7 +175,7 @@ stays (Err f) word = tt
 stays (Ok (Script line)) word = absurd word
 stays (Ok (Word question)) word = word
 stays (Ok (Undo count)) word = tt
-stays (Ok Verify) word = tt
+stays (Ok (Policy question)) word = tt
 stays (Ok (Path question)) word = tt
 
 pub word_stays : (line : List ℕ) (request : Result Request Fault) → Some request ≡ asked_in line → IfOk request Stays

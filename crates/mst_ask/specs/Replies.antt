@@ -14,7 +14,7 @@ use Rattle.mst_ask.specs.declared.reply.Reply.{Reply}
 use Rattle.mst_ask.specs.declared.reply.Reply.TheVariants.{Silent, Line, Answer, Undone, Verified, Traced}
 use Rattle.mst_ask.specs.declared.reply.Verdict.{Verdict}
 
--- how a line of a script, a word of the program, `verify` and `path` were answered
+-- how a line of a script, a word of the program, a question by the policy and `path` were answered
 abbrev pub verdict_of_line : LineReply → Verdict
 verdict_of_line reply = record { refused = engine.is_refusal reply; lacking = engine.is_starved reply; differs = engine.is_difference reply }
 
@@ -22,7 +22,7 @@ abbrev pub verdict_of_answer : ToolAnswer → Verdict
 verdict_of_answer answer = record { refused = not ((told_of answer).refused == 0); lacking = false; differs = not ((told_of answer).differing == 0) }
 
 abbrev pub verdict_of_verification : Verification → Verdict
-verdict_of_verification found = record { refused = not (found.refused == 0); lacking = false; differs = not (found.failing == 0) }
+verdict_of_verification found = record { refused = not (found.refused == 0); lacking = false; differs = not (found.telling == 0) }
 
 abbrev pub verdict_of_path : PathAnswer → Verdict
 verdict_of_path answer = record { refused = not ((trace.told_of answer).refused == 0); lacking = false; differs = not ((trace.told_of answer).differing == 0) }

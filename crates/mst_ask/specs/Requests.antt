@@ -16,7 +16,8 @@ use Rattle.mst_questions.specs.declared.asked.Question.TheVariants.{Summary}
 use Rattle.mst_tracing.specs.Asked.{path_question}
 use Rattle.mst_tracing.specs.declared.asked.PathQuestion.{PathQuestion}
 use Rattle.mst_ask.specs.declared.request.Request.{Request}
-use Rattle.mst_ask.specs.declared.request.Request.TheVariants.{Script, Word, Undo, Verify, Path}
+use Rattle.mst_ask.specs.declared.request.Request.TheVariants.{Script, Word, Undo, Policy, Path}
+use Rattle.mst_verifying.specs.declared.question.PolicyQuestion.TheVariants.{Promises, Risks}
 
 -- what stands behind `explain`: B and P, or B, P and TREE. With another number of words there is no such command
 abbrev pub explain_words : List (List ℕ) → Result Request Fault
@@ -29,14 +30,15 @@ abbrev pub summary_words : List (List ℕ) → Result Request Fault
 summary_words [] = Ok (Word Summary)
 summary_words _ = Err E01
 
--- behind `sweep`: nothing, a part, or `pairs` and a part, if one is asked of. Words that name no part are bad arguments
+-- behind `sweep`: nothing, `risks` for those of the policy, a part, or `pairs` and a part, if one is asked of. Words that name no part are bad
+-- arguments
 abbrev pub sweep_of : Option Question → Result Request Fault
 sweep_of (Some question) = Ok (Word question)
 sweep_of None = Err E02
 
 abbrev pub sweep_words : List (List ℕ) → Result Request Fault
 sweep_words [] = sweep_of (sweep_question None None)
-sweep_words (word ∷ []) = sweep_of (sweep_question (Some word) None)
+sweep_words (word ∷ []) = if bytes_eq word (codes "risks") then Ok (Policy Risks) else sweep_of (sweep_question (Some word) None)
 sweep_words (word ∷ part ∷ []) = sweep_of (sweep_question (Some word) (Some part))
 sweep_words _ = Err E01
 
@@ -75,7 +77,7 @@ undo_words _ = Err E01
 
 -- behind `verify`: nothing
 abbrev pub verify_words : List (List ℕ) → Result Request Fault
-verify_words [] = Ok Verify
+verify_words [] = Ok (Policy Promises)
 verify_words _ = Err E01
 
 -- what words ask of which the first is one of these
@@ -114,5 +116,5 @@ abbrev pub Stays : Request → Type 0
 Stays (Script line) = Unit {0}
 Stays (Word question) = keeps question ≡ true
 Stays (Undo count) = Unit {0}
-Stays Verify = Unit {0}
+Stays (Policy question) = Unit {0}
 Stays (Path question) = Unit {0}

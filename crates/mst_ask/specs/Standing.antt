@@ -24,12 +24,12 @@ use Rattle.mst_rows.specs.Rows.{Row, row_of}
 use Rattle.mst_questions.specs.Ask.{IsAnswer, Told, is_refused}
 use Rattle.mst_tracing.specs.Trace as trace
 use Rattle.mst_tracing.specs.declared.asked.PathQuestion.{PathQuestion}
-use Rattle.mst_verifying.specs.Verify.{TellsVerification}
+use Rattle.mst_verifying.specs.Verify as by_policy
+use Rattle.mst_verifying.specs.declared.question.PolicyQuestion.{PolicyQuestion}
 use Rattle.mst_questions.specs.declared.asked.Question.{Question}
-use Rattle.mst_verifying.specs.verdict.telling.Verified.{Counts}
 use Rattle.mst_ask.specs.Requests.{request_of}
 use Rattle.mst_ask.specs.declared.request.Request.{Request}
-use Rattle.mst_ask.specs.declared.request.Request.TheVariants.{Script, Word, Undo, Verify, Path}
+use Rattle.mst_ask.specs.declared.request.Request.TheVariants.{Script, Word, Undo, Policy, Path}
 
 -- an edit that was made since the script was loaded: its line, and the network before it
 pub record Made : Type 0 where
@@ -108,9 +108,9 @@ edited form number now line (Ok new) = turned form (with_edit now line new) [] f
 abbrev pub answered : Form → Standing → Told → List ℕ → Turn
 answered form now told text = turned form now text (not (told.refused == 0)) false (not (told.differing == 0))
 
--- the answer to `verify`, by what is counted of the policy
-abbrev pub verified : Form → Standing → Counts → List ℕ → Turn
-verified form now counts text = turned form now text (not (counts.refused == 0)) false (not (counts.failing == 0))
+-- the answer to `verify` and to `sweep risks`, by what is counted of the policy
+abbrev pub verified : Form → Standing → by_policy.Told → List ℕ → Turn
+verified form now told text = turned form now text (not (told.refused == 0)) false (not (told.telling == 0))
 
 -- the answer to `path`
 abbrev pub traced : Form → Standing → trace.Told → List ℕ → Turn
@@ -143,9 +143,9 @@ OrStarved form number now May done t = (t ≡ done) ⊎ (May × (t ≡ starved f
 abbrev pub Tells : Form → ℕ → Standing → Question → Turn → Type 0
 Tells form number now question t = (told : Told) × (text : List ℕ) × IsAnswer form now.state.net question told text × (t ≡ answered form now told text)
 
--- what `verify` is answered: whether the network as it stands does what the policy promises
-abbrev pub TellsPolicy : Form → Standing → Turn → Type 0
-TellsPolicy form now t = (counts : Counts) × (text : List ℕ) × TellsVerification form now.state.net now.policy counts text × (t ≡ verified form now counts text)
+-- what `verify` and `sweep risks` are answered: whether the network as it stands does what the policy promises, and what its risks do to it
+abbrev pub TellsPolicy : Form → Standing → PolicyQuestion → Turn → Type 0
+TellsPolicy form now question t = (told : by_policy.Told) × (text : List ℕ) × by_policy.TellsAnswer form question now.state.net now.policy told text × (t ≡ verified form now told text)
 
 -- what `path` is answered, of the network as it stands
 abbrev pub TellsPath : Form → Standing → PathQuestion → Turn → Type 0
@@ -161,7 +161,7 @@ Asks form number now line (Ok (Script (query q))) t = (s : Step) × ServesRead (
 Asks form number now line (Ok (Script (edit e))) t = OrStarved form number now (IsOk (after e now.state.net)) (edited form number now line (after e now.state.net)) t
 Asks form number now line (Ok (Word question)) t = Tells form number now question t ⊎ ((is_refused now.state.net question ≡ false) × (t ≡ starved form number now))
 Asks form number now line (Ok (Undo count)) t = OrStarved form number now (IsSome (back count now.state.net now.made)) (undone form number count now (back count now.state.net now.made)) t
-Asks form number now line (Ok Verify) t = TellsPolicy form now t ⊎ (t ≡ starved form number now)
+Asks form number now line (Ok (Policy question)) t = TellsPolicy form now question t ⊎ (t ≡ starved form number now)
 Asks form number now line (Ok (Path question)) t = TellsPath form now question t ⊎ ((trace.is_refused now.state.net question ≡ false) × (t ≡ starved form number now))
 
 abbrev pub AsksLine : Form → Version → ℕ → Standing → List ℕ → Turn → Type 0

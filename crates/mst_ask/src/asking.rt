@@ -29,7 +29,7 @@ use std::alloc::Global;
 ///   `line N CODE TEXT` says so, by its number among the questions.
 /// * `explain B P`, `explain B P TREE`, `summary`, `sweep`, `sweep K/N`, `sweep pairs`, `sweep pairs K/N`, `dot TREE`: what
 ///   [`mst_questions::Question`] asks, of the network as it stands.
-/// * `verify`: what [`mst_verifying::verify`] tells, of the network as it stands by the policy.
+/// * `verify`: what [`mst_verifying::verify`] tells, of the network as it stands by the policy; `sweep risks`: what each risk of the policy does to it.
 /// * `path VID A B`, `path VID A B always`: what [`mst_tracing::PathQuestion`] asks, of the network as it stands.
 /// * `undo`, `undo N`: the last edit that was made since the script was loaded is taken back, or the last N are, the newest first, with
 ///   a line `undone LINE` for each. The mark stays. Where there are fewer, it is refused as a bad argument.

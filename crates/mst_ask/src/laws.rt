@@ -20,7 +20,7 @@ use mst_questions::laws::{one_explanation, one_picture, one_summary, one_vlan_pi
 use mst_questions::report_laws::{entries_of_network, has_answer, one_answer};
 use mst_questions::sweeping_laws::{pair_parts, sweep_parts};
 use mst_tracing::laws::one_trace;
-use mst_verifying::verdict_laws::one_verification;
+use mst_verifying::verdict_laws::{one_of_risks, one_verification};
 
 /// Any lines can be asked, the first of any number, whatever network stands.
 pub fn has_turns()
@@ -49,6 +49,7 @@ pub fn one_asking()
     one_vlan_picture();
     one_advice();
     one_verification();
+    one_of_risks();
     one_trace();
 }
 

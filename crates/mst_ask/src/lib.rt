@@ -16,9 +16,9 @@ mod word;
 pub use asking::ask_within;
 pub use mst_questions::{
     CheckWord, Form, Question, QuestionWord, RunWord, ask, check, check_within, engine_laws,
-    report_laws, run, run_from, run_within, status,
+    names_policy, report_laws, run, run_from, run_within, status,
 };
 pub use mst_tracing::{PathQuestion, PathWord, trace, trace_within};
-pub use mst_verifying::{VerifyWord, verify};
+pub use mst_verifying::{PolicyQuestion, VerifyWord, verify};
 pub use request::Request;
 pub use word::AskWord;

@@ -154,7 +154,7 @@ fn of_verification(found: &Verification) -> Verdict
     Verdict {
         refused: found.refused != 0,
         lacking: false,
-        differs: found.failing != 0,
+        differs: found.telling != 0,
     }
 }
 

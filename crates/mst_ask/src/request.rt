@@ -5,6 +5,7 @@ ghost use Rattle.mst_ask.specs.Requests.{Stays, asked_as, asked_in, count_of, do
 use mst_lang::{Fault, LONGEST, Line, Version, are_plain, next_word, parse_line_as, parse_number};
 use mst_questions::Question;
 use mst_tracing::PathQuestion;
+use mst_verifying::PolicyQuestion;
 
 /// What a line asks of a standing planner.
 pub enum Request {
@@ -14,8 +15,8 @@ pub enum Request {
     Word(Question),
     /// So many of the last edits are to be taken back, from 1.
     Undo(u64),
-    /// The network is to be judged by the policy.
-    Verify,
+    /// The network is asked this by the policy.
+    Policy(PolicyQuestion),
     /// A path of the network is asked for.
     Path(PathQuestion),
 }
@@ -101,6 +102,7 @@ fn sweep(behind: &[u8]) -> Result<Request, Fault>
     match next_word(behind) {
         None => swept(Question::sweep(None, None)),
         Some((word, rest)) => match next_word(rest) {
+            None if word == b"risks".as_slice() => Ok(Request::Policy(PolicyQuestion::Risks)),
             None => swept(Question::sweep(Some(word), None)),
             Some((part, more)) => match next_word(more) {
                 None => swept(Question::sweep(Some(word), Some(part))),
@@ -172,7 +174,7 @@ fn verify(behind: &[u8]) -> Result<Request, Fault>
     ensures { result ≡ verify_words (words behind.now) }
 {
     match next_word(behind) {
-        None => Ok(Request::Verify),
+        None => Ok(Request::Policy(PolicyQuestion::Promises)),
         Some(_) => Err(Fault::E01),
     }
 }

@@ -14,7 +14,7 @@ ghost use Rattle.mst_io.specs.Devices.{Works, IsStopped};
 ghost use Rattle.mst_io.specs.Written.{AppendsFront};
 ghost use Rattle.mst_questions.specs.tool.engine.print.Shape.{listed, of_script};
 ghost use Rattle.mst_questions.specs.Ask.{keeps};
-ghost use Rattle.mst_ask.specs.declared.request.Request.TheVariants.{Script as Said, Word, Undo, Verify, Path};
+ghost use Rattle.mst_ask.specs.declared.request.Request.TheVariants.{Script as Said, Word, Undo, Policy as ByPolicy, Path};
 ghost use Rattle.mst_ask.specs.Answering.{IsLoaded, LoadsLines};
 ghost use Rattle.mst_ask.specs.Kept.{IsKept, Keeps, SameScript, lines_kept, lines_net, made_by, net_of_script, rows_of, standing_of};
 ghost use Rattle.mst_ask.specs.Lines.{lines_in};
@@ -37,7 +37,7 @@ use mst_questions::{
     serve,
 };
 use mst_tracing::{PathQuestion, traced};
-use mst_verifying::verified;
+use mst_verifying::{PolicyQuestion, answered};
 use std::alloc::{AllocError, Global};
 
 /// A planner with the network of a script, a policy by which it is judged, and the edits that were made in it since, of which the last
@@ -226,7 +226,7 @@ impl Standing {
             Ok(Request::Script(said)) => self.serve(number, line, &said),
             Ok(Request::Word(question)) => self.answer(&question),
             Ok(Request::Undo(count)) => self.undo(count),
-            Ok(Request::Verify) => self.verify(),
+            Ok(Request::Policy(question)) => self.judge(question),
             Ok(Request::Path(question)) => self.trace(&question),
         }
     }
@@ -304,14 +304,20 @@ impl Standing {
         }
     }
 
-    /// Tells whether the network does what the policy promises.
-    fn verify(&mut self) -> Reply
+    /// Tells whether the network does what the policy promises, or what its risks do.
+    fn judge(&mut self, question: PolicyQuestion) -> Reply
         requires kept { IsKept self.old }
         ensures kept { IsKept self.new }
         ensures same { SameScript self.old self.new }
-        ensures asked { (number : ℕ) (line : List ℕ) → Asks self.old.form number (standing_of self.old) line (Ok Verify) (replied self.old.form number (standing_of self.new) result) }
+        ensures asked { (number : ℕ) (line : List ℕ) → Asks self.old.form number (standing_of self.old) line (Ok (ByPolicy question)) (replied self.old.form number (standing_of self.new) result) }
     {
-        match verified(self.alloc, self.form, &mut self.planner, &self.policy) {
+        match answered(
+            self.alloc,
+            self.form,
+            question,
+            &mut self.planner,
+            &self.policy,
+        ) {
             Ok(found) => Reply::Verified(found),
             Err(_) => Reply::Line(LineReply::Starved),
         }

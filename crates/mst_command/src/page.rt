@@ -1,9 +1,9 @@
 /// The number of this release, which `--version` prints behind the program's name.
-pub(crate) const VERSION: &str = "0.62.0";
+pub(crate) const VERSION: &str = "0.63.0";
 
 /// What `--version --json` prints: the release, the version of the lines of JSON, and the latest version of scripts.
 pub(crate) const VERSION_RECORD: &str =
-    "{\"kind\":\"version\",\"release\":\"0.62.0\",\"json\":2,\"script\":2}\n";
+    "{\"kind\":\"version\",\"release\":\"0.63.0\",\"json\":2,\"script\":2}\n";
 
 /// What stands at the end of the program's help: the commands of scripts, the exit statuses, and where all of it is said.
 pub(crate) const PAGE: &str = "\
@@ -49,7 +49,7 @@ themselves.
 
 Lines that ask FILE answers on standard input, of the network that stands then; 'done STATUS' ends each answer:
   any of these commands           an edit changes the network
-  explain B P, explain B P TREE, summary, sweep, sweep K/N, sweep pairs, sweep pairs K/N, dot TREE, dot vlan VID,
+  explain B P, explain B P TREE, summary, sweep, sweep K/N, sweep pairs, sweep pairs K/N, sweep risks, dot TREE, dot vlan VID,
   path VID A B, path VID A B always
                                   what the program's words of these names print
   verify                          whether the network does what POLICY promises, as the word verify prints it

@@ -118,12 +118,12 @@ Examples:
 /// The row of `sweep`.
 pub(crate) const SWEEP: Row<'static> = Row {
     name: "sweep",
-    about: "Makes the network of a script, and tells what each single failure does to it, or each pair",
+    about: "Makes the network of a script, and tells what each failure, each pair or each risk does to it",
     places: &[
         SCRIPT,
         Place {
             name: "PART",
-            help: "K/N, the K-th of N equal parts of the failures, or pairs. Without it, all failures",
+            help: "K/N, the K-th of N equal parts; pairs; or a policy, for its risks. Else all failures",
             is_wanted: false,
         },
         Place {
@@ -138,9 +138,10 @@ Forms: mstplan sweep FILE
        mstplan sweep FILE K/N
        mstplan sweep FILE pairs
        mstplan sweep FILE pairs K/N
+       mstplan sweep FILE POLICY
 Flags: --json, --hints.
 
-Exit status: 0, or 1 where a line was refused or a failure, or a pair, cuts a VLAN; 2 and 3 as
+Exit status: 0, or 1 where a line was refused or a failure, pair or risk cuts a VLAN; 2 and 3 as
 mstplan --help says.
 
 Examples:

@@ -1,6 +1,9 @@
 -- Which port is to be explained, which part of a sweep to be told, and what is wanted of a network: what words ask for.
-use Rattle.std.specs.Prelude.{ℕ, ◌+◌, ◌==◌, List, take, drop, position, Option, None, Some, Result, Ok, Err}
+use Rattle.std.specs.Prelude.{ℕ, ◌+◌, ◌==◌, ◌&&◌, ◌||◌, not, Bool, false, List, take, drop, position, Option, None, Some, Result, Ok, Err, codes}
+use Rattle.std.specs.Char.{is_ascii_digit}
+use Rattle.std.specs.List.{list_all}
 use Rattle.std.specs.Option.{option_map, option_and_then}
+use Rattle.std.specs.Str.{bytes_eq}
 use Rattle.mst_lang.specs.Arguments.{name, number_value, port_number, tree}
 use Rattle.mst_lang.specs.declared.line.Fault.{Fault}
 use Rattle.mst_advise.specs.declared.goal.Goal.{Goal}
@@ -40,6 +43,21 @@ part_named number count = option_and_then (λ k. option_and_then (λ n. part_at 
 -- the part of a sweep that a word K/N names, of two numbers that have the form of a script's
 abbrev pub part_value : List ℕ → Option PartOf
 part_value word = option_and_then (λ halves. part_named (number_value halves.0) (number_value halves.1)) (halves_of word)
+
+-- a word is of digits and `/` alone: it was to be a part, whether or not it names one
+abbrev pub is_of_part : ℕ → Bool
+is_of_part b = is_ascii_digit b || b == 47
+
+abbrev pub is_like_part : List ℕ → Bool
+is_like_part word = list_all is_of_part word
+
+-- a word behind a script names a policy, by the one behind it: there is none, and it is neither `pairs` nor was to be a part
+abbrev pub is_policy_word : List ℕ → Bool
+is_policy_word word = not (bytes_eq word (codes "pairs")) && not (is_like_part word)
+
+abbrev pub names_policy : Option (List ℕ) → Option (List ℕ) → Bool
+names_policy (Some word) None = is_policy_word word
+names_policy _ behind = false
 
 -- that a bridge is the root of a tree, or the first fault of these words
 abbrev pub root_in : Result (List ℕ) Fault → Result ℕ Fault → Result Goal Fault

@@ -2,7 +2,7 @@ ghost use Rattle.std.specs.Prelude.{◌≡◌, ◌<◌, ◌==◌, length, positi
 ghost use Rattle.std.specs.Option.{option_map};
 ghost use Rattle.mst_lang.specs.Arguments as arguments;
 ghost use Rattle.mst_questions.specs.Ask.{advice_question, dot_question, explain_question, pairs_question, picture_question, sweep_by_word, sweep_question, vlan_picture_question, wanted_of};
-ghost use Rattle.mst_questions.specs.Asked.{asked_of, asked_tree, forward_of, halves_of, part_value, root_of};
+ghost use Rattle.mst_questions.specs.Asked.{asked_of, asked_tree, forward_of, halves_of, part_value, root_of, is_like_part as is_like_part_of, names_policy as names_policy_of};
 
 use mst_advise::{Goal, SweepPart};
 use mst_ids::{PortName, Tree, Vid};
@@ -239,6 +239,25 @@ fn sweep_part(word: &[u8]) -> Option<SweepPart>
     let number = parse_number(number)?;
     let count = parse_number(count)?;
     SweepPart::new(number, count)
+}
+
+/// Whether a word behind a script names a policy, by the word behind it, if there is one: there is none, and it is neither `pairs` nor of digits
+/// and `/` alone.
+pub fn names_policy(word: Option<&[u8]>, behind: Option<&[u8]>) -> bool
+    ensures { result ≡ names_policy_of (option_map (λ word. word.now) word.entry) (option_map (λ word. word.now) behind.entry) }
+{
+    match (word, behind) {
+        (Some(word), None) => word != b"pairs".as_slice() && !is_like_part(word),
+        _ => false,
+    }
+}
+
+/// Whether a word is of digits and `/` alone.
+fn is_like_part(word: &[u8]) -> bool
+    ensures { result ≡ is_like_part_of word.now }
+{
+    word.iter()
+        .all(|byte| byte.is_ascii_digit() || *byte == b'/')
 }
 
 /// What stands before the first slash of a word and what stands after it.

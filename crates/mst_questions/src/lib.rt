@@ -17,7 +17,7 @@ mod sweeping;
 mod unadvised;
 
 pub use advising::put_advice;
-pub use asked::{Asked, Question};
+pub use asked::{Asked, Question, names_policy};
 pub use asks::{Answer, QuestionWord, answer_to, ask, ask_from, ask_within, put_answer};
 pub use explaining::{Unexplained, put_explanation_of, unexplained_in};
 pub use mst_advise::{laws as advise_laws, sweeping_laws};

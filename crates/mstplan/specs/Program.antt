@@ -1,5 +1,5 @@
 -- What the program does and how it ends, by what its words ask for.
-use Rattle.std.specs.Prelude.{◌≡◌, ℕ, Bool, true, List, drop, length, is_some, Option, Some, None, Result, Ok, Err, IfOk, IfErr, IfSome, IsErrAnd}
+use Rattle.std.specs.Prelude.{◌≡◌, ℕ, Bool, true, false, List, drop, length, is_some, Option, Some, None, Result, Ok, Err, IfOk, IfErr, IfSome, IsErrAnd}
 use Rattle.std.specs.Borrow.{Bor}
 use Rattle.mst_ask.specs.Asking.{standing}
 use Rattle.mst_altering.specs.Alter.{altering}
@@ -9,7 +9,10 @@ use Rattle.mst_between.specs.Diff.{differing}
 use Rattle.mst_ask.specs.questions.tool.Run.{running}
 use Rattle.mst_ask.specs.tracing.Trace.{tracing}
 use Rattle.mst_ask.specs.tracing.declared.asked.PathQuestion.{PathQuestion}
+use Rattle.mst_ask.specs.questions.Asked.{names_policy}
 use Rattle.mst_ask.specs.verifying.Verify.{verifying}
+use Rattle.mst_ask.specs.verifying.declared.question.PolicyQuestion.{PolicyQuestion}
+use Rattle.mst_ask.specs.verifying.declared.question.PolicyQuestion.TheVariants.{Promises, Risks}
 use Rattle.mst_ask.specs.questions.declared.asked.Question.{Question}
 use Rattle.mst_ask.specs.questions.tool.engine.print.declared.form.Form.{Form}
 use Rattle.mst_io.specs.Devices.{Seen}
@@ -46,21 +49,33 @@ abbrev pub tracing_of : Form → Option PathQuestion → Bor (List ℕ) → Task
 tracing_of form None script = nothing
 tracing_of form (Some question) script = serves (tracing form question) 1 (scripts kind.Loaded None None) script None None
 
+-- what is to be done with the network of a script and a policy, if one is named
+abbrev pub judging_of : Form → PolicyQuestion → Behind → Task
+judging_of form question behind = serves (verifying form question) 2 (scripts kind.Loaded (Some kind.Policy) None) behind.first behind.second None
+
+-- and with its failures, or with the risks of a policy, by whether the words name one
+abbrev pub sweeping_by : Form → Bool → Behind → Task
+sweeping_by form true behind = judging_of form Risks behind
+sweeping_by form false behind = asking_of form (question_by Sweep (texts_of behind)) behind.first
+
+abbrev pub sweeping_of : Form → Behind → Task
+sweeping_of form behind = sweeping_by form (names_policy (texts_of behind).second (texts_of behind).third) behind
+
 -- What there is to be done by what the words ask for, printing in this form: the script is run; or the captures are compared with its plan;
 -- or the network that it leaves is asked of a port, of its failures or pairs of them, for its summary, for its picture, for advice or for a path; or the
 -- networks of two scripts are told apart; or the questions that come by standard input are answered, of which there are none where the
--- script comes there, with a policy, if one is named; or the network is verified by a policy; or the edits are told that make the network
+-- script comes there, with a policy, if one is named; or the network is verified by a policy, or asked what the risks of one do to it; or the edits are told that make the network
 -- of the second script of that of the first; or what the steps of a change do, with a policy, if one is named
 abbrev pub task_of : Form → Verb → Behind → Task
 task_of form Run behind = serves (running form) 1 (scripts kind.Run None None) behind.first None None
 task_of form Check behind = serves (checking form) 2 (scripts kind.Run None None) behind.first behind.second None
 task_of form Explain behind = asking_of form (question_by Explain (texts_of behind)) behind.first
 task_of form Diff behind = serves (differing Plans form) 2 (scripts kind.Old (Some kind.New) None) behind.first behind.second None
-task_of form Sweep behind = asking_of form (question_by Sweep (texts_of behind)) behind.first
+task_of form Sweep behind = sweeping_of form behind
 task_of form Summary behind = asking_of form (question_by Summary (texts_of behind)) behind.first
 task_of form Dot behind = asking_of form (question_by Dot (texts_of behind)) behind.first
 task_of form Ask behind = stands (standing form) (scripts kind.Loaded None (policy_if behind.second)) behind.first behind.second
-task_of form Verify behind = serves (verifying form) 2 (scripts kind.Loaded (Some kind.Policy) None) behind.first behind.second None
+task_of form Verify behind = judging_of form Promises behind
 task_of form Edits behind = serves (differing Settings form) 2 (scripts kind.Old (Some kind.New) None) behind.first behind.second None
 task_of form Steps behind = serves (altering form (is_some behind.third)) 3 (scripts kind.Loaded (Some kind.Change) (policy_if behind.third)) behind.first behind.second behind.third
 task_of form Advise behind = asking_of form (question_by Advise (texts_of behind)) behind.first

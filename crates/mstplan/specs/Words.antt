@@ -1,5 +1,6 @@
 -- What the program's words ask for.
-use Rattle.std.specs.Prelude.{Bool, true, Option, Some, None, is_some}
+use Rattle.std.specs.Prelude.{◌||◌, Bool, true, Option, Some, None, is_some}
+use Rattle.mst_ask.specs.questions.Asked.{names_policy}
 use Rattle.mst_ask.specs.questions.Ask.{advice_question, dot_question, explain_question, sweep_question}
 use Rattle.mst_ask.specs.questions.declared.asked.Question.{Question}
 use Rattle.mst_ask.specs.tracing.Asked.{path_question}
@@ -22,9 +23,9 @@ question_by _ words = None
 abbrev pub path_by : Placed → Option PathQuestion
 path_by words = path_question (wanted words.second) (wanted words.third) (wanted words.fourth) words.fifth
 
--- where they ask for a part of a sweep, a picture, advice or a path, its words are some that do
+-- where they ask for a part of a sweep, or for the risks of a policy, a picture, advice or a path, its words are some that do
 abbrev pub is_worded : Verb → Placed → Bool
-is_worded Sweep words = is_some (question_by Sweep words)
+is_worded Sweep words = names_policy words.second words.third || is_some (question_by Sweep words)
 is_worded Dot words = is_some (question_by Dot words)
 is_worded Advise words = is_some (question_by Advise words)
 is_worded Path words = is_some (path_by words)

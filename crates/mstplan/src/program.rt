@@ -13,8 +13,8 @@ use crate::serving::{
     answer_questions, ask_script, check_captures, diff_scripts, run_script, tell_steps,
     trace_script, verify_script,
 };
-use crate::words::{asked_for, path_of, question_of};
-use mst_ask::{PathQuestion, Question};
+use crate::words::{asked_for, is_of_policy, path_of, question_of};
+use mst_ask::{PathQuestion, PolicyQuestion, Question};
 use mst_between::Between;
 use mst_command::{Asked, Flags, Parted, Ran, Sources, Stop, Verb};
 use mst_io::Sink;
@@ -54,7 +54,18 @@ fn serve<'a, S: Sources, W: Write + Drop, K: Sink>(
             diff_scripts(alloc, sources, flags, plans, first, second, output, errors)
         }
         Verb::Ask => answer_questions(alloc, sources, flags, first, second, output, errors),
-        Verb::Verify => verify_script(alloc, sources, flags, first, second, output, errors),
+        Verb::Verify => {
+            let question = PolicyQuestion::Promises;
+            verify_script(
+                alloc, sources, flags, question, first, second, output, errors,
+            )
+        }
+        Verb::Sweep if is_of_policy(asked) => {
+            let question = PolicyQuestion::Risks;
+            verify_script(
+                alloc, sources, flags, question, first, second, output, errors,
+            )
+        }
         Verb::Edits => {
             let settings = Between::Settings;
             diff_scripts(

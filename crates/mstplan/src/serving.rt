@@ -17,7 +17,8 @@ ghost use Rattle.mstplan.specs.Serving.{IsWhyUnread, ServesWord, policy_if, scri
 use crate::endings::stop_unserved;
 use mst_altering::StepsWord;
 use mst_ask::{
-    AskWord, CheckWord, PathQuestion, PathWord, Question, QuestionWord, RunWord, VerifyWord,
+    AskWord, CheckWord, PathQuestion, PathWord, PolicyQuestion, Question, QuestionWord, RunWord,
+    VerifyWord,
 };
 use mst_between::{Between, DiffWord};
 use mst_command::{Flags, Names, Ran, Script, Scripts, Sources, Stop, serve_named};
@@ -151,23 +152,25 @@ pub(crate) fn diff_scripts<'a, S: Sources, W: Write + Drop, K: Sink>(
     serve_word(alloc, sources, flags, &word, scripts, names, output, errors)
 }
 
-/// Tells whether the network of a script does what a policy promises.
+/// Tells whether the network of a script does what a policy promises, or what the risks of the policy do to it.
 pub(crate) fn verify_script<'a, S: Sources, W: Write + Drop, K: Sink>(
     alloc: Global,
     sources: &S,
     flags: Flags,
+    question: PolicyQuestion,
     script: &'a str,
     policy: Option<&'a str>,
     output: W,
     errors: &mut K,
 ) -> Result<Ran<W>, Stop<'a>>
-    ensures ran { IfOk result (λ ran. ServesWord (S.is_given sources.now) (S.is_file sources.now) flags (verifying (form_of flags)) 2 (scripts Script.Loaded (Some Script.Policy) None) script.entry.now (word_of policy.entry) None (outputs W.contents (seen_by K.told K.contents K.lent) output errors.old) (outputs W.contents (seen_by K.told K.contents K.lent) ran.writer errors.new) ran.ended ran.hints) }
+    ensures ran { IfOk result (λ ran. ServesWord (S.is_given sources.now) (S.is_file sources.now) flags (verifying (form_of flags) question) 2 (scripts Script.Loaded (Some Script.Policy) None) script.entry.now (word_of policy.entry) None (outputs W.contents (seen_by K.told K.contents K.lent) output errors.old) (outputs W.contents (seen_by K.told K.contents K.lent) ran.writer errors.new) ran.ended ran.hints) }
     ensures stopped { IfErr result (IsWhyUnread (S.is_unopened sources.now) script.entry policy.entry None) }
     ensures untold { OnErr result (errors.new ≡ errors.old) }
 {
     let word = VerifyWord {
         alloc,
         form: flags.form(),
+        question,
     };
     let scripts = Scripts {
         first: Script::Loaded,

@@ -2,9 +2,10 @@ ghost use Rattle.std.specs.Prelude.{◌≡◌, true, Some, codes, option_map, If
 ghost use Rattle.mstplan.specs.Flags.{asked_with};
 ghost use Rattle.mst_command.specs.Strays.{first_unknown};
 ghost use Rattle.mst_command.specs.Words.{words_of, texts_of, wanted, are_plain, behind_name, without_dashes, is_help, is_version, IsAnswer, IsNoWord, IsRefusal};
+ghost use Rattle.mst_ask.specs.questions.Asked.{names_policy as names_policy_in};
 ghost use Rattle.mstplan.specs.Words.{path_by, question_by, are_worded as words_asking};
 
-use mst_ask::{PathQuestion, Question};
+use mst_ask::{PathQuestion, Question, names_policy};
 use mst_command::{Asked, Flags, Sources, Stop, VERBS, Verb, asked_by_words};
 
 /// What the network of a script is asked, where what is to be done asks it something: nothing, where the words are none that do.
@@ -44,12 +45,21 @@ pub(crate) fn path_of(asked: Asked<'_>) -> Option<PathQuestion>
     )
 }
 
+/// Whether the words of a sweep name a policy.
+pub(crate) fn is_of_policy(asked: Asked<'_>) -> bool
+    ensures { result ≡ names_policy_in (texts_of asked.entry.behind).second (texts_of asked.entry.behind).third }
+{
+    let behind = asked.behind;
+    names_policy(bytes_of(behind.second), bytes_of(behind.third))
+}
+
 /// Whether the words for a part of a sweep, a picture, advice or a path, if there are some, are some that ask.
 fn are_worded(asked: Asked<'_>) -> bool
     ensures { result ≡ words_asking (words_of asked.entry) }
 {
     match asked.verb {
-        Verb::Sweep | Verb::Dot | Verb::Advise => question_of(asked).is_some(),
+        Verb::Sweep => is_of_policy(asked) || question_of(asked).is_some(),
+        Verb::Dot | Verb::Advise => question_of(asked).is_some(),
         Verb::Path => path_of(asked).is_some(),
         _ => true,
     }

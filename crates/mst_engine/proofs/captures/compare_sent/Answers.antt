@@ -1,4 +1,4 @@
-use Rattle.std.proofs.Common.{◌≡◌, false, sym, ap, subst, ◌∙◌}
+use Rattle.std.proofs.Common.{◌≡◌, false, refl, sym, ap, subst, ◌∙◌}
 use Rattle.mst_net.specs.tables.Tables.{Net}
 use Rattle.mst_compare.specs.Comparison.{AreDifferences}
 use Rattle.mst_report.specs.Planned.{planned_state}
@@ -20,3 +20,8 @@ returns c =
     let told : replied (shape_of (Captures form)) number now reply ≡ compared form false number now port found = c.in-Ok-told.ensures now ∙ ap (compared form false number now port) c.as_slice.ensures.value in
     let whole : is_starved reply ≡ false = ap (λ (s : Step). s.lacking) told ∙ compared_whole form number now port found in
     (found, subst (λ (net : Net). AreDifferences net c.args.bpdu.now found) c.settled-plan.ensures c.in-Ok.ensures.found, told ∙ ap (λ lacks. compared form lacks number now port found) (sym whole))
+
+pub returns-in-Err : goal.returns-in-Err
+returns-in-Err c =
+    let there = c.has_list.ensures c.args.planner.now.contents.net c.args.bpdu.now c.args.port.now c.known.ensures.network c.requires.sent in
+    (there.0, there.1, refl)

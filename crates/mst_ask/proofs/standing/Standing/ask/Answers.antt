@@ -22,10 +22,10 @@ returns-in-Ok-Undo-clause-asked c =
     let old = c.args.self.now in
     subst (λ r. Asks old.form c.args.number (standing_of old) c.args.line.now r (replied old.form c.args.number (standing_of c.undo.new.self) c.undo.result)) (ap Ok (sym c.in-Ok-Undo.field-0-is) ∙ c.in-Ok-Undo.ensures.request) (c.undo.ensures.asked c.args.number c.args.line.now)
 
-pub returns-in-Ok-Verify-clause-asked : goal.returns-in-Ok-Verify-clause-asked
-returns-in-Ok-Verify-clause-asked c =
+pub returns-in-Ok-Policy-clause-asked : goal.returns-in-Ok-Policy-clause-asked
+returns-in-Ok-Policy-clause-asked c =
     let old = c.args.self.now in
-    subst (λ r. Asks old.form c.args.number (standing_of old) c.args.line.now r (replied old.form c.args.number (standing_of c.verify.new.self) c.verify.result)) (ap Ok (sym c.in-Ok-Verify.field-0-is) ∙ c.in-Ok-Verify.ensures.request) (c.verify.ensures.asked c.args.number c.args.line.now)
+    subst (λ r. Asks old.form c.args.number (standing_of old) c.args.line.now r (replied old.form c.args.number (standing_of c.judge.new.self) c.judge.result)) (ap Ok (sym c.in-Ok-Policy.field-0-is) ∙ c.in-Ok-Policy.ensures.request) (c.judge.ensures.asked c.args.number c.args.line.now)
 
 pub returns-in-Ok-Path-clause-asked : goal.returns-in-Ok-Path-clause-asked
 returns-in-Ok-Path-clause-asked c =
