@@ -24,7 +24,7 @@ TOOL, ALWAYS = "colour.py", "--always"
 PLAIN, BAD, GOOD, LOOK, DIM = b"\x1b[0m", b"\x1b[31m", b"\x1b[32m", b"\x1b[33m", b"\x1b[2m"
 ROLES = {b"Root": b"\x1b[1;34m", b"Designated": b"\x1b[32m", b"Alternate": b"\x1b[33m", b"Backup": b"\x1b[33m", b"Master": b"\x1b[35m", b"Disabled": b"\x1b[2m"}
 ROLE = b"(?:%b)" % b"|".join(ROLES)
-PLACE = rb"(?:now|lan \S+|bridge \S+)"
+PLACE = rb"(?:now|lan \S+|bridge \S+|risk \S+)"
 # How a line begins, what of it has a colour, and which one: None is that of a role. A name can be any word, so only places of lines count.
 RULES = [(re.compile(front), re.compile(part), style) for front, part, style in (
     (rb"(?:(?:old|new) )?line \d+ E|(?:change|policy) \d+ E|capture \d+ B|(?:explain|advise|path|dot) E", rb"^.+", BAD),

@@ -19,20 +19,20 @@ from command import OK, guarded, write  # noqa: E402
 TOOL = "completion.py"
 PARTS = "{part}/2 {part}/4 {part}/8 {part}/16"
 # Behind how many words what else is offered, PART standing for the number that begins a part: the command, that count, the last word, if it
-# matters, and the words.
+# matters, the words, and whether a file may stand there, too, as the policy whose risks `sweep` goes through.
 OFFERED = [
-    ("advise", 2, None, "root forward"),
-    ("dot", 2, None, "vlan"),
-    ("path", 5, None, "always"),
-    ("sweep", 2, None, f"pairs {PARTS}"),
-    ("sweep", 3, "pairs", PARTS),
+    ("advise", 2, None, "root forward", False),
+    ("dot", 2, None, "vlan", False),
+    ("path", 5, None, "always", False),
+    ("sweep", 2, None, f"pairs {PARTS}", True),
+    ("sweep", 3, "pairs", PARTS, False),
 ]
 # How a single quote stands in a text in single quotes.
 QUOTE_IN_ZSH, QUOTE_IN_FISH = r"'\''", r"\'"
 BASH = """# Completion of mstplan for bash, made of its help.
 _mstplan()
 {{
-    local word=${{COMP_WORDS[COMP_CWORD]}} command= last= at place=0 flags="--help --version" words= part=1
+    local word=${{COMP_WORDS[COMP_CWORD]}} command= last= at place=0 flags="--help --version" words= files= part=1 IFS=$' \\t\\n'
     COMPREPLY=()
     for (( at = 1; at < COMP_CWORD; at++ )); do
         last=${{COMP_WORDS[at]}}
@@ -55,6 +55,8 @@ _mstplan()
         COMPREPLY=( $(compgen -W "$flags" -- "$word") )
     elif [[ -n $words ]]; then
         COMPREPLY=( $(compgen -W "$words" -- "$word") )
+        IFS=$'\\n'
+        COMPREPLY+=( ${{files:+$(compgen -f -- "$word")}} )
     fi
 }}
 complete -o default -F _mstplan mstplan
@@ -62,7 +64,7 @@ complete -o default -F _mstplan mstplan
 ZSH = """#compdef mstplan
 # Completion of mstplan for zsh, made of its help.
 _mstplan() {{
-    local word=$words[CURRENT] command= last= part=1
+    local word=$words[CURRENT] command= last= files= part=1
     local -i at place=0
     local -a flags offered commands
     flags=(--help --version)
@@ -91,6 +93,7 @@ _mstplan() {{
         _describe -t commands command commands
     elif (( $#offered )); then
         compadd -- $offered
+        [[ -n $files ]] && _files
     else
         _files
     fi
@@ -150,7 +153,7 @@ def flags_by_command(page):
 
 def bash(page):
     flags = [f'        {it or chr(34) * 2}) flags+=" {" ".join(its)}" ;;' for it, its in flags_by_command(page).items()]
-    offered = [f'        {command}:{count}:{last or "*"}) words="{words.format(part="$part")}" ;;' for command, count, last, words in OFFERED]
+    offered = [f'        {command}:{count}:{last or "*"}) words="{words.format(part="$part")}"{" files=1" * files} ;;' for command, count, last, words, files in OFFERED]
     return BASH.format(flags="\n".join(flags), commands=" ".join(commands_in(page)), offered="\n".join(offered))
 
 
@@ -162,7 +165,7 @@ def quoted(text, mark):
 def zsh(page):
     commands = [f"        {quoted(f'{it}:{text}', QUOTE_IN_ZSH)}" for it, text in commands_in(page).items()]
     flags = [f"        ({it or chr(39) * 2}) flags+=({' '.join(its)}) ;;" for it, its in flags_by_command(page).items()]
-    offered = [f'        ({command}:{count}:{last or "*"}) offered=({words.format(part="$part")}) ;;' for command, count, last, words in OFFERED]
+    offered = [f'        ({command}:{count}:{last or "*"}) offered=({words.format(part="$part")}){" files=1" * files} ;;' for command, count, last, words, files in OFFERED]
     return ZSH.format(commands="\n".join(commands), flags="\n".join(flags), offered="\n".join(offered))
 
 
@@ -171,9 +174,10 @@ def fish(page):
     flags = [f"complete -c mstplan -n '__mstplan_is_of {' '.join(its)}' -l {it[2:]} -d {quoted(text, QUOTE_IN_FISH)}"
              for it, (its, text) in flags_in(page).items()]
     offered = []
-    for command, count, last, words in OFFERED:
+    for command, count, last, words, files in OFFERED:
         behind = " ".join(filter(None, (command, str(count), last)))
-        offered.append(f"complete -c mstplan -n '__mstplan_is_behind {behind}' -f -a '{words.replace(PARTS, '(__mstplan_parts)')}'")
+        alone = "" if files else " -f"
+        offered.append(f"complete -c mstplan -n '__mstplan_is_behind {behind}'{alone} -a '{words.replace(PARTS, '(__mstplan_parts)')}'")
     return FISH.format(parts=PARTS.format(part="$part"), flags="\n".join(flags), commands="\n".join(commands), offered="\n".join(offered))
 
 

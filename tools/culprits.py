@@ -10,6 +10,7 @@ import difflib
 import mstplan
 from interfaces import Names
 from judged import Place
+from risks import is_of_risk
 
 # How many words behind its own say what a line is about, and which line an edit takes back.
 ABOUT = {b"settreeprio": 2, b"settreeportprio": 3, b"settreeportcost": 3}
@@ -111,7 +112,7 @@ def places(program, scripts, path, policy, numbers):
     """By number of a line of the policy, which the old network keeps and the new one doesn't, where in the new script that was done."""
     old, new = scripts
     edits, lines = edits_between(program, old, new)
-    kept = b"\n".join(line if number in numbers else b"" for number, line in enumerate(mstplan.lines_in(policy), start=1))
+    kept = b"\n".join(line if number in numbers or is_of_risk(line) else b"" for number, line in enumerate(mstplan.lines_in(policy), start=1))
     with program.standing(old, kept) as asked:
         broken = first_edits(Standing(asked, lines), 0, len(lines), set(numbers))
     said = Lines(old, new, path)

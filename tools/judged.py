@@ -83,9 +83,14 @@ def words_told(policy):
     return [" ".join(line.decode(errors="replace").split()) for line in mstplan.lines_in(policy)]
 
 
+def is_promise(line):
+    """Whether a line of a policy, by its words, is to promise something: it isn't blank, no comment, and doesn't say what fails together."""
+    return bool(line) and not line.startswith("#") and line.partition(" ")[0] != "risk"
+
+
 def lines_told(lines, refused):
-    """The numbers of the lines of a policy that say something: a comment that is too long is refused, and says something, too."""
-    return [number for number, line in enumerate(lines, start=1) if line and not line.startswith("#") or number in refused]
+    """The numbers of the lines of a policy that have a case: those that promise something, and those that are refused."""
+    return [number for number, line in enumerate(lines, start=1) if is_promise(line) or number in refused]
 
 
 def refused_line(path, value):

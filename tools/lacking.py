@@ -7,6 +7,7 @@ Standard output and the exit status are PROGRAM's. On standard error its own hin
   policy line N no bridge acc22; acc2?             the first item of the line that isn't there, and the one name that is nearest
   policy line N core1:2 is a member of core1:1     the port is no logical one
   policy line N bridge acc2 is off                 so there is no failure to judge
+  policy line N no risk duct; duct-1?              no line of the policy says what fails in it; `nothing of risk R can fail`
   step K policy line N no bridge dist1             a line of the policy, behind a step
   change line N no bridge core9                    a line of the change
   explain no bridge Dist1; dist1?                  what the words themselves name
@@ -35,6 +36,7 @@ from dataclasses import dataclass
 sys.dont_write_bytecode = True
 
 import mstplan  # noqa: E402
+import risks  # noqa: E402
 import settings  # noqa: E402
 from command import STATUSES, Files, guarded, write  # noqa: E402
 from interfaces import Names  # noqa: E402
@@ -61,7 +63,7 @@ ARGUMENTS = {
     "apart": (None, "bridge", "bridge"), "leaves": (None, "bridge"), "together": (None, "bridge"), "leaf": ("tree", "bridge"), "depth": ("tree",),
     "hops": (None, None, "bridge"), "via": (None, "bridge", "bridge", "bridge"), "carries": ("LAN",), "avoids": ("LAN",), "fits": (),
 }
-SCOPES = {"bridge": "bridge", "lan": "LAN"}
+SCOPES = {"bridge": "bridge", "lan": "LAN", "risk": "risk"}
 # Of what these name the failure is asked for by the very name alone.
 NAMING = ("root", "via", "carries", "avoids")
 LEAST_LETTERS = 3
@@ -175,6 +177,9 @@ class Promise:
         words = [it.decode() for it in mstplan.words_in(line)]
         words = words[words[0] == "finally":]
         self.items = []
+        if words[0] == "risk":
+            self.word, self.items = words[0], [Item(SCOPES[words[2]], it) for it in words[3].split(",")]
+            return
         if words[0] == "after":
             self.items = [Item(SCOPES[words[1]], it, True) for it in words[2].split(",")]
         self.word, *words = words[{"after": 3, "always": 1}.get(words[0], 0):]
@@ -183,9 +188,9 @@ class Promise:
     def of(self, *its):
         return [it for it in self.items if it.of in its]
 
-    def asks(self, item, name):
-        """Whether it is judged after the failure of a name of an item. Where the expectation itself names that, the scope has the very name."""
-        is_own = self.word in NAMING and Item(item.of, name) in self.items
+    def asks(self, item, name, failures):
+        """Whether it is judged after some failures, of a name of an item. Where the expectation itself names one, the scope has the very name."""
+        is_own = self.word in NAMING and any(it in self.items for it in failures)
         return has(item.text, name) and (not is_own or Item(item.of, name, True) in self.items)
 
 
@@ -194,11 +199,12 @@ class Promise:
 
 class Network:
     """What there is in a network: its bridges and its LANs, each with whether it can fail, and its ports, each with the number of the logical
-    port that it goes by, which is None in no LAN. In the network of FILE itself near names are told. `names` is what FILE calls ports."""
+    port that it goes by, which is None in no LAN; and what fails in each risk of a policy. In the network of FILE itself near names are told.
+    `names` is what FILE calls ports."""
 
-    def __init__(self, standing, is_of_file, names):
+    def __init__(self, standing, is_of_file, names, policy):
         saved = settings.Network(standing.saved())
-        self.is_of_file, self.names = is_of_file, names
+        self.is_of_file, self.names, self.risks = is_of_file, names, {}
         self.bridges = {name: it.power == "on" for name, it in saved.bridges.items()}
         self.lans = {name: it.state == "up" for name, it in saved.lans.items()}
         self.ports = {(name, number): port.lan and number for name, it in saved.bridges.items() for number, port in it.ports.items()}
@@ -206,9 +212,22 @@ class Network:
             members = sorted((it["bridge"], it["port"]) for it in lag["ports"])
             least = dict(reversed(members))
             self.ports |= {it: least[it[0]] for it in members}
+        self.risks = self.risks_of(policy)
 
     def named(self, of):
-        return self.bridges if of == "bridge" else self.lans
+        return {"bridge": self.bridges, "LAN": self.lans, "risk": self.risks}[of]
+
+    def risks_of(self, policy):
+        """The failures of each risk that lines of a policy name; none where these are refused, or nothing of them can fail."""
+        lines, kinds = [it for it in map(risks.read, policy) if it], {risks.LAN: "LAN", risks.BRIDGE: "bridge"}
+        names = {kind: {it.encode() for it in self.named(of)} for kind, of in kinds.items()}
+        failing = {kind: [name.encode() for name, can_fail in self.named(of).items() if can_fail] for kind, of in kinds.items()}
+        found = risks.risks_in(policy, names, failing)
+        return {name.decode(): [Item(kinds[kind], it.decode()) for kind, it in found.get(name, ())] for name, _, _ in lines}
+
+    def failures_of(self, of, name):
+        """What fails at once by a name: of a risk what it has, of a LAN or a bridge that alone, if it can."""
+        return self.risks[name] if of == "risk" else [Item(of, name)] * self.named(of)[name]
 
     def is_there(self, of, item):
         return any(has(item, name) for name in self.named(of))
@@ -238,8 +257,8 @@ class Network:
         return f"port {text} is in no LAN" if port in self.ports else f"no port {text}"
 
     def is_judged(self, promise, item):
-        """Whether there is a failure of an item after which a promise is judged."""
-        return any(can_fail and promise.asks(item, name) for name, can_fail in self.named(item.of).items())
+        """Whether there is a failure, or a risk, of an item after which a promise is judged."""
+        return any(promise.asks(item, name, failures) for name in self.named(item.of) if (failures := self.failures_of(item.of, name)))
 
     def lacks(self, promise, code):
         """What a promise names that isn't there, by the number that is told of it: the first such item in the order of the line."""
@@ -253,7 +272,11 @@ class Network:
         if code == "E06":
             return next(self.absent("LAN", it.text) for it in promise.of("LAN") if not self.is_there("LAN", it.text))
         of, text = next((it.of, it.text) for it in promise.items if it.is_of_scope and not self.is_judged(promise, it))
-        return f"nothing of {text} can fail" if "*" in text else f"{of} {text} is {'off' if of == 'bridge' else 'down'}"
+        if "*" in text:
+            return f"nothing of {text} can fail"
+        if of == "risk":
+            return f"nothing of risk {text} can fail" if text in self.risks else self.absent(of, text)
+        return f"{of} {text} is {'off' if of == 'bridge' else 'down'}"
 
 
 class Networks:
@@ -261,7 +284,7 @@ class Networks:
 
     def __init__(self, program, opened, asked, refusals, ends):
         self.program, self.opened, self.script, self.ends = program, opened, asked.files[0], ends
-        self.standing, self.made, self.found, self.names = None, 0, {}, asked.names
+        self.standing, self.made, self.found, self.names, self.policy = None, 0, {}, asked.names, asked.policy
         self.lines = asked.change
         self.newer = mstplan.is_second(mstplan.lines_in(self.script)) - mstplan.is_second(self.lines)
         self.refused = {it.line for it in refusals if it.of == "change"}
@@ -275,7 +298,7 @@ class Networks:
                 if edit is not None:
                     self.standing.make(edit)
             self.made = self.ends[step]
-            self.found[step] = Network(self.standing, step == 0, self.names)
+            self.found[step] = Network(self.standing, step == 0, self.names, self.policy)
         return self.found[step]
 
 

@@ -8,7 +8,7 @@ PROGRAM judges each line: `steps` tells what a step does, `diff` which roles are
     moves VIDS                       the VLANs that go another way, or `-`; `turns TREES B,..`: the switches that notice it
     cuts VIDS off PART ..            what comes apart: each part but the largest; `restarts B:P,..`: ports that begin anew
     see B:P TREE OLD -> NEW, ..      each port whose role is another one: what `show spanning-tree` has to say then
-    risk FAILURE cuts VIDS off PART ..    a single failure that cuts, while the step stands, what it didn't cut before the change
+    risk FAILURE cuts VIDS off PART ..    a single failure, or a risk of the policy, that cuts, while the step stands, what it didn't cut before the change
     back EDIT                        the edits to the network before the step, and `back cuts VIDS`, what these would cut
     home N lines moves VIDS cuts VIDS     from step 2 on: all the way back in one go
     breaks N PLACE REASON            with a policy: what isn't kept behind the step that was kept before, and `mends N`
@@ -80,6 +80,11 @@ def off_in(records):
     return {vid: off(it["parts"]) for it in records for vid in vids_in(it["vids"])}
 
 
+def has_risks(policy):
+    """Whether a policy, if there is one, has lines that say what fails together."""
+    return policy is not None and any(mstplan.words_in(it)[:1] == [b"risk"] for it in mstplan.lines_in(policy))
+
+
 # ---- the networks between the steps
 
 
@@ -89,6 +94,7 @@ class Night:
     def __init__(self, program, network, change, policy, names):
         self.program, self.first, self.names = program, network, names
         self.lines = mstplan.lines_in(change)
+        self.policy = policy if has_risks(policy) else None
         self.newer = 1 - mstplan.is_second(self.lines)
         files = [network, change] if policy is None else [network, change, policy]
         *self.records, self.counts = program.records("steps", *files)
@@ -96,16 +102,18 @@ class Night:
 
     @functools.cached_property
     def risks(self):
-        """What single failures cut before the change."""
+        """What single failures and risks cut before the change."""
         return self.cut_by_failures(self.first)
 
     def is_bad(self):
         return bool(self.refused) or any(self.counts.get(f"{it}_count") for it in ("cutting", "failing", "unkept"))
 
     def cut_by_failures(self, network):
-        """Of each single failure of a network what it cuts off, by VIDs; in the order of `sweep`."""
-        found = {}
-        for it in self.program.records("sweep", network):
+        """Of each single failure of a network, and of each risk of the policy, what it cuts off, by VIDs; in the order of `sweep`."""
+        found, records = {}, self.program.records("sweep", network)
+        if self.policy is not None:
+            records += self.program.records("sweep", network, self.policy)
+        for it in records:
             if it["kind"] == "cut":
                 (failure,) = it["failure"].items()
                 found.setdefault(failure, []).append(it)

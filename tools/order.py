@@ -31,6 +31,7 @@ from dataclasses import dataclass
 sys.dont_write_bytecode = True
 
 import mstplan  # noqa: E402
+import risks  # noqa: E402
 from command import OK, STATUSES, TOLD, Files, guarded, natural, tell, tell_refused, write  # noqa: E402
 from interfaces import Names  # noqa: E402
 
@@ -93,7 +94,8 @@ class Judge:
         self.program, self.policy, self.network, self.most, self.names, self.verdicts = program, policy, network, most, names, {}
         records = program.records("verify", network, policy)
         promises = records[-1]["promises"]
-        self.lines = {it["line"] for it in promises}
+        # a line that says what fails together is unkept where it is refused
+        self.lines = {it["line"] for it in promises} | {number for number, line in enumerate(mstplan.lines_in(policy), 1) if risks.read(line)}
         self.final = {it["line"] for it in promises if it["finally"]}
         # lines that can't be read are refused everywhere, and break nothing; nor does a policy that says nothing (its line is 0)
         self.unread = [it for it in records if it["kind"] == "policy" and it["line"] not in {0, *self.lines}]

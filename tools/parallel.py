@@ -2,9 +2,9 @@
 """Runs what mstplan has parts of on all processors, and prints what one process prints, byte for byte, with its exit status.
 
 `sweep FILE`, `sweep FILE pairs` and their parts K/N are cut into parts of the failures or of the pairs. Of `verify FILE POLICY` the lines
-with `always`, which are looked at after each failure, are cut by failures; all other lines are one part. Flags stand as ever. Other words,
-and a policy without such lines, have no parts: a line on standard error says so, and they run as one. At a terminal standard error tells how
-far it is. Each input is read once, before PROGRAM runs.
+with `always`, which are looked at after each failure, are cut by failures; the risks of the policy are one part, and all other lines are one. Flags
+stand as ever. Other words, `sweep FILE POLICY`, and a policy without such lines, have no parts: a line on standard error says so, and they run as
+one. At a terminal standard error tells how far it is. Each input is read once, before PROGRAM runs.
 
 For example: parallel.py mstplan sweep campus.script pairs
 """

@@ -2,8 +2,9 @@
 prints of the whole is made of what it prints of the parts.
 
 A line `always E` is `E` in the first part, which judges the network itself and all other lines. In each other part it is `after lan L,.. E`
-and `after bridge B,.. E`, with the names of some failures: the same is expected after these, and all reasons are told, as each is named. What the
-network itself tells, too, is left out then, and counted behind `same`, as `verify` does.
+and `after bridge B,.. E`, with the names of some failures: the same is expected after these, and all reasons are told, as each is named. In the last
+one it is `after risk R,.. E`, behind the lines that say what fails together, if the policy has some. What the network itself tells, too, is left out
+then, and counted behind `same`, as `verify` does.
 """
 
 import contextlib
@@ -12,24 +13,24 @@ from dataclasses import dataclass, field
 
 import mstplan
 from command import tell, write
+from risks import BRIDGE, LAN, PLAIN, RISK, is_of_risk, risks_in
 from running import tell_errors
 
 TOOL = "parallel.py"
 FINALLY, ALWAYS, TOGETHER = b"finally", b"always", b"together"
 # Of an expectation which of its words name a bridge, or a LAN, that isn't looked at where it has failed itself.
-OWN_BRIDGES, OWN_LANS = {b"root": (2, 4), b"via": (2, 3, 4)}, {b"carries": (1,), b"avoids": (1,)}
+OWN = {BRIDGE: {b"root": (2, 4), b"via": (2, 3, 4)}, LAN: {b"carries": (1,), b"avoids": (1,)}}
 EXPECTATIONS = (b"root", b"region", b"role", b"reach", b"apart", b"together", b"leaf", b"depth", b"hops", b"via", b"carries", b"avoids", b"fits")
 LONGEST = mstplan.LONGEST
 JSON, HINTS = "--json", "--hints"
 # Each processor has so many parts at most, and each but one at least so many failures.
 PARTS_OF_A_PROCESSOR, LEAST_FAILURES = 4, 16
-PLAIN = re.compile(rb"[\t -~]*")
 POLICY_HINT = b"policy line "
 # How lines and records of `verify` stand: of a refused line of the policy its number, of a reason its line, where it is, and what it is.
 TEXT, RECORD = False, True
 REFUSED = {TEXT: re.compile(rb"policy ([0-9]+) .*"), RECORD: re.compile(rb'\{"kind":"policy","line":([0-9]+),.*')}
-REASON = {TEXT: re.compile(rb"fails ([0-9]+) (now|(?:lan|bridge) \S+) (.*)"),
-          RECORD: re.compile(rb'\{"kind":"fails","line":([0-9]+),"failure":(null|\{"(?:lan|bridge)":"[^"]*"\}),(.*)')}
+REASON = {TEXT: re.compile(rb"fails ([0-9]+) (now|(?:lan|bridge|risk) \S+) (.*)"),
+          RECORD: re.compile(rb'\{"kind":"fails","line":([0-9]+),"failure":(null|\{"(?:lan|bridge|risk)":"[^"]*"\}),(.*)')}
 TOLD = {TEXT: b"fails %d %b %b", RECORD: b'{"kind":"fails","line":%d,"failure":%b,%b'}
 SAME = {TEXT: b"same %d failures %d", RECORD: b'{"kind":"same","line":%d,"failure_count":%d}'}
 SAME_IN = {TEXT: re.compile(rb"same ([0-9]+) .*"), RECORD: re.compile(rb'\{"kind":"same","line":([0-9]+),.*')}
@@ -51,18 +52,18 @@ class Promise:
     def looks_back(self):
         return self.words[0] == TOGETHER
 
-    def own(self, places):
-        return {self.words[at] for at in places.get(self.words[0], ()) if at < len(self.words)}
+    def names(self, kind, name):
+        """Whether it names a LAN or a bridge by itself."""
+        return name in {self.words[at] for at in OWN[kind].get(self.words[0], ()) if at < len(self.words)}
 
     def now(self):
         """The line without `always`."""
         return b" ".join([FINALLY] * self.is_final + self.words)
 
     def after(self, kind, names):
-        """The lines that expect the same after failures of these names, each as long as a line may be; none where it has no room."""
-        own, front, behind = self.own(OWN_LANS if kind == b"lan" else OWN_BRIDGES), b"after %b " % kind, b" " + b" ".join(self.words)
-        lines, line = [], b""
-        for name in (it for it in names if it not in own):
+        """The lines that expect the same after failures, or risks, of these names, each as long as a line may be; none where it has no room."""
+        front, behind, lines, line = b"after %b " % kind, b" " + b" ".join(self.words), [], b""
+        for name in names:
             if line and len(front) + len(line) + 1 + len(name) + len(behind) > LONGEST:
                 lines.append(front + line + behind)
                 line = b""
@@ -87,21 +88,40 @@ def promise_in(number, line):
     return promise if promise.fits() else None
 
 
-def failures_in(saved):
-    """The names of the LANs that are up and of the bridges that are on, of a saved network."""
-    lines = [mstplan.words_in(it) for it in saved.split(b"\n")]
-    gone = {(it[0], it[1]) for it in lines if it[2:] in ([b"down"], [b"off"])}
-    return tuple(sorted(it[1] for it in lines if it[0] == b"add" + kind and (kind, it[1]) not in gone) for kind in (b"lan", b"bridge"))
+class Events:
+    """After what promises with `always` are judged in a network: LANs, bridges, and the risks of a policy with what fails in each."""
+
+    def __init__(self, saved, lines):
+        words = [mstplan.words_in(it) for it in saved.split(b"\n")]
+        out = {(it[0], it[1]) for it in words if it[2:] in ([b"down"], [b"off"])}
+        names = {kind: {it[1] for it in words if it[0] == b"add" + kind} for kind in (LAN, BRIDGE)}
+        failing = {kind: sorted(it for it in its if (kind, it) not in out) for kind, its in names.items()}
+        self.risks = risks_in(lines, names, failing)
+        self.failures = [(kind, name) for kind in (LAN, BRIDGE) for name in failing[kind]]
+        self.all = [*self.failures, *((RISK, name) for name in self.risks)]
+
+    def is_own(self, promise, kind, name):
+        """Whether some of it is of what the promise names by itself."""
+        return any(promise.names(*it) for it in (self.risks[name] if kind == RISK else [(kind, name)]))
+
+    def of(self, promise, some):
+        """Those of some after which a promise is judged."""
+        return [it for it in some if not self.is_own(promise, *it)]
+
+    def count(self, promise):
+        """In how many networks a promise with `always` is judged."""
+        return len(self.of(promise, self.all)) + (not promise.looks_back)
 
 
 class Part:
-    """A policy of some failures, and the promise of each of its lines."""
+    """A policy of some events, and the promise of each of its lines: none of those in front, which say what fails together."""
 
-    def __init__(self, promises, lans, bridges):
-        self.lines, self.promises = [], []
+    def __init__(self, promises, events, some, front):
+        self.lines, self.promises = list(front), [None] * len(front)
         for promise in promises:
-            for kind, names in ((b"lan", lans), (b"bridge", bridges)):
-                lines = promise.after(kind, names)
+            its = events.of(promise, some)
+            for kind in (LAN, BRIDGE, RISK):
+                lines = promise.after(kind, [name for of, name in its if of == kind])
                 self.lines += lines
                 self.promises += [promise] * len(lines)
 
@@ -109,11 +129,12 @@ class Part:
         return b"".join(b"%b\n" % line for line in self.lines)
 
 
-def parts_of(promises, lans, bridges, count):
-    """So many parts: their failures are equally many, and in order."""
-    every = [(b"lan", it) for it in lans] + [(b"bridge", it) for it in bridges]
+def parts_of(promises, events, risk_lines, count):
+    """So many parts of failures, equally many and in order, and one of all risks."""
+    every = events.failures
     cut = [every[len(every) * at // count:len(every) * (at + 1) // count] for at in range(count)]
-    return [Part(promises, *([name for its, name in those if its == kind] for kind in (b"lan", b"bridge"))) for those in cut if those]
+    parts = [Part(promises, events, those, []) for those in cut if those]
+    return parts + [Part(promises, events, events.all[len(every):], risk_lines)] * bool(events.risks)
 
 
 # ---- what is told
@@ -198,12 +219,12 @@ class Whole:
             if reason:
                 self.found[part.promises[int(reason[1]) - 1].number].add(reason[2], reason[3])
 
-    def printed(self, lans, bridges):
+    def printed(self, events):
         """All of it, and whether nothing is told but how many promises hold."""
         expected, held, *told = COUNTS[self.is_json].fullmatch(self.first.last).groups()
         expected, held = int(expected), int(held)
         for it in self.promises:
-            found, count = self.found[it.number], networks_of(it, lans, bridges)
+            found, count = self.found[it.number], events.count(it)
             self.rows[it.number] = found.rows(it.number, self.is_json)
             expected += it.looks_back and count > 0
             held += it.looks_back and count > 0
@@ -214,11 +235,11 @@ class Whole:
         is_wanted = not rows and not self.first.are_refused
         if not self.is_json:
             return self.first.front + b"".join(b"%b\n" % row for row in [*rows, b"verify expectations %d hold %d" % (expected, held)]), is_wanted
-        promises = b",".join(self.promises_told(told[0], lans, bridges))
+        promises = b",".join(self.promises_told(told[0], events))
         last = b'{"kind":"verify","expectation_count":%d,"hold_count":%d,"promises":[%b]}' % (expected, held, promises)
         return self.first.front + b",".join([*rows, last]) + b"]}\n", is_wanted
 
-    def promises_told(self, told, lans, bridges):
+    def promises_told(self, told, events):
         """What the last record tells of each promise: of a line with `always` that is another one than of the line without."""
         by_number = {it.number: it for it in self.promises}
         for record in split(told, b'},{"line":') if told else []:
@@ -229,7 +250,7 @@ class Whole:
             elif number not in by_number:
                 yield with_always(found, 0, b"null")
             else:
-                count = networks_of(by_number[number], lans, bridges)
+                count = events.count(by_number[number])
                 yield with_always(found, count, b"null" if count == 0 else b"false" if self.rows[number] else b"true")
 
 
@@ -238,12 +259,6 @@ def with_always(found, count, holds):
     front = b"finally " if found[3] == b"true" else b""
     told = b'{"line":%b,"promise":"%balways %b","scope":"always","finally":%b,"network_count":%d,"holds":%b}'
     return told % (found[1], front, found[2].removeprefix(front), found[3], count, holds)
-
-
-def networks_of(promise, lans, bridges):
-    """In how many networks a promise with `always` is judged."""
-    failures = len(set(lans) - promise.own(OWN_LANS)) + len(set(bridges) - promise.own(OWN_BRIDGES))
-    return failures + (not promise.looks_back)
 
 
 # ---- the word
@@ -268,11 +283,11 @@ def verify(flags, files, calls):
     script, policy = files
     lines = mstplan.lines_in(policy)
     promises = [it for it in map(promise_in, range(1, len(lines) + 1), lines) if it]
-    lans, bridges = failures_in(calls.saved(script)) if promises else ((), ())
+    risk_lines = [it for it in lines if is_of_risk(it)]
+    events = Events(calls.saved(script) if promises else b"", risk_lines)
     if not promises:
         tell(TOOL, "the policy has no line with always to cut, and verify runs as one")
-    count = min(calls.jobs * PARTS_OF_A_PROCESSOR, (len(lans) + len(bridges)) // LEAST_FAILURES + 1)
-    parts = parts_of(promises, lans, bridges, count)
+    parts = parts_of(promises, events, risk_lines, min(calls.jobs * PARTS_OF_A_PROCESSOR, len(events.failures) // LEAST_FAILURES + 1))
     for it in promises:
         lines[it.number - 1] = it.now()
     paths, first = [calls.written("script", script), calls.written("policy", policy)], calls.written("now", b"\n".join(lines))
@@ -282,6 +297,6 @@ def verify(flags, files, calls):
         whole = Whole(promises, JSON in flags, lines_in(now.printed, JSON in flags))
         for part, its in zip(parts, ended):
             whole.add(part, lines_in(its.printed, JSON in flags))
-    printed, is_wanted = whole.printed(lans, bridges)
+    printed, is_wanted = whole.printed(events)
     write(printed)
     return mstplan.WANTED if is_wanted else mstplan.TOLD

@@ -23,6 +23,8 @@ TOOL = "promises.py"
 # How many trees, sets of VLANs and links have lines of their own, and slips a comment; how long such a line is at most, and any line.
 TREES, VLANS, LINKS, MOST_LOOKS, LONGEST, LONGEST_LINE, WIDTH = 4, 5, 5, 4, 200, 4000, 120
 MOST_TRIED, HIGHEST_VID = 30, 4094
+# How many bridges a network has at most in which hops are asked for after each failure: that takes a walk from each bridge for each failure, some 4 s with 100 bridges.
+MOST_FAR = 120
 
 
 def expanded(runs):
@@ -275,8 +277,13 @@ class Judge:
             longest[it["line"] - 1] = max(longest[it["line"] - 1], it["hop_count"])
         return longest
 
-    def add_hops(self, guesses):
-        """Adds the most hops between any two bridges in one island of a VLAN: now, and after a failure where there are more."""
+    def add_hops(self, guesses, bridges):
+        """Adds the most hops between any two bridges in one island of a VLAN: now, and after a failure where there are more. In a network of
+        too many bridges it adds those of now alone."""
+        if bridges > MOST_FAR:
+            guesses.add(*[f"hops 1-4094 {now} *" for now in self.longest(["hops 1-4094 0 *"]) if now])
+            guesses.told.append(f"no `always hops`: with more than {MOST_FAR} bridges it takes long to judge")
+            return
         now, always = self.longest(["hops 1-4094 0 *", "always hops 1-4094 0 *"])
         most = max(now, always)
         guesses.add(*[f"hops 1-4094 {now} *"] * (0 < now < most))
@@ -318,7 +325,7 @@ def policy_of(judge, asked, words):
     guesser = Guesser(asked, words)
     guesses = guesser.guess()
     judge.add_depths(guesses, guesser.trees)
-    judge.add_hops(guesses)
+    judge.add_hops(guesses, len(asked.every))
     holding, made = judge.holding(guesses.lines()), []
     for title, group in guesses.groups:
         taken = [next((line for line in lines if line in holding), None) for lines in group]

@@ -28,7 +28,8 @@ const speedText = speed => {
 };
 const counted = (count, one, more = `${one}s`) => `${count} ${count === 1 ? one : more}`;
 const treeName = tree => (tree === CIST ? "CIST (0)" : `MST ${tree}`);
-const entityName = ({ what, name }) => `${what === "lan" ? "LAN" : "switch"} ${name}`;
+const ENTITIES = { lan: "LAN", bridge: "switch", risk: "all of the risk" };
+const entityName = ({ what, name }) => `${ENTITIES[what]} ${name}`;
 /** A link that the keyboard reaches, to what data-NAME says. */
 const jump = (name, value, text = value) => markup`<a class="jump" role="link" tabindex="0" data-${name}="${value}">${text}</a>`;
 /** The interface that a port of the shown network is, where the script says it: its own name, and that of the bundle that it is of. */
