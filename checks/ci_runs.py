@@ -35,7 +35,9 @@ COUNTS = re.compile(r"verify expectations ([0-9]+) hold ([0-9]+)")
 TOLD = re.compile(r"(line|policy|fails|same) ([0-9]+) (.*)")
 # What a policy may have beside promises: one with marks that XML and annotations have to escape, and bytes that aren't ASCII.
 ODD = [b"# a comment", b"", b"root 0 <b>&\"'%0A::error,file=x:", b"reach 10 n\xffo*", b"root 0", b"\tfits ", b"roots\r", b"finally  region *",
-       b"together 1-9 *"]
+       b"together 1-9 *", b"risk hall bridge A,B", b"risk duct lan nope", b"after risk hall reach 1-20 *"]
+# What fails together, and what is promised after that.
+RISKS = ["risk hall bridge A,B", "after risk hall reach 1-20 *"]
 
 
 def written(folder, name, data):
@@ -169,7 +171,7 @@ def faults_of_base(program, number):
     text = sketch.text_of(program, old)
     # `steps` judges what is meant to leave in the last network alone, so it doesn't say which edit broke that
     promises = [it for it in verify_runs.lines_of(verify_runs.Judged(text, text)) if not it.startswith("leaves ")]
-    policy = "\n".join(["root 0 none", *promises, ""]).encode()
+    policy = "\n".join(["root 0 none", *promises, *RISKS, ""]).encode()
     scripts = ["\n".join([*it, ""]).encode() for it in (old, changed(draws, old))]
     with tempfile.TemporaryDirectory() as folder:
         paths = [written(folder, *it) for it in (("old", scripts[0]), ("new", scripts[1]), ("policy", policy))]
@@ -196,7 +198,7 @@ def unkept_in(printed):
 def faults_of_steps(program, number):
     """What differs of a change in steps: which step breaks a line, and the status."""
     script, change = sketch.drawn(number), steps_runs.drawn_change(number)
-    policy = "\n".join([*steps_runs.POLICY, "roots", "root 0 none", ""]).encode()
+    policy = "\n".join([*steps_runs.POLICY, *RISKS, "roots", "root 0 none", ""]).encode()
     with tempfile.TemporaryDirectory() as folder:
         paths = [written(folder, name, "\n".join([*lines, ""]).encode()) for name, lines in (("script", script), ("change", change))]
         paths.append(written(folder, "policy", policy))

@@ -107,7 +107,7 @@ PROMISES = {
     "root 0 A B": ("E01 no such expectation", "root takes TREE B, or TREE B next C; 3 words stand here"),
     "root 4095 A": ("E03 bad VID or tree", "root TREE B: TREE is 0 to 4094"),
     "lan X root 0 A": ("E01 no such expectation", "no expectation lan; after lan?"),
-    "after lan": ("E01 no such expectation", "after takes lan NAMES or bridge NAMES, and an expectation behind it"),
+    "after lan": ("E01 no such expectation", "after takes lan NAMES, bridge NAMES or risk NAMES, and an expectation behind it"),
     "always": ("E01 no such expectation", "a scope has an expectation behind it"),
     "role 0 A:1 Rootish": ("E02 bad argument", "role TREE PORTS ROLES: ROLES is of Root, Designated, Alternate, Backup, Master and Disabled, "
                            "as in Root,Designated"),

@@ -42,7 +42,14 @@ MOST_IN_PAIRS = 20
 MOST_TOLD = 40
 # Their answers say no words behind these.
 BARE = ("diff", "verify", "steps", "edits")
+# The answer to what a script and a policy by standard input ask says so of these.
+BY_POLICY = {("sweep", "-"): ["sweep", "risks"]}
 # What is promised of each script: little of it is kept.
+RISKS = """risk duct lan *
+risk hall bridge A,core1
+risk hall lan X,core2-dist2
+risk pair bridge A,B
+"""
 PROMISES = """# what is promised
 root 0 A
 finally root 0 B
@@ -50,6 +57,7 @@ together 1-4094 *
 always together 1-4094 *
 finally always reach 1-9 *
 after lan * reach 1-20 *
+after risk * reach 1-20 *
 root 0 B next A
 root 0 core2 next core1
 root 1 A
@@ -249,7 +257,7 @@ def is_promise(value):
     """Whether this is what is told of a promise: it holds or doesn't just where it is judged in some network."""
     if not (isinstance(value, dict) and list(value) == ["line", "promise", "scope", "finally", "network_count", "holds"]):
         return False
-    good = is_number(value["line"]) and is_string(value["promise"]) and value["scope"] in (None, "always", "after lan", "after bridge")
+    good = is_number(value["line"]) and is_string(value["promise"]) and value["scope"] in (None, "always", "after lan", "after bridge", "after risk")
     return good and isinstance(value["finally"], bool) and is_number(value["network_count"]) and (value["holds"] in (True, False) if value["network_count"] else value["holds"] is None)
 
 
@@ -265,7 +273,7 @@ TESTS = {
     "array of active ports": all_are(is_active),
     "array of arrays of strings": all_are(all_are(is_string)),
     "object": lambda value: isinstance(value, dict),
-    "failure": lambda value: isinstance(value, dict) and len(value) == 1 and set(value) <= {"lan", "bridge"},
+    "failure": lambda value: isinstance(value, dict) and len(value) == 1 and set(value) <= {"lan", "bridge", "risk"},
     "two numbers": lambda value: isinstance(value, list) and len(value) == 2 and all(map(is_number, value)) and value[0] <= value[1],
     "array of promises": all_are(is_promise),
 }
@@ -314,7 +322,7 @@ class Above:
             return {"region": values["bridges"][0]} if kind.first == "region" else {"bridge": self.told["bridge"]} if kind.first == "msti" else {}
         if kind.enum == "ContestLine" or kind.enum == "ExplainLine" and kind.first != "explain":
             return {key: self.told[key] for key in ("tree", "bridge", "port")}
-        if kind.enum == "SweepLine" and kind.name in ("Lan", "Bridge"):
+        if kind.enum == "SweepLine" and kind.name in ("Lan", "Bridge", "Risk"):
             return {"failure": {kind.first: values[kind.first]}}
         if kind.enum == "PathLine":
             # each says what was asked, as the first line does
@@ -338,7 +346,7 @@ class Above:
             raise ValueError(f"{values}, and above it stands {wanted}")
         if kind.first == "step":
             self.step = values["step"]
-        if kind.first in ("tree", "vlan", "mstconfid", "explain", "path", "lan", "bridge", "pair", "step") and kind.enum != "BridgeCommand":
+        if kind.first in ("tree", "vlan", "mstconfid", "explain", "path", "lan", "bridge", "risk", "pair", "step") and kind.enum != "BridgeCommand":
             self.told = {**self.told, **values} if kind.enum == "TreeLine" else dict(values)
         return True
 
@@ -452,7 +460,8 @@ def difference(program, command, words, script):
             return next(f"{one!r} is told, and {other!r} by its record" for one, other in pairs if one != other)
         if not all(map(order_of, values)):
             return "members in another order"
-        if not are_asked(values, [command] if command in BARE else [command, *words[1:]], script):
+        asked = [command] if command in BARE else [command, *words[1:]]
+        if not are_asked(values, BY_POLICY.get(tuple(asked), asked), script):
             return "an answer to what isn't asked"
         if command in ("run", "check") and not is_each_asked(values, script):
             return "a query that is answered twice, or never"
@@ -740,7 +749,8 @@ def cases(folder):
     for number, (name, script) in enumerate(named):
         yield name, "ask", [written(folder, f"ask{number}", quiet(script))], standing(quiet(script))
         path = written(folder, f"promised{number}", quiet(script))
-        yield name, "verify", [path, "-"], PROMISES
+        yield name, "sweep", [path, "-"], RISKS + PROMISES
+        yield name, "verify", [path, "-"], RISKS + PROMISES
         yield name, "steps", [path, "-"], CHANGE
         yield name, "steps", [path, written(folder, "change", CHANGE), "-"], PROMISES
     for number, ((name, script), (other, new)) in enumerate(itertools.pairwise(named)):

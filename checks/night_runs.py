@@ -29,9 +29,13 @@ sys.path.append(os.path.join(TOP, "tools"))
 import mstplan  # noqa: E402
 import sketch  # noqa: E402
 import steps_runs  # noqa: E402
+import verify_runs  # noqa: E402
 
 COUNT, IN_THE_GATE = 60, 6
+# What fails together, by the lines of each risk; some networks haven't all of it.
+RISKS = {"hall": [("bridge", "A,B")], "duct": [("lan", "L*"), ("bridge", "C")]}
 POLICY = ["root 0 A", "always root 0 B", "reach 1-9 *", "always reach 5 A,B", "region A,C"]
+POLICY += [f"risk {name} {what} {items}" for name, lines in RISKS.items() for what, items in lines]
 
 
 # ---- what the texts say
@@ -61,11 +65,26 @@ def seen_told(old, new):
     return [f"see {bridge}:{port} {', '.join(told)}" for (bridge, port), told in sorted(ports.items())]
 
 
-def cut_by_failures(program, network, text):
-    """What each single failure cuts, by the failures in the order of `sweep`."""
+def has_one(items, name):
+    return any(verify_runs.has(item, name) for item in items.split(","))
+
+
+def risks_of(failures, names):
+    """The risks that have a failure, each with the edits of all: a line of which an item is for nothing adds none."""
+    for name, lines in RISKS.items():
+        whole = [(what, items) for what, items in lines if all(any(verify_runs.has(item, it) for it in names[what]) for item in items.split(","))]
+        edits = [edit for what, its, edit in failures if any(of == what and has_one(items, its) for of, items in whole)]
+        if edits:
+            yield ("risk", name), edits
+
+
+def cut_by_failures(program, network, text, has_risks):
+    """What each single failure cuts, by the failures in the order of `sweep`, and with a policy each risk of it."""
     bridges, lans, off, down, _ = sketch.states_of(text.saved)
     failures = sketch.failures_of([it for it in lans if it not in down], [it for it in bridges if it not in off])
-    return {(what, name): sketch.change_told(text, sketch.text_of(program, [*network, edit]))[2] for what, name, edit in failures}
+    events = [((what, name), [edit]) for what, name, edit in failures]
+    events += risks_of(failures, {"lan": lans, "bridge": bridges}) if has_risks else []
+    return {event: sketch.change_told(text, sketch.text_of(program, [*network, *edits]))[2] for event, edits in events}
 
 
 def risks_told(first, now):
@@ -134,7 +153,7 @@ class Drawn:
         refused = self.refused
         lines = [f"step {number} lines {numbers[0]}-{numbers[-1]}", *(f"refused {it} {refused[it][0]}" for it in numbers if it in refused)]
         lines += [f"moves {moved_told(old, new)[0]}", *steps_runs.turns_told(old, new), *off_told(sketch.change_told(old, new)[2])]
-        failures = cut_by_failures(self.program, steps_runs.behind(self.script, self.change, numbers[-1]), new)
+        failures = cut_by_failures(self.program, steps_runs.behind(self.script, self.change, numbers[-1]), new, bool(self.policy))
         return [*lines, *steps_runs.restarts_told(old, new), *seen_told(old, new), *risks_told(first, failures)]
 
     def ways(self, number, told, old, new, first, network):
@@ -157,7 +176,7 @@ class Drawn:
         steps, told = steps_runs.steps_of(self.change, self.refused), sheet_of(self.program, self.script, self.change, self.policy)
         if len(steps) != len(told):
             return [f"network {self.number}: {len(steps)} steps, {told}"]
-        risks, faults = cut_by_failures(self.program, self.script, first), []
+        risks, faults = cut_by_failures(self.program, self.script, first, bool(self.policy)), []
         network = ["mstplan 2", *(" ".join(it) for it in first.saved if it != ["mstplan", "2"])]
         then = verified(self.program, sketch.edits_of(self.script)) if self.policy else []
         for number, (numbers, lines) in enumerate(zip(steps, told), 1):

@@ -28,6 +28,7 @@ import verify_runs  # noqa: E402
 
 COUNT, IN_THE_GATE, MOST_PARTS = 200, 24, 4
 OF_LANS = ("addlan", "dellan", "lan", "speed")
+RISKS = ["risk hall bridge A,B", "risk duct lan L1", "after risk * reach 1-20 *"]
 TOGETHER = ["together 1-20 *", "together 1-4094 A,B,C", "always together 1-4094 *", "finally together 1-20 *"]
 ORDERED = re.compile(r"^# steps ([0-9,]+|-)(?:, of which ([0-9]+) break the policy)?$", re.MULTILINE)
 
@@ -42,7 +43,7 @@ def policy_of(program, script, draws):
         return []
     broken = [line for line in every if line not in kept]
     others = [draws.one_of(broken or kept), f"finally {draws.one_of(every)}", "together 1-20 *", "always together 1-4094 *", "root 0", "region Z", "# nothing"]
-    return [draws.one_of(kept), draws.one_of(kept), *[draws.one_of(others)] * draws.below(2)]
+    return [draws.one_of(kept), draws.one_of(kept), *[draws.one_of(others)] * draws.below(2), *RISKS * (draws.below(3) == 0)]
 
 
 def edit(draws):

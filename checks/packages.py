@@ -158,15 +158,17 @@ ASKED = {
     "fish": "source $argv[1]; complete -C (string join -- ' ' mstplan $argv[2..]) | string split -f1 \\t",
 }
 PLAIN = {"bash": ["--norc"], "zsh": ["-f"], "fish": ["--no-config"]}
+# How each names a folder where a file may stand; zsh's own word for files is stood in for.
+A_FOLDER = {"bash": "share", "zsh": "", "fish": "share/"}
 
 
 def completion_of(root, shell, commands):
     """What is wrong with the completion of a shell."""
-    path = os.path.join(root, "usr", package.COMPLETIONS[shell])
+    folder, path = os.path.join(root, "usr"), os.path.join(root, "usr", package.COMPLETIONS[shell])
     wrong = ran(shell, "-n", path, text=True).stderr.splitlines()
-    for words, wanted in completed(commands):
+    for words, wanted in [*completed(commands), (["sweep", "campus.script", "sha"], A_FOLDER[shell].split())]:
         behind = [] if shell == "fish" else [shell]
-        its = ran(shell, *PLAIN[shell], "-c", ASKED[shell], *behind, path, *words, text=True)
+        its = ran(shell, *PLAIN[shell], "-c", ASKED[shell], *behind, path, *words, text=True, cwd=folder)
         wrong += [] if sorted(its.stdout.split()) == sorted(wanted) else [f"{shell} offers behind mstplan {' '.join(words)}: {its.stdout} {its.stderr}"]
     return wrong
 

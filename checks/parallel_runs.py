@@ -30,13 +30,15 @@ import verify_runs  # noqa: E402
 COUNT, IN_THE_GATE = 100, 4
 PARALLEL = os.path.join(TOOLS, "parallel.py")
 SCOPES = [b"", b"always ", b"always ", b"\talways\t ", b"finally always ", b"finally "]
-SCOPES += [b"after lan * ", b"after bridge * ", b"after lan L*,L1 "]
+SCOPES += [b"after lan * ", b"after bridge * ", b"after lan L*,L1 ", b"after risk * "]
 AS_ONE = b"parallel.py: the policy has no line with always to cut, and verify runs as one\n"
 # Lines that say nothing, that can't be read or that name what isn't there, and long ones.
 ODD = [b"", b"# always fits", b"always", b"always always fits", b"always finally fits", b"finally always", b"always fits x", b"always root 0",
        b"always  fits\r",
        b"always root 0 none_such", b"always root 77 A", b"always reach 0 *", b"always together 1-9 none*", b"always reach 10 n\xffo*", b"always roots 0",
-       b"always fits" + b" " * 4085, b"always fits" + b" " * 4086, b"always together 1-4094 " + b",".join([b"*"] * 900), b"after lan none fits"]
+       b"always fits" + b" " * 4085, b"always fits" + b" " * 4086, b"always together 1-4094 " + b",".join([b"*"] * 900), b"after lan none fits",
+       b"risk", b"risk hall bridge", b"risk -hall bridge *", b"risk hall lan *,", b"risk hall port *", b"risk hall bridge * x", b"always risk hall bridge *",
+       b"\trisk  hall\tbridge  A* ", b"risk hall lan *" + b" " * 4082, b"after risk hall fits"]
 
 
 def written(folder, name, data):
@@ -64,6 +66,7 @@ def policy_of(program, script, draws):
     other = [it.encode() for it in verify_runs.lines_of(verify_runs.Judged(sketch.text_of(program, sketch.drawn(draws.below(1000))), text))]
     lines = [draws.one_of(SCOPES) + draws.one_of(every) for _ in range(8)] + [draws.one_of(SCOPES) + draws.one_of(other) for _ in range(4)]
     lines += [draws.one_of(ODD) for _ in range(draws.below(4))]
+    lines[draws.below(3):0] = [it.encode() for it in verify_runs.drawn_risks(text, draws)[0]] if draws.below(2) else []
     return b"\n".join(draws.one_of([lines, lines[::-1], lines[:3]]) + [b""] * draws.below(2))
 
 
@@ -167,7 +170,8 @@ def faults_of_names(_program):
     """What is wrong with long lists of names: no line is longer than one may be, and each name stands once, but for the promise's own."""
     names = [b"lan-%05d" % it for it in range(3000)]
     promise = promise_parts.promise_in(1, b"always carries lan-00007 1-4094" + b" " * 60)
-    lines = promise.after(b"lan", names)
+    events = promise_parts.Events(b"".join(b"addlan %b\n" % it for it in names), [])
+    lines = promise.after(b"lan", [name for _, name in events.of(promise, events.all)])
     found = [name for line in lines for name in line.split()[2].split(b",")]
     is_right = found == [it for it in names if it != b"lan-00007"] and max(map(len, lines)) <= 4096 and len(lines) < 9
     return [] if is_right else [f"names: {len(lines)} lines of {len(found)} names"]

@@ -311,7 +311,7 @@ def diff_cases(folder):
 
 
 # Words that name no part of a sweep, and what is told of them.
-NO_PARTS = ("0/1", "2/1", "0/0", "1/0", "1/65537", "1", "1/", "/1", "/", "", "1/2/3", "a/b", "+1/2", "1 /2", "1/99999999999", "1:2")
+NO_PARTS = ("0/1", "2/1", "0/0", "1/0", "1/65537", "1", "1/", "/1", "/", "", "1/2/3", "1/99999999999")
 NO_PART = b"error: PART is K/N, two numbers in decimal with 1 <= K <= N <= 65536, and pairs or nothing stands before it\n"
 
 # What each single failure does, worked out by hand.
@@ -424,7 +424,9 @@ def sweep_cases(folder):
         ("sweep, fewer VLANs on a link", ["sweep", "-"], FEW_ON_BC, 1, OF_FEW_ON_BC, b""),
         ("sweep, what is down and off", ["sweep", "-"], C_IS_OFF, 1, OF_C_IS_OFF, b""),
         ("sweep with no file", ["sweep"], b"", 2, b"", USAGE),
-        ("sweep with a word that names no part", ["sweep", script, script], b"", 2, b"", NO_PART),
+        ("sweep of a policy without risks", ["sweep", script, os.devnull], b"", 0, b"sweep risks 0 cuts 0\n", b""),
+        ("sweep of a policy, script and policy from one input", ["sweep", "-", "-"], TRIANGLE, 0, b"sweep risks 0 cuts 0\n", b""),
+        ("sweep of a policy that isn't there", ["sweep", script, absent], b"", 3, b"", cannot),
         ("sweep with a word behind a part", ["sweep", script, "1/2", "2/2"], b"", 2, b"", NO_PART),
         ("sweep with a fourth word", ["sweep", script, "pairs", "2/2", "2/2"], b"", 2, b"", USAGE),
         ("sweep pairs", ["sweep", script, "pairs"], b"no\n", 1, TRIANGLE_IN_PAIRS, b""),

@@ -97,14 +97,31 @@ FAILING, NAMED, UNKEPT, HINTED, KEPT = 2_102, 1_300, 30_000, 30_000, 100_000
 LETTERS = "0123456789ABCDEFGHIJKLMNOPQRSTUVWXYZabcdefghijklmnopqrstuvwxyz"
 
 
-def after_failures(folder):
-    """Two bridges that no LAN joins, and LANs that nothing is in: of `always` what is so in the network is told once, and a failure
-    whose very name the scope has is told in any case."""
+def idle_lans(folder):
+    """Two bridges that no LAN joins, and LANs that nothing is in."""
     lans = ["".join(pair) for pair in itertools.islice(itertools.product(LETTERS, repeat=2), FAILING)]
-    script = written(folder, "LANs that are idle", [*SMALL[:2], *(f"addlan {name}" for name in lans)])
+    return lans, written(folder, "LANs that are idle", [*SMALL[:2], *(f"addlan {name}" for name in lans)])
+
+
+def after_failures(folder):
+    """Of `always` what is so in the network is told once, and a failure whose very name the scope has is told in any case."""
+    lans, script = idle_lans(folder)
     policy = written(folder, "policy of failures", ["always reach 1-4094 A,B", f"after lan {','.join(lans[:NAMED])} reach 1-4094 A,B"])
     told = ["fails 1 now reach 1-4094 parts A B", f"same 1 failures {FAILING}", *(f"fails 2 lan {name} reach 1-4094 parts A B" for name in lans[:NAMED])]
     return Large("many failures in a line", ["verify", script, policy], b"", 1, exactly(as_bytes([*told, "verify expectations 2 hold 0"])))
+
+
+def after_risks(folder):
+    """Each LAN is a risk of its own, and all of them are one with a line for each: each failure and each risk is counted."""
+    lans, script = idle_lans(folder)
+    risks = [*(f"risk {name} lan {name}" for name in lans), *(f"risk all lan {name}" for name in lans)]
+    policy, number = written(folder, "policy of risks", [*risks, "always reach 1-4094 A,B"]), len(risks) + 1
+    told = [f"fails {number} now reach 1-4094 parts A B", f"same {number} failures {2 * FAILING + 1}", "verify expectations 1 hold 0"]
+    swept = [*(f"risk {name} roots - ports 0 cut -" for name in [*lans, "all"]), f"sweep risks {FAILING + 1} cuts 0"]
+    return [
+        Large("many risks of a policy", ["verify", script, policy], b"", 1, exactly(as_bytes(told))),
+        Large("a sweep of many risks", ["sweep", script, policy], b"", 0, exactly(as_bytes(swept))),
+    ]
 
 
 def line_cases(folder):
@@ -342,7 +359,7 @@ def wide_cases(folder):
 
 
 def cases(folder):
-    of_policies = policy_cases(folder) + [after_failures(folder)] + line_cases(folder) + table_cases(folder)
+    of_policies = policy_cases(folder) + [after_failures(folder)] + after_risks(folder) + line_cases(folder) + table_cases(folder)
     return of_policies + advice_cases(folder) + change_cases(folder) + session_cases(folder) + wide_cases(folder)
 
 

@@ -27,6 +27,7 @@ IN_THE_GATE = 20
 POLICY = [
     "reach 1-4094 *", "root 0 A", "always reach 5 A,B", "root 2 B", "region A,C", "roots", "finally root 0 B", "finally always together 1-9 *",
     "together 1-4094 A,B,C", "always together 3,7 *", "finally region A,Z", "always finally fits",
+    "risk hall bridge A,B", "risk hall lan L1", "after risk hall reach 1-20 *", "finally after risk hall together 1-9 *",
 ]
 UNREAD = {6: "E01 no such expectation", 12: "E01 no such expectation"}
 OF_THE_END = {number for number, line in enumerate(POLICY, 1) if line.startswith("finally ")}
@@ -155,23 +156,43 @@ def lacks(text, words):
     return "" if bridges and all(any(verify_runs.has(item, it) for it in bridges) for item in items) else "E04 no such bridge"
 
 
+def risks_of(text):
+    """Which line of a risk is refused in a network, and why; and what fails in each risk, if something does."""
+    bridges, lans, off, down, _ = sketch.states_of(text.saved)
+    standing, refused, risks = sketch.failures_of([it for it in lans if it not in down], [it for it in bridges if it not in off]), {}, {}
+    for number, (word, name, what, items) in ((number, line.split()) for number, line in enumerate(POLICY, 1) if line.startswith("risk ")):
+        if not all(any(verify_runs.has(item, it) for it in (lans if what == "lan" else bridges)) for item in items.split(",")):
+            refused[number] = verify_runs.LACKING[what]
+            continue
+        risks.setdefault(name, []).extend(it for it in standing if it[0] == what and any(verify_runs.has(item, it[1]) for item in items.split(",")))
+    return refused, {name: those for name, those in risks.items() if those}
+
+
 def unkept(program, script, text, first, is_last):
     """Why each line of the policy isn't kept in a network: `first` is the network before the change, and None of that itself."""
     told, failures = {}, None
+    refused, risks = risks_of(text)
+    after = {name: verify_runs.after_all(program, script, text, those) for name, those in risks.items()}
     for number, line in enumerate(POLICY, 1):
         words = line.split()
         is_final, is_always = "finally" in words, "always" in words
         line = " ".join(it for it in words if it not in ("finally", "always"))
-        told[number] = []
-        if number in UNREAD or is_final and not is_last:
+        told[number] = [f"policy {number} {refused[number]}"] if number in refused else []
+        if number in UNREAD or is_final and not is_last or line.startswith("risk "):
             continue
+        risk = line.split()[2] if line.startswith("after risk ") else None
+        line = line.removeprefix(f"after risk {risk} ")
         missing = lacks(text, line.split())
         if missing:
             told[number] = [f"policy {number} {missing}"]
             continue
-        here = list(verify_runs.reasons(verify_runs.Judged(text, text, None, first), line))
-        if is_always:
-            failures = failures if failures is not None else list(verify_runs.everywhere(program, script, text))
+        if risk:
+            reasons = [f"fails {number} risk {risk} {it}" for it in verify_runs.reasons(after[risk], line)] if risk in after else []
+            told[number] = reasons if risk in after else [f"policy {number} {verify_runs.NOTHING.split(' ', 2)[2]}"]
+            continue
+        here = list(verify_runs.reasons(verify_runs.Judged(text, text, (), first), line))
+        if is_always and failures is None:
+            failures = [*verify_runs.everywhere(program, script, text), *((f"risk {name}", judged) for name, judged in after.items())]
         later = [(place, list(verify_runs.reasons(judged, line))) for place, judged in failures] if is_always else []
         # as `verify` tells it, but not after how many failures something is left out
         told[number] = [it for it in verify_runs.once(number, here, later, True) if not it.startswith("same ")]

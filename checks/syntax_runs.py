@@ -31,8 +31,10 @@ HERE = os.path.dirname(os.path.abspath(__file__))
 # Words in the form of arguments, by what these are; and words that are in the form of none.
 RIGHT = {"B": "core1", "L": "a-b.1", "MAC": "00:1B-21:aa:00:01", "CNAME": "EDGE/1!", "VIDS": "1-9,20", "VIDS|all|none": "none", "Tree": "2",
          "Steps": "3", "Next": "next", "FirstBridge": "acc1", "Bridge": "core1", "NextBridge": "9", "Lan": "x", "Vids": "10", "Names": "core*,x,*", "Ports": "core1:2,x*:*", "Roles": "Root,Disabled"}
-SCOPES = ("always", "finally", "finally  always", "after lan x*,y", "finally after\tbridge *")
-SCOPES += ("always always", "always finally", "after x", "after lan", "after lan x:1", "after lan x always")
+SCOPES = ("always", "finally", "finally  always", "after lan x*,y", "finally after\tbridge *", "after risk x*,y", "finally after risk\t*")
+SCOPES += ("always always", "always finally", "after x", "after lan", "after lan x:1", "after lan x always", "after risk", "after risk x:1")
+# Lines of what fails together: right ones of LANs and of bridges.
+RISKS = (["risk", "hall-a", "lan", "core*,x,*"], ["risk", "1", "bridge", "core1"])
 WRONG = ("-x", "a_name_of_more_than_16", "1,,2", "é", "1-", "ab:", "maybe")
 VIM = """set nocompatible
 set encoding=utf-8
@@ -78,8 +80,8 @@ def script_lines():
 def policy_lines():
     lines = open(os.path.join(TOP, "examples", "campus.policy"), encoding="utf-8").read().splitlines()
     text = syntax.commands.read(syntax.POLICY)
-    for word, arguments in re.findall(r'^    b"(\w+)" \w+ \[([\w ]*)\];$', text, re.MULTILINE):
-        right = [word, *(RIGHT[it] for it in arguments.split())]
+    forms = re.findall(r'^    b"(\w+)" \w+ \[([\w ]*)\];$', text, re.MULTILINE)
+    for right in [*([word, *(RIGHT[it] for it in arguments.split())] for word, arguments in forms), *RISKS]:
         lines += [" ".join(it) for it in changed(right)]
         lines += [f"{scope} {' '.join(right)}" for scope in SCOPES]
     return [*dict.fromkeys(lines), "", "always", "finally", "# x"]

@@ -6,7 +6,8 @@ usage: verify_runs.py PROGRAM [COUNT] [FIRST]    (so many networks, or 200; prog
 
 Networks are drawn by their numbers. A policy is made of each of them: of its roots, its regions, the ports that block, what VLANs reach and
 what LANs carry. All of it holds. Then each promise is turned into its contrary, and behind these stand some of both after failures. Of lists
-of what fails the lines are told of which nothing is judged. The exit status is 1 where an answer differs.
+of what fails the lines are told of which nothing is judged. Some networks get risks, and promises after them, by the texts of `run` of the
+network with all failures of a risk. The exit status is 1 where an answer differs.
 """
 
 import concurrent.futures
@@ -39,16 +40,16 @@ NOTHING_RECORD = '{"kind":"policy","line":0,"error":"E17","text":"nothing to jud
 
 
 class Judged:
-    """The texts of a network that is judged, those of the one before the failure, the bridge that failed, and the texts of what `together`
+    """The texts of a network that is judged, those of the one before the failures, the bridges that failed, and the texts of what `together`
     looks back at."""
 
-    def __init__(self, text, before, gone=None, earlier=None):
-        self.text, self.before, self.gone, self.earlier = text, before, gone, earlier
+    def __init__(self, text, before, lost=(), earlier=None):
+        self.text, self.before, self.lost, self.earlier = text, before, lost, earlier
         self.bridges, self.off = sorted(text.regions), set(sketch.states_of(text.saved)[2])
         self.over = functools.lru_cache(self.over)
 
     def named(self, names):
-        return [it for it in self.bridges if it != self.gone and any(has(item, it) for item in names.split(","))]
+        return [it for it in self.bridges if it not in self.lost and any(has(item, it) for item in names.split(","))]
 
     def ports(self, items):
         """The ports of a list, but for those that stopped with the failure."""
@@ -147,7 +148,7 @@ def reach_reasons(judged, vids, names):
 
 def together_reasons(judged, vids, names):
     """Parts of those that were in one island before and are on in both; nothing where nothing is before."""
-    among = [it for it in sorted(judged.earlier.regions) if it != judged.gone and any(has(item, it) for item in names.split(","))] if judged.earlier else []
+    among = [it for it in sorted(judged.earlier.regions) if it not in judged.lost and any(has(item, it) for item in names.split(","))] if judged.earlier else []
 
     def kept(islands):
         return [those for those in (tuple(it for it in island if it in among) for island in islands) if those]
@@ -304,11 +305,17 @@ def answer(policy, told, lines):
     return [*lines, *([] if policy else [NOTHING]), *itertools.chain.from_iterable(told), f"verify expectations {len(policy)} hold {holding}"]
 
 
-def differing(program, script, policy, wanted, status):
+def differing(program, script, policy, wanted, status, word="verify"):
     with tempfile.NamedTemporaryFile("w", suffix=".policy", encoding="ascii") as file:
         file.write("\n".join([*policy, ""]))
         file.flush()
-        return sketch.differing(program, ["verify", "-", file.name], script, wanted, status)
+        return sketch.differing(program, [word, "-", file.name], script, wanted, status)
+
+
+def after_all(program, script, text, failures):
+    """The network after some failures, all at once."""
+    after = sketch.text_of(program, [*script, *(edit for _, _, edit in failures)])
+    return Judged(after, text, {name for what, name, _ in failures if what == "bridge"}, text)
 
 
 def failed(program, script, text, choice):
@@ -316,8 +323,7 @@ def failed(program, script, text, choice):
     bridges, lans, off, down, _ = sketch.states_of(text.saved)
     failures = sketch.failures_of([it for it in lans if it not in down], [it for it in bridges if it not in off])
     for what, name, edit in sorted({choice.one_of(failures) for _ in range(3)}, key=failures.index) if failures else []:
-        after = sketch.text_of(program, [*script, edit])
-        yield f"{what} {name}", Judged(after, text, name if what == "bridge" else None, text)
+        yield f"{what} {name}", after_all(program, script, text, [(what, name, edit)])
 
 
 # ---- what is told once
@@ -335,7 +341,7 @@ def everywhere(program, script, text):
     """The networks of all failures."""
     bridges, lans, off, down, _ = sketch.states_of(text.saved)
     for what, name, edit in sketch.failures_of([it for it in lans if it not in down], [it for it in bridges if it not in off]):
-        yield f"{what} {name}", Judged(sketch.text_of(program, [*script, edit]), text, name if what == "bridge" else None, text)
+        yield f"{what} {name}", after_all(program, script, text, [(what, name, edit)])
 
 
 def own_of(line):
@@ -394,6 +400,71 @@ def unjudged(program, script, text, choice):
     return ["\n".join([f"{told}, in place of {wanted}, of", *policy, "and", *script])]
 
 
+# ---- what fails together
+
+RISKS = ["duct-1", "duct-2", "hall", "x"]
+LACKING = {"lan": "E06 no such LAN", "bridge": "E04 no such bridge"}
+
+
+def drawn_risks(text, choice):
+    """A few lines of risks with what refuses each, and the failures of the risks that have some, by their first lines: a refused line adds none."""
+    bridges, lans, off, down, _ = sketch.states_of(text.saved)
+    standing = sketch.failures_of([it for it in lans if it not in down], [it for it in bridges if it not in off])
+    lines, meant = {}, {}
+    for _ in range(choice.below(5) + 1):
+        what, names = choice.one_of([("lan", lans), ("bridge", bridges)])
+        items = choice.one_of([*lists_of(names, choice), "nope*"] if names else ["*"])
+        name = choice.one_of(RISKS)
+        is_whole = all(any(has(item, it) for it in names) for item in items.split(","))
+        lines[f"risk {name} {what} {items}"] = "" if is_whole else LACKING[what]
+        if is_whole:
+            meant.setdefault(name, []).append((what, items.split(",")))
+    risks = {name: [it for it in standing if any(it[0] == what and any(has(item, it[1]) for item in items) for what, items in parts)] for name, parts in meant.items()}
+    return lines, {name: those for name, those in risks.items() if those}
+
+
+def is_own(line, failures):
+    return any(f"{what} {name}" in own_of(line) for what, name, _ in failures)
+
+
+def with_risks(program, script, judged, lines, choice, refused):
+    """What differs of promises after risks, all failures of each at once, behind lines of risks: with `always`, after one by its name, and after all. And of what
+    each risk does alone."""
+    text = judged.text
+    said, risks = drawn_risks(text, choice)
+    events = {name: after_all(program, script, text, those) for name, those in risks.items()}
+    policy, told = list(said), []
+    bad = [f"policy {place} {why}" for place, why in enumerate(said.values(), 1) if why]
+    singles = list(everywhere(program, script, text))
+
+    def promise(scope, line, rows):
+        policy.append(f"{scope} {line}")
+        told.append(rows(len(policy)))
+
+    for line in lines:
+        now, others = reasons(judged, line), [it for it in risks if not is_own(line, risks[it])]
+        at_once = [(f"risk {it}", reasons(events[it], line)) for it in others]
+        alone = [(place, reasons(it, line)) for place, it in singles if place not in own_of(line)]
+        if alone or at_once or not line.startswith("together"):
+            promise("always", line, lambda place, now=now, later=alone + at_once: once(place, now, later, True))
+        if at_once:
+            promise("after risk *", line, lambda place, now=now, later=at_once: once(place, now, later, False))
+        for name in list(risks)[:1]:
+            promise(f"after risk {name}", line, lambda place, name=name, line=line: [f"fails {place} risk {name} {it}" for it in reasons(events[name], line)])
+    policy.append("after risk none-such fits")
+    bad.append(f"policy {len(policy)} {NOTHING.split(' ', 2)[2]}")
+    holding = sum(not it for it in told)
+    wanted = [*refused, *bad, *itertools.chain.from_iterable(told), f"verify expectations {len(told)} hold {holding}"]
+    faults = differing(program, script, policy, wanted, 1)
+    rows, cuts = [], 0
+    for name, after in events.items():
+        of_risk, is_cut = sketch.failure_lines("risk", name, text, after.text)
+        rows += of_risk
+        cuts += is_cut
+    swept = [*refused, *bad[:-1], *rows, f"sweep risks {len(events)} cuts {cuts}"]
+    return faults + differing(program, script, policy, swept, 1 if refused or bad[:-1] or cuts else 0, "sweep")
+
+
 def faults_of(program, number):
     script, draws = sketch.drawn(number), sketch.Draws(number + 10**7)
     text, refused = sketch.text_of(program, script), sketch.refused(program, script)
@@ -416,6 +487,8 @@ def faults_of(program, number):
             policy.append(f"after {place} {line}")
             later.append([f"fails {len(policy)} {place} {it}" for it in reasons(after, line)])
     faults += differing(program, script, policy, answer(policy, later, refused), 1 if refused or any(later) or not policy else 0)
+    if number % 4 == 1:
+        faults += with_risks(program, script, judged, [it for it in scoped[draws.below(7) :: 7] if len(it) < 200][:6] + ["together 1-4094 *"], draws, refused)
     if number % 4 == 0:
         some = [it for it in scoped[draws.below(7) :: 7] if len(it) < 200][:12]
         some += ["together 1-4094 *", *["together 1-20 A,B,C"] * ({"A", "B", "C"} <= set(judged.bridges))]
