@@ -50,9 +50,11 @@ OF_POLICIES = {
     "Next": (A_WORD, "next"), "Vids": (A_NUMBER, VIDS), "Names": (A_NAME, listed(ITEM)),
     "Ports": (A_NAME, listed(rf"{ITEM}:(?:{NUMBER}|\*)")), "Roles": (A_WORD, listed(f"(?:{'|'.join(ROLES)})")),
 }
-# An expectation that neither a scope nor `finally` stands in front of.
-ALONE = "leaves"
-SCOPE = [("scope", "finally"), ("scope", rf"always|after[ \t]+(?:lan|bridge)[ \t]+{listed(ITEM)}")]
+# What neither a scope nor `finally` stands in front of.
+ALONE = ("leaves", "risk")
+SCOPE = [("scope", "finally"), ("scope", rf"always|after[ \t]+(?:lan|bridge|risk)[ \t]+{listed(ITEM)}")]
+# A line that says what fails together.
+RISK = ("edit", "risk", [(A_NAME, NAME), (A_WORD, "(?:lan|bridge)"), (A_NAME, listed(ITEM))])
 QUERIES = re.compile("show|mark$|changes$|save$|digest$")
 SCOPES = {"edit": "keyword.other", "query": "support.function", A_NAME: "variable.other", A_NUMBER: "constant.numeric", A_WORD: "constant.language",
           AN_ADDRESS: "constant.other", "scope": "keyword.control"}
@@ -69,9 +71,14 @@ def script_rows():
 
 
 def policy_rows():
-    """Each expectation in the same way."""
+    """Each expectation in the same way, and a line of a risk."""
     rows = re.findall(r'^    b"(\w+)" \w+ \[([\w ]*)\];$', commands.read(POLICY), re.MULTILINE)
-    return [("edit", word, [OF_POLICIES[it] for it in arguments.split()]) for word, arguments in rows]
+    return [*(("edit", word, [OF_POLICIES[it] for it in arguments.split()]) for word, arguments in rows), RISK]
+
+
+def before(front, word):
+    """What may stand in front of a line that has this word."""
+    return [] if word in ALONE else front
 
 
 # ---- VS Code
@@ -92,7 +99,7 @@ def grammar(name, scope, rows, front, version):
     begun = rf"^[ \t]*({scopes}(?:{words}))(?![^ \t])(.*)$"
     patterns = [{"match": r"^[ \t]*#.*$", "name": "comment.line.number-sign.mstplan"}]
     patterns += [{"match": r"\A[ \t]*mstplan[ \t]+2[ \t]*$", "name": "keyword.control.mstplan"}] * version
-    patterns += [line_of([] if word == ALONE else front, [kind, *(it for it, _ in arguments)], [word, *(form for _, form in arguments)]) for kind, word, arguments in rows]
+    patterns += [line_of(before(front, word), [kind, *(it for it, _ in arguments)], [word, *(form for _, form in arguments)]) for kind, word, arguments in rows]
     patterns += [{"match": begun, "captures": {"1": {"name": "keyword.other.mstplan"}, "2": {"name": "invalid.illegal.mstplan"}}},
                  {"match": r"^[ \t]*([^ \t].*)$", "captures": {"1": {"name": "invalid.illegal.mstplan"}}}]
     return json.dumps({"name": name, "scopeName": scope, "comment": "Made by docs/syntax.py", "patterns": patterns}, indent=1) + "\n"
@@ -105,19 +112,23 @@ def in_vim(form):
     return form.replace("(?:", "%(").replace(r"[ \t]", r"\s")
 
 
+def scopes_in_vim(front):
+    return "".join(f"%(%({in_vim(form)})\\s+)?" for _, form in front)
+
+
 def vim(prefix, rows, front, version):
     """The lines of a syntax file. Of two matches that begin at one place the later one counts."""
     words = "|".join(dict.fromkeys(word for _, word, _ in rows))
-    scopes = "".join(f"%(%({in_vim(form)})\\s+)?" for _, form in front)
+    scopes = scopes_in_vim(front)
     yield '" Syntax of mstplan\'s files, made by docs/syntax.py\nif exists("b:current_syntax")\n  finish\nendif\nsyn case match'
     yield f"syn match {prefix}Wrong /^\\s*\\S.*$/"
     yield f"syn match {prefix}Rest /\\s*\\S.*$/ contained"
     yield f"syn match {prefix}Edit /\\v^\\s*{scopes}%({words})\\ze%(\\s|$)/ nextgroup={prefix}Rest"
     for kind, word, arguments in rows:
         behind = "".join(f"\\s+{in_vim(form)}" for _, form in arguments)
-        yield f"syn match {prefix}{kind.capitalize()} /\\v^\\s*{'' if word == ALONE else scopes}{word}\\ze{behind}\\s*$/ contains={prefix}Scope nextgroup=@{prefix}Argument skipwhite"
+        yield f"syn match {prefix}{kind.capitalize()} /\\v^\\s*{scopes_in_vim(before(front, word))}{word}\\ze{behind}\\s*$/ contains={prefix}Scope nextgroup=@{prefix}Argument skipwhite"
     chained = f"contained nextgroup=@{prefix}Argument skipwhite"
-    yield f"syn match {prefix}Scope /\\v<%(finally|always|after\\s+%(lan|bridge)\\s+\\S+)\\ze\\s/ contained" if front else ""
+    yield f"syn match {prefix}Scope /\\v<%(finally|always|after\\s+%(lan|bridge|risk)\\s+\\S+)\\ze\\s/ contained" if front else ""
     yield f"syn match {prefix}Name /\\S\\+/ {chained}"
     yield f"syn match {prefix}Number /\\v[0-9,-]+\\ze%(\\s|$)/ {chained}"
     yield f"syn match {prefix}Address /\\v{in_vim(OF_SCRIPTS['MAC'][1])}\\ze%(\\s|$)/ {chained}"
