@@ -264,7 +264,7 @@ pub enum Key {
     Promises,
     /// The words of a promise, with one space between.
     Promise,
-    /// `always`, `after lan` or `after bridge`: the scope of a promise, null where it has none; `always` of a path.
+    /// `always`, `after lan`, `after bridge` or `after risk`: the scope of a promise, null where it has none; `always` of a path.
     Scope,
     /// Whether a promise is one of the end alone.
     Finally,
