@@ -6,4 +6,4 @@ pub mod Things
 pub mod NamedIn
 pub mod Remaining
 pub mod RisksSeen
-pub mod Kept
+pub mod LinesKept

@@ -18,7 +18,7 @@ use Rattle.mst_view.specs.Aggregation.{same_name}
 use Rattle.mst_view.specs.Viewed.{IsView, Viewed, member_lan}
 use Rattle.mst_view.specs.declared.in_view.MemberLan.{MemberLan}
 use Rattle.mst_roles.proofs.forest_lemmas.Lists.{mapped_twice}
-use Rattle.mst_reasons.specs.Risks.{has_one, items_lack, risk_lines, risk_of, risks}
+use Rattle.mst_reasons.specs.Risks.{has_one, items_lack, lines_of, risk_lines, risk_of, risks}
 use Rattle.mst_reasons.specs.SeenRisks.{seen_have, seen_lines, seen_risk, seen_risk_in, seen_whole}
 use Rattle.mst_reasons.specs.declared.missing.Missing.{Missing}
 use Rattle.mst_reasons.specs.declared.missing.Missing.TheVariants as lacking
@@ -83,8 +83,8 @@ module _ (net : Net) (numbers : Numbers) (v : Viewed) (view : IsView net numbers
   lines_seen lines = λ i. filter (λ (line : RiskLine). have_seen line.items i) (filter_map (λ (line : PolicyLine). risk_in line.read) lines)
 
   -- and the risks that these say
-  pub risks_seen : (lines : List PolicyLine) → flat_map (seen_risk (failures net) (seen_lines v lines)) (each_once same_name (map (λ (line : RiskLine). line.name) (seen_lines v lines))) ≡ risks net lines
+  pub risks_seen : (lines : List PolicyLine) → flat_map (λ name. seen_risk (failures net) (lines_of name (seen_lines v lines)) name) (each_once same_name (map (λ (line : RiskLine). line.name) (seen_lines v lines))) ≡ risks net lines
   risks_seen lines =
       let those : List RiskLine = risk_lines net lines in
-      ap (λ (those : List RiskLine). flat_map (seen_risk (failures net) those) (each_once same_name (map (λ (line : RiskLine). line.name) those))) (lines_seen lines)
+      ap (λ (those : List RiskLine). flat_map (λ name. seen_risk (failures net) (lines_of name those) name) (each_once same_name (map (λ (line : RiskLine). line.name) those))) (lines_seen lines)
       ∙ kept_of_each (risk_of net those) (λ (event : Event). has_any event.failures) (each_once same_name (map (λ (line : RiskLine). line.name) those))

@@ -1,7 +1,7 @@
-ghost use Rattle.std.specs.Prelude.{◌≡◌, ◌++◌, IfOk, OnOk, filter, map};
+ghost use Rattle.std.specs.Prelude.{◌≡◌, ◌++◌, ◌∷◌, [], ℕ, List, IfOk, OnOk, filter, map};
 ghost use Rattle.std.specs.Option.{option_map};
 ghost use Rattle.mst_reasons.specs.Risks.{fails_by as fails_by_lines, items_have as items_have_of, lines_of as lines_of_name, risks as risks_in};
-ghost use Rattle.mst_reasons.specs.SeenRisks.{seen_lines, seen_risk, seen_risk_in, seen_whole};
+ghost use Rattle.mst_reasons.specs.SeenRisks.{lines_at, seen_lines, seen_risk, seen_risk_in, seen_whole};
 ghost use Rattle.mst_sweep.specs.Failures.{failures as failures_of};
 ghost use Rattle.mst_graph.specs.Lists.{each_once};
 ghost use Rattle.mst_tables.specs.Tables.{Net, Numbers};
@@ -9,7 +9,7 @@ ghost use Rattle.mst_view.specs.Aggregation.{same_name};
 ghost use Rattle.mst_view.specs.Viewed.{IsView};
 
 use crate::items::{have_bridges, have_lans};
-use indexmap::IndexSet;
+use indexmap::{IndexMap, IndexSet};
 use mst_ids::Name;
 use mst_policy::{PolicyLine, RiskItems, RiskLine};
 use mst_sweep::{Event, Failure};
@@ -90,21 +90,35 @@ fn whole_lines<'a>(
     Ok(whole)
 }
 
-/// Those of the risk of this name.
-fn lines_of<'a>(
+/// Adds a line to those of its name.
+fn add_line<'a>(
+    alloc: Global,
+    line: &'a RiskLine,
+    kept: &mut IndexMap<Name, Vec<&'a RiskLine>>,
+) -> Result<(), AllocError>
+    ensures { OnOk result ((name : List ℕ) → lines_at kept.new name ≡ lines_at kept.old name ++ lines_of_name name (line.now ∷ [])) }
+{
+    let mut lines = match kept.swap_remove(&line.name) {
+        Some(lines) => lines,
+        None => Vec::new(alloc),
+    };
+    lines.push(line)?;
+    kept.insert(line.name, lines)?;
+    Ok(())
+}
+
+/// The lines of each name, in their order. It takes about one step for each line.
+fn lines_by_name<'a>(
     alloc: Global,
     lines: &[&'a RiskLine],
-    name: &Name,
-) -> Result<Vec<&'a RiskLine>, AllocError>
-    ensures { IfOk result (λ own. map (λ risk. risk.now) own.items ≡ lines_of_name name.now (map (λ risk. risk.now) lines.now)) }
+) -> Result<IndexMap<Name, Vec<&'a RiskLine>>, AllocError>
+    ensures { IfOk result (λ kept. (name : List ℕ) → lines_at kept name ≡ lines_of_name name (map (λ risk. risk.now) lines.now)) }
 {
-    let mut own = Vec::new(alloc);
+    let mut kept = IndexMap::new(alloc);
     for n in 0..lines.len() {
-        if lines[n].name == *name {
-            own.push(lines[n])?;
-        }
+        add_line(alloc, lines[n], &mut kept)?;
     }
-    Ok(own)
+    Ok(kept)
 }
 
 /// Whether one of these lines says that this fails.
@@ -136,18 +150,32 @@ fn failures_by(
     Ok(own)
 }
 
+/// Those of these failures that one of the lines of this name says.
+fn named_failures(
+    alloc: Global,
+    failures: &[Failure],
+    kept: &IndexMap<Name, Vec<&RiskLine>>,
+    name: &Name,
+) -> Result<Vec<Failure>, AllocError>
+    ensures { IfOk result (λ own. own.items ≡ filter (fails_by_lines (lines_at kept.now name.now)) failures.now) }
+{
+    match kept.get(name) {
+        Some(lines) => failures_by(alloc, failures, lines.as_slice()),
+        None => Ok(Vec::new(alloc)),
+    }
+}
+
 /// Adds the risk of this name to these, if it has a failure.
 fn add_named(
     alloc: Global,
     failures: &[Failure],
-    lines: &[&RiskLine],
+    kept: &IndexMap<Name, Vec<&RiskLine>>,
     name: Name,
     risks: &mut Vec<Risk>,
 ) -> Result<(), AllocError>
-    ensures { OnOk result (risks.new.items ≡ risks.old.items ++ seen_risk failures.now (map (λ risk. risk.now) lines.now) name) }
+    ensures { OnOk result (risks.new.items ≡ risks.old.items ++ seen_risk failures.now (lines_at kept.now name) name) }
 {
-    let named = lines_of(alloc, lines, &name)?;
-    let own = failures_by(alloc, failures, named.as_slice())?;
+    let own = named_failures(alloc, failures, kept, &name)?;
     if own.is_empty() {
         drop(own);
     } else {
@@ -182,9 +210,10 @@ pub(crate) fn risks(
 {
     let whole = whole_lines(alloc, view, lines)?;
     let names = names(alloc, whole.as_slice())?;
+    let kept = lines_by_name(alloc, whole.as_slice())?;
     let mut risks = Vec::new(alloc);
     for name in names.as_slice() {
-        add_named(alloc, failures, whole.as_slice(), *name, &mut risks)?;
+        add_named(alloc, failures, &kept, *name, &mut risks)?;
     }
     Ok(risks)
 }
