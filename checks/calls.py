@@ -22,7 +22,7 @@ CALLS = {
     "mst_lang": "parse_line Line Edit Query Fault Fault::code Fault::text",
     "mst_net": "Network Ready Ahead Contents Saved Refusal Table Network::new Network::prepare Network::ahead Network::commit Network::abandon",
     "mst_tables": "Contents Table Refusal Refusal::code Refusal::text",
-    "mst_save": "put_saved put_digest",
+    "mst_edits": "put_edits put_saved put_digest",
     "mst_view": "View View::lag",
     "mst_lag": "view lag_text",
     "mst_config": "digest hmac_md5 mcid Regions regions_of",

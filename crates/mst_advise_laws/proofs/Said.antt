@@ -1,10 +1,10 @@
 -- The row of a setting that is advised says its edit.
-use Rattle.std.proofs.Common.{◌≡◌, ℕ, List, refl}
+use Rattle.std.proofs.Common.{refl}
 use Rattle.mst_lang.specs.Ranges.{InRange}
 use Rattle.mst_rows.specs.Lines.{row_line}
-use Rattle.mst_save.specs.EditLine.{line_of}
-use Rattle.mst_save.proofs.Reading.{line_read}
-use Rattle.mst_save.proofs.Short.{edit_short}
+use Rattle.mst_edits.specs.EditLine.{line_of}
+use Rattle.mst_edit_laws.proofs.LinesRead.{line_read}
+use Rattle.mst_edits.proofs.Short.{edit_short}
 use Rattle.mst_advise.specs.Settings.{edit_of}
 use Rattle.mst_advise.specs.Told.{setting_row}
 use Rattle.mst_advise.specs.declared.setting.Setting.{Setting}

@@ -10,11 +10,10 @@ use Rattle.mst_lang.specs.declared.line.Edit.{Edit}
 use Rattle.mst_net.specs.tables.Tables.{Net}
 use Rattle.mst_net.specs.tables.After.{effect}
 use Rattle.mst_net.proofs.tables_lemmas.Keyed.{IsKeyed, same_keys}
-use Rattle.mst_edits.specs.save.Making.{made, Accepted}
-use Rattle.mst_edits.proofs.save_lemmas.Lists.{Distinct, holds, holds_first, holds_later, pigeons, keys_distinct, keys_hold}
-use Rattle.mst_edits.proofs.save_lemmas.Steps.{Stays, stays}
-use Rattle.mst_edits.proofs.save_lemmas.BridgeEnds.{at_bridge, bridge_step, bridge_made}
-use Rattle.mst_edits.proofs.save_lemmas.PortEnds.{at_port, port_step, port_made, lan_step, lan_made}
+use Rattle.mst_edits.specs.Making.{made, Accepted}
+use Rattle.mst_edits.proofs.Lists.{Distinct, holds, holds_first, holds_later, pigeons, keys_distinct, keys_hold}
+use Rattle.mst_edit_laws.proofs.Steps.{Stays, stays}
+use Rattle.mst_edit_laws.proofs.Seen.{at_bridge, bridge_step, bridge_made, at_port, port_step, port_made, lan_step, lan_made}
 
 pub accepted_append : (xs ys : List Edit) (net : Net) → Accepted xs net → Accepted ys (made xs net) → Accepted (xs ++ ys) net
 accepted_append [] ys net h i = i

@@ -10,7 +10,6 @@ use Rattle.mst_ids.specs.Names.{name_cmp}
 use Rattle.std.specs.Cmp.{unsigned_Decides}
 use Rattle.std.specs.Cmp.Lexicographic.{pointwise, pointwise_decides}
 use Rattle.std.proofs.lemmas.Bool.{and_parts, eqb-true}
-use Rattle.std.proofs.lemmas.List.{length-replicate}
 use Rattle.mst_lang.specs.Ranges.{IsName}
 use Rattle.mst_lang.specs.declared.line.Edit.{Edit}
 use Rattle.mst_lang.specs.declared.line.Edit.TheVariants.{AddBridge, DelBridge, SetBridge, SetByTree}
@@ -25,15 +24,14 @@ use Rattle.mst_net.specs.tables.Contents.{priority_of}
 use Rattle.mst_net.specs.tables.Settings.{kind_of, power_of}
 use Rattle.mst_net.proofs.tables_lemmas.Keys.{name_eq, names}
 use Rattle.mst_net.proofs.tables_lemmas.Changed.{itself}
-use Rattle.mst_edits.specs.save.Making.{made}
-use Rattle.mst_edits.specs.save.Saved.{when, joined, ports_of}
-use Rattle.mst_edits.proofs.save_lemmas.Lists.{all_append, all_flat, all_as, all_when, keys_distinct, keys_hold}
-use Rattle.mst_edits.proofs.save_lemmas.Steps.{steps, Stays, steps-append, stays, steps-when, steps-joined, steps_one, steps_none}
-use Rattle.mst_edits.proofs.save_lemmas.BridgeEnds.{AtBridge, at_bridge, bridge_step, bridge_made, table_is}
-use Rattle.mst_edits.proofs.save_lemmas.Tables.{few_trees}
+use Rattle.mst_edits.specs.Making.{made}
+use Rattle.mst_edits.specs.Edits.{when, joined, ports_of, unplug_edits, del_port_edits, del_lan_edits, del_bridge_edits, in_trees, is_same_configuration, priority_edits, bridge_set, bridge_settings, bridge_edits, port_edits, lan_edits, bridge_part, plug_edits, power_here, power_settings, power_edits, state_edits, going, coming, edits_with}
+use Rattle.mst_edits.proofs.Lists.{all_append, all_flat, all_as, all_when, keys_distinct, keys_hold}
+use Rattle.mst_edit_laws.proofs.Steps.{steps, Stays, steps-append, stays, steps-when, steps-joined, steps_one, steps_none}
+use Rattle.mst_edit_laws.proofs.Seen.{AtBridge, at_bridge, bridge_step, bridge_made, no_table_long, table_is}
+use Rattle.mst_edits.proofs.TreesMapped.{few_trees}
 use Rattle.mst_edits.specs.Staying.{has_mac, bridge_stays, bridge_before, table_before, priority_before}
 use Rattle.mst_edits.specs.TableLines.{edit_of, table_after, with_ways, direct_moves, table_edits}
-use Rattle.mst_edits.specs.Edits.{unplug_edits, del_port_edits, del_lan_edits, del_bridge_edits, in_trees, is_same_configuration, priority_edits, bridge_set, bridge_settings, bridge_edits, port_edits, lan_edits, bridge_part, plug_edits, power_settings, power_edits, state_edits, going, coming, edits}
 use Rattle.mst_edit_laws.proofs.Whose.{BridgeEdit, PortEdit, LanEdit, bridge_by_port, bridge_by_lan, bridge_by_other, trees_set, unplugs_of, del_ports_of, del_lans_of, del_bridges_of, bridges_of, ports_are_of, lans_of, plugs_of, powers_of, states_of, others_leave}
 use Rattle.mst_edit_laws.proofs.Plain.{not_found, not_not, same_flag}
 
@@ -42,10 +40,6 @@ at row priority table = record { row = Some row; priority = priority; table = ta
 
 abbrev pub none_set : AtBridge
 none_set = record { row = None; priority = 8; table = no_table }
-
-pub no_table_long : length no_table ≡ 4094
-unfolding no_table
-no_table_long = length-replicate {A = ℕ} 4094 0
 
 pub no_table_count : tree_count no_table ≤ 64
 no_table_count = subst (λ (o : Option (List ℕ)). tree_count (unwrap_or o no_table) ≤ 64) (get-empty {X = List ℕ} name_cmp []) (few_trees empty_net no_network [])
@@ -220,13 +214,22 @@ module _ (tables_made : TableMade) (a b : Net) (is_a : IsNetwork a) (is_b : IsNe
     pub table_wanted : IsTable (table_of b q)
     table_wanted = let fits = table_is b is_b q in (fits.0, fits.1, few_trees b is_b q)
 
-    abbrev seen_off : BridgeRow
-    seen_off = record row { is_on = before.is_on }
+    -- whether it is on is set here, or left as it was
+    abbrev on_here : Bool → Bool
+    on_here here = if here then row.is_on else before.is_on
 
-    pub is_set : steps (bridge_step q t) (bridge_settings a b q row) (stayed (bridge_stays a b q)) ≡ at seen_off (priority_of b q t) (table_of b q)
-    is_set =
+    power_set : (here : Bool) (p : ℕ) (table : List ℕ) → steps (bridge_step q t) (power_here here q before row) (at before p table) ≡ at (record before { is_on = on_here here }) p table
+    power_set true p table = row_when q t (beq row.is_on before.is_on) (PowerOf (power_of row.is_on)) before (record before { is_on = row.is_on }) p table
+        (ap (λ c. record before { is_on = c }) (power_is row.is_on)) (λ h. ap (λ c. record before { is_on = c }) (sym (same_flag row.is_on before.is_on h)))
+    power_set false p table = refl
+
+    abbrev but_power : Bool → BridgeRow
+    but_power in_place = record row { is_on = on_here in_place }
+
+    pub is_set : (in_place : Bool) → steps (bridge_step q t) (bridge_settings in_place a b q row) (stayed (bridge_stays a b q)) ≡ at (but_power in_place) (priority_of b q t) (table_of b q)
+    is_set in_place =
         let step = bridge_step q t in
-        let r0 : BridgeRow = before in
+        let r0 : BridgeRow = record before { is_on = on_here in_place } in
         let r1 : BridgeRow = record r0 { is_rstp = row.is_rstp } in
         let r2 : BridgeRow = record r1 { system_priority = row.system_priority } in
         let r3 : BridgeRow = record r2 { revision = row.revision; conf_name = row.conf_name } in
@@ -241,9 +244,9 @@ module _ (tables_made : TableMade) (a b : Net) (is_a : IsNetwork a) (is_b : IsNe
         let p4 : steps step (table_edits q no all) (at r3 p no) ≡ at r3 p all = table_steps q t r3 p no all ∙ ap (at r3 p) (tables_made q no all (is_b.bridges.named q row there) table_long table_wanted) in
         let p5 = row_when q t (row.max_hops == r0.max_hops) (MaxHops row.max_hops) r3 r4 p all refl (λ h. ap (λ n. record r3 { max_hops = n }) (sym (eqb-true row.max_hops r0.max_hops h))) in
         let p6 = row_when q t (row.max_age == r0.max_age) (MaxAge row.max_age) r4 r5 p all refl (λ h. ap (λ n. record r4 { max_age = n }) (sym (eqb-true row.max_age r0.max_age h))) in
-        steps-joined step (bridge_set a b (bridge_stays a b q) q before row) (stayed (bridge_stays a b q)) (at r5 (priority_of b q t) all)
-        (at r0 p no, begins, (at r1 p no, p1, (at r2 p no, p2, (at r3 p no, p3, (at r3 p all, p4, (at r4 p all, p5, (at r5 p all, p6, (at r5 (priority_of b q t) all, priorities r5 all, refl))))))))
-        ∙ ap (λ n. at (record seen_off { mac = n }) (priority_of b q t) all) same_mac
+        steps-joined step (bridge_set in_place a b (bridge_stays a b q) q before row) (stayed (bridge_stays a b q)) (at r5 (priority_of b q t) all)
+        (at before p no, begins, (at r0 p no, power_set in_place p no, (at r1 p no, p1, (at r2 p no, p2, (at r3 p no, p3, (at r3 p all, p4, (at r4 p all, p5, (at r5 p all, p6, (at r5 (priority_of b q t) all, priorities r5 all, refl)))))))))
+        ∙ ap (λ n. at (record (but_power in_place) { mac = n }) (priority_of b q t) all) same_mac
       where
         same_configuration : (r2 : BridgeRow) → is_same_configuration row before ≡ true → record r2 { revision = before.revision; conf_name = before.conf_name } ≡ record r2 { revision = row.revision; conf_name = row.conf_name }
         same_configuration r2 h =
@@ -269,64 +272,65 @@ module _ (tables_made : TableMade) (a b : Net) (is_a : IsNetwork a) (is_b : IsNe
         priorities r table = trees_set (bridge_step q t) (priority_edits a b (bridge_stays a b q) q) t other_trees (at r priority_was table) (at r (priority_of b q t) table)
             (λ low. one_tree r table) (λ high. ap (λ n. at r n table) (old_beyond high (bridge_stays a b q) ∙ sym (beyond_is b is_b q t high)))
 
-    is_powered : steps (bridge_step q t) (power_settings a q row) (at seen_off (priority_of b q t) (table_of b q)) ≡ at row (priority_of b q t) (table_of b q)
-    is_powered = row_when q t (beq row.is_on before.is_on) (PowerOf (power_of row.is_on)) seen_off row (priority_of b q t) (table_of b q)
+    is_powered : (in_place : Bool) → steps (bridge_step q t) (power_settings in_place a q row) (at (but_power in_place) (priority_of b q t) (table_of b q)) ≡ at row (priority_of b q t) (table_of b q)
+    is_powered true = refl
+    is_powered false = row_when q t (beq row.is_on before.is_on) (PowerOf (power_of row.is_on)) (but_power false) row (priority_of b q t) (table_of b q)
         (ap (λ c. record row { is_on = c }) (power_is row.is_on)) (λ h. ap (λ c. record row { is_on = c }) (sym (same_flag row.is_on before.is_on h)))
 
   -- ---- what comes
-  pub others_part : (k : List ℕ) → name_eq k q ≡ false → AllByRecursion (Stays (bridge_step q t)) (bridge_part a b k)
-  others_part k other = all_append (Stays (bridge_step q t)) (bridge_edits a b k) (flat_map (port_edits a b) (ports_of b k))
-      (all_as (BridgeEdit k) (Stays (bridge_step q t)) (bridge_by_other q t k other) (bridge_edits a b k) (bridges_of a b k))
+  pub others_part : (in_place : Bool) (k : List ℕ) → name_eq k q ≡ false → AllByRecursion (Stays (bridge_step q t)) (bridge_part in_place a b k)
+  others_part in_place k other = all_append (Stays (bridge_step q t)) (bridge_edits in_place a b k) (flat_map (port_edits a b) (ports_of b k))
+      (all_as (BridgeEdit k) (Stays (bridge_step q t)) (bridge_by_other q t k other) (bridge_edits in_place a b k) (bridges_of a b in_place k))
       (all_flat (Stays (bridge_step q t)) (port_edits a b) (ports_of b k) (λ p. all_as (PortEdit p) (Stays (bridge_step q t)) (bridge_by_port q t p) (port_edits a b p) (ports_are_of a b p)))
 
-  pub others_powered : (k : List ℕ) → name_eq k q ≡ false → AllByRecursion (Stays (bridge_step q t)) (power_edits a b k)
-  others_powered k other = all_as (BridgeEdit k) (Stays (bridge_step q t)) (bridge_by_other q t k other) (power_edits a b k) (powers_of a b k)
+  pub others_powered : (in_place : Bool) (k : List ℕ) → name_eq k q ≡ false → AllByRecursion (Stays (bridge_step q t)) (power_edits in_place a b k)
+  others_powered in_place k other = all_as (BridgeEdit k) (Stays (bridge_step q t)) (bridge_by_other q t k other) (power_edits in_place a b k) (powers_of a b in_place k)
 
-  abbrev pub unpowered : Option BridgeRow → AtBridge
-  unpowered o = option_map_or (λ row. at (record row { is_on = (bridge_before a q row).is_on }) (priority_of b q t) (table_of b q)) o (at_bridge q t b)
+  abbrev pub unpowered : Bool → Option BridgeRow → AtBridge
+  unpowered in_place o = option_map_or (λ row. at (record row { is_on = if in_place then row.is_on else (bridge_before a q row).is_on }) (priority_of b q t) (table_of b q)) o (at_bridge q t b)
 
-  pub comes : (o : Option BridgeRow) → fin.get b.bridges q ≡ o → steps (bridge_step q t) (flat_map (bridge_part a b) (fin.keys b.bridges)) (stayed (bridge_stays a b q)) ≡ unpowered o
-  comes None e =
-      steps_none (bridge_step q t) names (bridge_part a b) q others_part (fin.keys b.bridges) (stayed (bridge_stays a b q)) (keys_hold names b.bridges q ∙ ap is_some e)
+  pub comes : (in_place : Bool) (o : Option BridgeRow) → fin.get b.bridges q ≡ o → steps (bridge_step q t) (flat_map (bridge_part in_place a b) (fin.keys b.bridges)) (stayed (bridge_stays a b q)) ≡ unpowered in_place o
+  comes in_place None e =
+      steps_none (bridge_step q t) names (bridge_part in_place a b) q (others_part in_place) (fin.keys b.bridges) (stayed (bridge_stays a b q)) (keys_hold names b.bridges q ∙ ap is_some e)
       ∙ ap stayed (ap (λ x. option_map_or (λ x. has_mac x.mac (fin.get a.bridges q)) x false) e) ∙ absent_bridge q t b is_b (ap is_some e)
-  comes (Some row) e =
-      steps_one (bridge_step q t) names (bridge_part a b) q others_part (fin.keys b.bridges) (stayed (bridge_stays a b q)) (keys_distinct names b.bridges) (keys_hold names b.bridges q ∙ ap is_some e)
-      ∙ steps-append (bridge_step q t) (bridge_edits a b q) (flat_map (port_edits a b) (ports_of b q)) (stayed (bridge_stays a b q))
+  comes in_place (Some row) e =
+      steps_one (bridge_step q t) names (bridge_part in_place a b) q (others_part in_place) (fin.keys b.bridges) (stayed (bridge_stays a b q)) (keys_distinct names b.bridges) (keys_hold names b.bridges q ∙ ap is_some e)
+      ∙ steps-append (bridge_step q t) (bridge_edits in_place a b q) (flat_map (port_edits a b) (ports_of b q)) (stayed (bridge_stays a b q))
       ∙ others_leave (bridge_step q t) PortEdit (bridge_by_port q t) (port_edits a b) (ports_are_of a b) (ports_of b q) _
-      ∙ ap (λ x. steps (bridge_step q t) (option_map_or (bridge_settings a b q) x []) (stayed (bridge_stays a b q))) e
-      ∙ is_set row e
+      ∙ ap (λ x. steps (bridge_step q t) (option_map_or (bridge_settings in_place a b q) x []) (stayed (bridge_stays a b q))) e
+      ∙ is_set row e in_place
 
-  powered : (o : Option BridgeRow) → fin.get b.bridges q ≡ o → steps (bridge_step q t) (flat_map (power_edits a b) (fin.keys b.bridges)) (unpowered o) ≡ at_bridge q t b
-  powered None e = steps_none (bridge_step q t) names (power_edits a b) q others_powered (fin.keys b.bridges) (at_bridge q t b) (keys_hold names b.bridges q ∙ ap is_some e)
-  powered (Some row) e =
-      steps_one (bridge_step q t) names (power_edits a b) q others_powered (fin.keys b.bridges) (unpowered (Some row)) (keys_distinct names b.bridges) (keys_hold names b.bridges q ∙ ap is_some e)
-      ∙ ap (λ x. steps (bridge_step q t) (option_map_or (power_settings a q) x []) (unpowered (Some row))) e ∙ is_powered row e
+  powered : (in_place : Bool) (o : Option BridgeRow) → fin.get b.bridges q ≡ o → steps (bridge_step q t) (flat_map (power_edits in_place a b) (fin.keys b.bridges)) (unpowered in_place o) ≡ at_bridge q t b
+  powered in_place None e = steps_none (bridge_step q t) names (power_edits in_place a b) q (others_powered in_place) (fin.keys b.bridges) (at_bridge q t b) (keys_hold names b.bridges q ∙ ap is_some e)
+  powered in_place (Some row) e =
+      steps_one (bridge_step q t) names (power_edits in_place a b) q (others_powered in_place) (fin.keys b.bridges) (unpowered in_place (Some row)) (keys_distinct names b.bridges) (keys_hold names b.bridges q ∙ ap is_some e)
+      ∙ ap (λ x. steps (bridge_step q t) (option_map_or (power_settings in_place a q) x []) (unpowered in_place (Some row))) e ∙ is_powered row e in_place
       ∙ ap (λ x. record { row = x; priority = priority_of b q t; table = table_of b q }) (sym e)
 
-  come_all : steps (bridge_step q t) (joined (coming a b)) (stayed (bridge_stays a b q)) ≡ at_bridge q t b
-  come_all =
+  come_all : (in_place : Bool) → steps (bridge_step q t) (joined (coming in_place a b)) (stayed (bridge_stays a b q)) ≡ at_bridge q t b
+  come_all in_place =
       let step = bridge_step q t in
-      let mid = unpowered (fin.get b.bridges q) in
+      let mid = unpowered in_place (fin.get b.bridges q) in
       let new = at_bridge q t b in
-      steps-joined step (coming a b) (stayed (bridge_stays a b q)) new (
+      steps-joined step (coming in_place a b) (stayed (bridge_stays a b q)) new (
         mid,
-        comes (fin.get b.bridges q) refl,
+        comes in_place (fin.get b.bridges q) refl,
         (
           mid,
-          others_leave step LanEdit (bridge_by_lan q t) (lan_edits a b) (lans_of a b) (fin.keys b.lans) mid,
+          others_leave step LanEdit (bridge_by_lan q t) (lan_edits in_place a b) (lans_of a b in_place) (fin.keys b.lans) mid,
           (
             mid,
             others_leave step PortEdit (bridge_by_port q t) (plug_edits a b) (plugs_of a b) (fin.keys b.ports) mid,
             (
               new,
-              powered (fin.get b.bridges q) refl,
-              (new, others_leave step LanEdit (bridge_by_lan q t) (state_edits a b) (states_of a b) (fin.keys b.lans) new, refl),
+              powered in_place (fin.get b.bridges q) refl,
+              (new, others_leave step LanEdit (bridge_by_lan q t) (state_edits in_place a b) (states_of a b in_place) (fin.keys b.lans) new, refl),
             ),
           ),
         ),
       )
 
-  pub bridge_changed : at_bridge q t (made (edits a b) a) ≡ at_bridge q t b
-  bridge_changed =
-      bridge_made q t (edits a b) a ∙ steps-append (bridge_step q t) (joined (going a b)) (joined (coming a b)) (at_bridge q t a)
-      ∙ ap (steps (bridge_step q t) (joined (coming a b))) gone_all ∙ come_all
+  pub bridge_changed : (in_place : Bool) → at_bridge q t (made (edits_with in_place a b) a) ≡ at_bridge q t b
+  bridge_changed in_place =
+      bridge_made q t (edits_with in_place a b) a ∙ steps-append (bridge_step q t) (joined (going a b)) (joined (coming in_place a b)) (at_bridge q t a)
+      ∙ ap (steps (bridge_step q t) (joined (coming in_place a b))) gone_all ∙ come_all in_place

@@ -1,5 +1,5 @@
 -- What comes and is set is refused nowhere: what it needs stands by then, and there is never more than in the new network.
-use Rattle.std.proofs.Common.{◌≡◌, ℕ, ◌≤◌, Bool, true, false, cond, not, ◌&&◌, List, [], ◌∷◌, ◌++◌, length, Option, Some, None, is_some, nat_eq, refl, sym, ap, ◌∙◌, arith, true≢false, inl, inr}
+use Rattle.std.proofs.Common.{◌≡◌, ℕ, ◌≤◌, Bool, true, false, cond, not, ◌&&◌, List, [], ◌∷◌, length, Option, Some, None, is_some, nat_eq, refl, sym, ap, ◌∙◌, arith, true≢false, inl, inr}
 use Rattle.std.specs.Prelude.{◌==◌, if◌then◌else◌}
 use Rattle.std.specs.Bool.{beq}
 use Rattle.std.specs.List.{flat_map, AllByRecursion}
@@ -27,17 +27,14 @@ use Rattle.mst_net.proofs.tables_lemmas.Keyed.{same_keys, get_inserted, after_in
 use Rattle.mst_net.proofs.tables_lemmas.Keys.{name_eq, names, ports}
 use Rattle.mst_net.proofs.tables_lemmas.Changed.{itself, contains_changed, changed_from, value_found}
 use Rattle.mst_net.proofs.tables_lemmas.Somes.{no_some}
-use Rattle.mst_edits.specs.save.Making.{made, Accepted}
-use Rattle.mst_edits.specs.save.Saved.{when, joined, ports_of}
-use Rattle.mst_edits.proofs.save_lemmas.Lists.{all_append, all_when, all_map, all_flat, all_as, in_filter, distinct_filter, keys_distinct, keys_hold}
-use Rattle.mst_edits.proofs.save_lemmas.Whose.{OfPort, OfLan, all_joined}
-use Rattle.mst_edits.proofs.save_lemmas.Steps.{steps, Stays}
-use Rattle.mst_edits.proofs.save_lemmas.BridgeEnds.{AtBridge, at_bridge, bridge_step, bridge_made}
-use Rattle.mst_edits.proofs.save_lemmas.PortEnds.{AtPort, at_port, port_step, port_made, lan_step, lan_made}
-use Rattle.mst_edits.proofs.save_lemmas.Tables.{few_trees}
+use Rattle.mst_edits.specs.Making.{made, Accepted}
+use Rattle.mst_edits.specs.Edits.{when, joined, ports_of, in_trees, is_same_cost, is_same_configuration, priority_edits, port_cost_edits, port_priority_edits, port_set, bridge_settings, port_settings, lan_settings, bridge_edits, port_edits, lan_edits, bridge_part, plug_edits, power_settings, power_edits, state_settings, state_edits, going, coming}
+use Rattle.mst_edits.proofs.Lists.{all_when, all_map, all_flat, all_as, in_filter, distinct_filter, keys_distinct, keys_hold, all_joined}
+use Rattle.mst_edit_laws.proofs.Steps.{steps, Stays}
+use Rattle.mst_edit_laws.proofs.Seen.{AtBridge, at_bridge, bridge_step, bridge_made, AtPort, at_port, port_step, port_made, lan_step, lan_made}
+use Rattle.mst_edits.proofs.TreesMapped.{few_trees}
 use Rattle.mst_edits.specs.Staying.{has_mac, bridge_stays, port_stays, plug_stays, lan_of, bridge_before, settings_before, lan_before, table_before, priority_before, port_priority_before, port_cost_before, vlans_before}
 use Rattle.mst_edits.specs.TableLines.{edit_of, with_ways, direct_moves, table_edits}
-use Rattle.mst_edits.specs.Edits.{in_trees, is_same_cost, is_same_configuration, priority_edits, port_cost_edits, port_priority_edits, port_set, bridge_settings, port_settings, lan_settings, bridge_edits, port_edits, lan_edits, bridge_part, plug_edits, power_settings, power_edits, state_settings, state_edits, going, coming}
 use Rattle.mst_edit_laws.proofs.Accepting.{Fine, fine_none, fine_append, in_turn, keeps_bridge, keeps_port, keeps_lan, fewer}
 use Rattle.mst_edit_laws.proofs.BridgeMade as of_bridge
 use Rattle.mst_edit_laws.proofs.PortMade as of_port
@@ -60,17 +57,19 @@ all_kept I P one (e ∷ es) h net i = all_kept I P one es h.1 (effect e net) (on
 fine_so : (I J : Net → Type 0) (es : List Edit) (net : Net) → Fine I es net → ((new : Net) → I new → J new) → Fine J es net
 fine_so I J es net fine so = record { accepted = fine.accepted; kept = so (made es net) fine.kept }
 
-eight : (I J : Net → Type 0) (a b c d e f g h : List Edit) (net : Net) → Fine J a net → ((n : Net) → J n → Fine J b n) → ((n : Net) → J n → Fine J c n) → ((n : Net) → J n → Fine J d n) → ((n : Net) → J n → Fine I e n) → ((n : Net) → I n → Fine I f n) → ((n : Net) → I n → Fine I g n) → ((n : Net) → I n → Fine I h n)
-    → Fine I (joined (a ∷ b ∷ c ∷ d ∷ e ∷ f ∷ g ∷ h ∷ [])) net
-eight I J a b c d e f g h net x1 x2 x3 x4 x5 x6 x7 x8 =
-    fine_append J I a (joined (b ∷ c ∷ d ∷ e ∷ f ∷ g ∷ h ∷ [])) net x1 (λ r1.
-    fine_append J I b (joined (c ∷ d ∷ e ∷ f ∷ g ∷ h ∷ [])) (made a net) (x2 (made a net) r1) (λ r2.
-    fine_append J I c (joined (d ∷ e ∷ f ∷ g ∷ h ∷ [])) (made b (made a net)) (x3 (made b (made a net)) r2) (λ r3.
-    fine_append J I d (joined (e ∷ f ∷ g ∷ h ∷ [])) (made c (made b (made a net))) (x4 (made c (made b (made a net))) r3) (λ r4.
-    fine_append I I e (joined (f ∷ g ∷ h ∷ [])) (made d (made c (made b (made a net)))) (x5 (made d (made c (made b (made a net)))) r4) (λ r5.
-    fine_append I I f (joined (g ∷ h ∷ [])) (made e (made d (made c (made b (made a net))))) (x6 (made e (made d (made c (made b (made a net))))) r5) (λ r6.
-    fine_append I I g (joined (h ∷ [])) (made f (made e (made d (made c (made b (made a net)))))) (x7 (made f (made e (made d (made c (made b (made a net)))))) r6) (λ r7.
-    fine_append I I h [] (made g (made f (made e (made d (made c (made b (made a net))))))) (x8 (made g (made f (made e (made d (made c (made b (made a net))))))) r7) (λ r8. fine_none I (made h (made g (made f (made e (made d (made c (made b (made a net)))))))) r8))))))))
+-- nine lists one after another: from the fifth on they leave another fact
+nine : (I J : Net → Type 0) (a b c d e f g h i : List Edit) (net : Net) → Fine J a net → ((n : Net) → J n → Fine J b n) → ((n : Net) → J n → Fine J c n) → ((n : Net) → J n → Fine J d n) → ((n : Net) → J n → Fine J e n) → ((n : Net) → J n → Fine I f n) → ((n : Net) → I n → Fine I g n) → ((n : Net) → I n → Fine I h n) → ((n : Net) → I n → Fine I i n)
+    → Fine I (joined (a ∷ b ∷ c ∷ d ∷ e ∷ f ∷ g ∷ h ∷ i ∷ [])) net
+nine I J a b c d e f g h i net x1 x2 x3 x4 x5 x6 x7 x8 x9 =
+    fine_append J I a (joined (b ∷ c ∷ d ∷ e ∷ f ∷ g ∷ h ∷ i ∷ [])) net x1 (λ r1. let n1 = made a net in
+    fine_append J I b (joined (c ∷ d ∷ e ∷ f ∷ g ∷ h ∷ i ∷ [])) n1 (x2 n1 r1) (λ r2. let n2 = made b n1 in
+    fine_append J I c (joined (d ∷ e ∷ f ∷ g ∷ h ∷ i ∷ [])) n2 (x3 n2 r2) (λ r3. let n3 = made c n2 in
+    fine_append J I d (joined (e ∷ f ∷ g ∷ h ∷ i ∷ [])) n3 (x4 n3 r3) (λ r4. let n4 = made d n3 in
+    fine_append J I e (joined (f ∷ g ∷ h ∷ i ∷ [])) n4 (x5 n4 r4) (λ r5. let n5 = made e n4 in
+    fine_append I I f (joined (g ∷ h ∷ i ∷ [])) n5 (x6 n5 r5) (λ r6. let n6 = made f n5 in
+    fine_append I I g (joined (h ∷ i ∷ [])) n6 (x7 n6 r6) (λ r7. let n7 = made g n6 in
+    fine_append I I h (joined (i ∷ [])) n7 (x8 n7 r7) (λ r8. let n8 = made h n7 in
+    fine_append I I i [] n8 (x9 n8 r8) (λ r9. fine_none I (made i n8) r9)))))))))
 
 bridge_named : (net : Net) (b : List ℕ) → has_bridge b net ≡ true → first_of ((not (has_bridge b net), E04) ∷ []) ≡ None
 bridge_named net b there = ap (λ t. first_of ((not t, E04) ∷ [])) there
@@ -94,6 +93,18 @@ abbrev BridgeSets : List ℕ → Edit → Type 0
 BridgeSets b (SetBridge bridge change) = bridge ≡ b
 BridgeSets b (SetByTree (Priority bridge tree priority)) = bridge ≡ b
 BridgeSets b _ = ⊥
+
+-- settings of a port, and of a LAN
+abbrev PortSets : PortName → Edit → Type 0
+PortSets p (SetPort port change) = port ≡ p
+PortSets p (SetByTree (PortPriority port tree priority)) = port ≡ p
+PortSets p (SetByTree (PortCost port tree cost)) = port ≡ p
+PortSets p (SetByTree (Vlans port vids)) = port ≡ p
+PortSets p _ = ⊥
+
+abbrev LanSets : List ℕ → Edit → Type 0
+LanSets l (SetLan lan change) = lan ≡ l
+LanSets l _ = ⊥
 
 abbrev MapsVids : Edit → Type 0
 MapsVids (SetByTree (Table bridge tree vids)) = Unit {0}
@@ -218,7 +229,7 @@ module _ (b : Net) (is_b : IsNetwork b) where
       (bridge_named net bridge (ap (λ q. has_bridge q net) of ∙ ready.0), (ready.0, set_by_tree net ready.1 _ refl refl refl), refl)
   bridge_set_fine k e net of ready = absurd of
 
-  port_set_fine : (p : PortName) (e : Edit) (net : Net) → OfPort p e → PortReady p net → (refusal_of e net ≡ None) × PortReady p (effect e net)
+  port_set_fine : (p : PortName) (e : Edit) (net : Net) → PortSets p e → PortReady p net → (refusal_of e net ≡ None) × PortReady p (effect e net)
   port_set_fine p (SetPort port change) net of ready =
       (port_named net port (ap (λ (q : PortName). has_bridge q.bridge net) of ∙ ready.0) (ap (λ q. has_port q net) of ∙ ready.1), (ready.0, contains_changed ports net.ports port (port_with change) p ∙ ready.1, port_changed net ready.2 port (port_with change)))
   port_set_fine p (SetByTree (PortPriority port tree priority)) net of ready =
@@ -229,7 +240,7 @@ module _ (b : Net) (is_b : IsNetwork b) where
       (port_named net port (ap (λ (q : PortName). has_bridge q.bridge net) of ∙ ready.0) (ap (λ q. has_port q net) of ∙ ready.1), (ready.0, ready.1, set_by_tree net ready.2 _ refl refl refl))
   port_set_fine p e net of ready = absurd of
 
-  lan_set_fine : (l : List ℕ) (e : Edit) (net : Net) → OfLan l e → LanReady l net → (refusal_of e net ≡ None) × LanReady l (effect e net)
+  lan_set_fine : (l : List ℕ) (e : Edit) (net : Net) → LanSets l e → LanReady l net → (refusal_of e net ≡ None) × LanReady l (effect e net)
   lan_set_fine l (SetLan lan change) net of ready =
       (lan_named net lan (ap (λ q. has_lan q net) of ∙ ready.0), (contains_changed names net.lans lan (lan_with change) l ∙ ready.0, lan_changed net ready.1 lan (lan_with change)))
   lan_set_fine l e net of ready = absurd of
@@ -238,7 +249,7 @@ module _ (b : Net) (is_b : IsNetwork b) where
   mapped_ready k (SetByTree (Table bridge tree vids)) net of ready = (ready.0, set_by_tree net ready.1 _ refl refl refl)
   mapped_ready k e net of ready = absurd of
 
-module _ (tables_made : of_bridge.TableMade) (room : TableRoom) (a b : Net) (is_a : IsNetwork a) (is_b : IsNetwork b) where
+module _ (in_place : Bool) (tables_made : of_bridge.TableMade) (room : TableRoom) (a b : Net) (is_a : IsNetwork a) (is_b : IsNetwork b) where
   abbrev In : Net → Type 0
   In net = Within b is_b net
 
@@ -249,22 +260,25 @@ module _ (tables_made : of_bridge.TableMade) (room : TableRoom) (a b : Net) (is_
   stayed_port p = of_port.stayed a b is_a is_b p 0 (port_stays a b p)
 
   -- ---- a bridge
-  bridge_fine : (k : List ℕ) (row : BridgeRow) (net : Net) → fin.get b.bridges k ≡ Some row → In net → at_bridge k 0 net ≡ stayed_bridge k → Fine (BridgeReady b is_b k) (bridge_settings a b k row) net
+  bridge_fine : (k : List ℕ) (row : BridgeRow) (net : Net) → fin.get b.bridges k ≡ Some row → In net → at_bridge k 0 net ≡ stayed_bridge k → Fine (BridgeReady b is_b k) (bridge_settings in_place a b k row) net
   bridge_fine k row net there w seen =
       let stays = bridge_stays a b k in
       let before = bridge_before a k row in
+      let e0 : Edit = SetBridge k (PowerOf (power_of row.is_on)) in
       let e1 : Edit = SetBridge k (KindOf (kind_of row.is_rstp)) in
       let e2 : Edit = SetBridge k (SystemPriority row.system_priority) in
       let e3 : Edit = SetBridge k (Configuration row.revision row.conf_name) in
       let e5 : Edit = SetBridge k (MaxHops row.max_hops) in
       let e6 : Edit = SetBridge k (MaxAge row.max_age) in
+      let t0 = in_place && not (beq row.is_on before.is_on) in
       let t1 = not (beq row.is_rstp before.is_rstp) in
       let t2 = not (row.system_priority == before.system_priority) in
       let t3 = not (is_same_configuration row before) in
       let t5 = not (row.max_hops == before.max_hops) in
       let t6 = not (row.max_age == before.max_age) in
-      eight (BridgeReady b is_b k) (TableReady b is_b k (table_before a stays k)) (when (not stays) (AddBridge k row.mac)) (when t1 e1) (when t2 e2) (when t3 e3) (table_edits k (table_before a stays k) (table_of b k)) (when t5 e5) (when t6 e6) (in_trees (priority_edits a b stays k)) net
+      nine (BridgeReady b is_b k) (TableReady b is_b k (table_before a stays k)) (when (not stays) (AddBridge k row.mac)) (when t0 e0) (when t1 e1) (when t2 e2) (when t3 e3) (table_edits k (table_before a stays k) (table_of b k)) (when t5 e5) (when t6 e6) (in_trees (priority_edits a b stays k)) net
       (begins stays refl seen)
+      (λ n r. sets (when t0 e0) n r (all_when (BridgeSets k) t0 e0 (λ _. refl)))
       (λ n r. sets (when t1 e1) n r (all_when (BridgeSets k) t1 e1 (λ _. refl)))
       (λ n r. sets (when t2 e2) n r (all_when (BridgeSets k) t2 e2 (λ _. refl)))
       (λ n r. sets (when t3 e3) n r (all_when (BridgeSets k) t3 e3 (λ _. refl)))
@@ -325,20 +339,20 @@ module _ (tables_made : of_bridge.TableMade) (room : TableRoom) (a b : Net) (is_
       by None e h = absurd (true≢false (sym h))
       by (Some row) e h =
           fine_append (PortReady b is_b p) (PortReady b is_b p) (when (not (port_stays a b p)) (AddPort p)) (joined (all_but_first (port_set a b (port_stays a b p) p (settings_before a (port_stays a b p) p) row.settings))) net (begins (port_stays a b p) refl seen.0) (λ r.
-          all_fine (PortReady b is_b p) (OfPort p) (port_set_fine b is_b p) (joined (all_but_first (port_set a b (port_stays a b p) p (settings_before a (port_stays a b p) p) row.settings))) (rest (port_stays a b p) (settings_before a (port_stays a b p) p) row.settings) (made (when (not (port_stays a b p)) (AddPort p)) net) r)
+          all_fine (PortReady b is_b p) (PortSets p) (port_set_fine b is_b p) (joined (all_but_first (port_set a b (port_stays a b p) p (settings_before a (port_stays a b p) p) row.settings))) (rest (port_stays a b p) (settings_before a (port_stays a b p) p) row.settings) (made (when (not (port_stays a b p)) (AddPort p)) net) r)
         where
-          rest : (s : Bool) (was new : PortSettings) → AllByRecursion (OfPort p) (joined (all_but_first (port_set a b s p was new)))
-          rest s was new = all_joined (OfPort p) (all_but_first (port_set a b s p was new)) (
-            all_when (OfPort p) (not (new.key == was.key)) (SetPort p (Key new.key)) (λ _. refl),
+          rest : (s : Bool) (was new : PortSettings) → AllByRecursion (PortSets p) (joined (all_but_first (port_set a b s p was new)))
+          rest s was new = all_joined (PortSets p) (all_but_first (port_set a b s p was new)) (
+            all_when (PortSets p) (not (new.key == was.key)) (SetPort p (Key new.key)) (λ _. refl),
             (
-              all_when (OfPort p) (not (is_same_cost new.external was.external)) (SetPort p (PathCost new.external)) (λ _. refl),
+              all_when (PortSets p) (not (is_same_cost new.external was.external)) (SetPort p (PathCost new.external)) (λ _. refl),
               (
-                all_in_trees (OfPort p) (port_cost_edits a b s p) (λ t. all_when (OfPort p) (not (is_same_cost (port_cost_of b p t) (port_cost_before a s p t))) (SetByTree (PortCost p t (port_cost_of b p t))) (λ _. refl)),
+                all_in_trees (PortSets p) (port_cost_edits a b s p) (λ t. all_when (PortSets p) (not (is_same_cost (port_cost_of b p t) (port_cost_before a s p t))) (SetByTree (PortCost p t (port_cost_of b p t))) (λ _. refl)),
                 (
-                  all_in_trees (OfPort p) (port_priority_edits a b s p) (λ t. all_when (OfPort p) (not (port_priority_of b p t == port_priority_before a s p t)) (SetByTree (PortPriority p t (port_priority_of b p t))) (λ _. refl)),
+                  all_in_trees (PortSets p) (port_priority_edits a b s p) (λ t. all_when (PortSets p) (not (port_priority_of b p t == port_priority_before a s p t)) (SetByTree (PortPriority p t (port_priority_of b p t))) (λ _. refl)),
                   (
-                    all_when (OfPort p) (not (pointwise beq (vlans_of b p) (vlans_before a s p))) (SetByTree (Vlans p (vlans_of b p))) (λ _. refl),
-                    (all_when (OfPort p) (not (beq new.is_restricted was.is_restricted)) (SetPort p (RestrictedRole new.is_restricted)) (λ _. refl), tt),
+                    all_when (PortSets p) (not (pointwise beq (vlans_of b p) (vlans_before a s p))) (SetByTree (Vlans p (vlans_of b p))) (λ _. refl),
+                    (all_when (PortSets p) (not (beq new.is_restricted was.is_restricted)) (SetPort p (RestrictedRole new.is_restricted)) (λ _. refl), tt),
                   ),
                 ),
               ),
@@ -349,28 +363,28 @@ module _ (tables_made : of_bridge.TableMade) (room : TableRoom) (a b : Net) (is_
   abbrev PartSeen : List ℕ → Net → Type 0
   PartSeen k net = (at_bridge k 0 net ≡ stayed_bridge k) × (has_bridge k b ≡ true) × ((p : PortName) → p.bridge ≡ k → at_port p 0 net ≡ stayed_port p)
 
-  part_fine : (k : List ℕ) (net : Net) → In net → PartSeen k net → Fine In (bridge_part a b k) net
+  part_fine : (k : List ℕ) (net : Net) → In net → PartSeen k net → Fine In (bridge_part in_place a b k) net
   part_fine k net w seen =
-      fine_append (BridgeReady b is_b k) In (bridge_edits a b k) (flat_map (port_edits a b) (ports_of b k)) net (by (fin.get b.bridges k) refl seen.1) (λ r.
-      fine_so (BridgeReady b is_b k) In (flat_map (port_edits a b) (ports_of b k)) (made (bridge_edits a b k) net)
+      fine_append (BridgeReady b is_b k) In (bridge_edits in_place a b k) (flat_map (port_edits a b) (ports_of b k)) net (by (fin.get b.bridges k) refl seen.1) (λ r.
+      fine_so (BridgeReady b is_b k) In (flat_map (port_edits a b) (ports_of b k)) (made (bridge_edits in_place a b k) net)
       (in_turn ports (BridgeReady b is_b k) (PortSeen k) (port_edits a b) (port_fine k)
       (λ p q new other s. (keeps_port q (port_edits a b p) new (of_port.other_port a b is_a is_b q 0 p other) ∙ s.0, s.1, s.2))
-      (ports_of b k) (distinct_filter ports (λ port. pointwise nat_eq k port.bridge) (fin.keys b.ports) (keys_distinct ports b.ports)) (made (bridge_edits a b k) net) r
+      (ports_of b k) (distinct_filter ports (λ port. pointwise nat_eq k port.bridge) (fin.keys b.ports) (keys_distinct ports b.ports)) (made (bridge_edits in_place a b k) net) r
       (λ q h.
       let i = in_filter ports (λ port. pointwise nat_eq k port.bridge) (fin.keys b.ports) q h in
       let home = sym (same_keys names k q.bridge i.1) in
-      (keeps_port q (bridge_edits a b k) net (all_as (BridgeEdit k) (Stays (port_step q 0)) (port_by_bridge q 0 k) (bridge_edits a b k) (bridges_of a b k)) ∙ seen.2 q home, home, sym (keys_hold ports b.ports q) ∙ i.0)))
+      (keeps_port q (bridge_edits in_place a b k) net (all_as (BridgeEdit k) (Stays (port_step q 0)) (port_by_bridge q 0 k) (bridge_edits in_place a b k) (bridges_of a b in_place k)) ∙ seen.2 q home, home, sym (keys_hold ports b.ports q) ∙ i.0)))
       (λ new r. r.1))
     where
-      by : (o : Option BridgeRow) → fin.get b.bridges k ≡ o → is_some o ≡ true → Fine (BridgeReady b is_b k) (option_map_or (bridge_settings a b k) o []) net
+      by : (o : Option BridgeRow) → fin.get b.bridges k ≡ o → is_some o ≡ true → Fine (BridgeReady b is_b k) (option_map_or (bridge_settings in_place a b k) o []) net
       by None e h = absurd (true≢false (sym h))
       by (Some row) e h = bridge_fine k row net e w seen.0
 
-  part_kept : (k q : List ℕ) (net : Net) → name_eq k q ≡ false → PartSeen q net → PartSeen q (made (bridge_part a b k) net)
+  part_kept : (k q : List ℕ) (net : Net) → name_eq k q ≡ false → PartSeen q net → PartSeen q (made (bridge_part in_place a b k) net)
   part_kept k q net other seen = (
-    keeps_bridge q (bridge_part a b k) net (of_bridge.others_part tables_made a b is_a is_b q 0 k other) ∙ seen.0,
+    keeps_bridge q (bridge_part in_place a b k) net (of_bridge.others_part tables_made a b is_a is_b q 0 in_place k other) ∙ seen.0,
     seen.1,
-    λ p home. keeps_port p (bridge_part a b k) net (of_port.other_bridges a b is_a is_b p 0 k (ap (name_eq k) home ∙ other)) ∙ seen.2 p home,
+    λ p home. keeps_port p (bridge_part in_place a b k) net (of_port.other_bridges a b is_a is_b p 0 in_place k (ap (name_eq k) home ∙ other)) ∙ seen.2 p home,
   )
 
   abbrev gone : Net
@@ -408,19 +422,19 @@ module _ (tables_made : of_bridge.TableMade) (room : TableRoom) (a b : Net) (is_
       of_lans q true e h = e
       of_lans q false e h = absurd (true≢false (sym h))
 
-  parts_fine : Fine In (flat_map (bridge_part a b) (fin.keys b.bridges)) gone
-  parts_fine = in_turn names In PartSeen (bridge_part a b) part_fine part_kept (fin.keys b.bridges) (keys_distinct names b.bridges) gone within_gone
+  parts_fine : Fine In (flat_map (bridge_part in_place a b) (fin.keys b.bridges)) gone
+  parts_fine = in_turn names In PartSeen (bridge_part in_place a b) part_fine part_kept (fin.keys b.bridges) (keys_distinct names b.bridges) gone within_gone
       (λ q h. (bridge_gone q, sym (keys_hold names b.bridges q) ∙ h, λ p home. port_gone p))
 
   abbrev with_bridges : Net
-  with_bridges = made (flat_map (bridge_part a b) (fin.keys b.bridges)) gone
+  with_bridges = made (flat_map (bridge_part in_place a b) (fin.keys b.bridges)) gone
 
   -- ---- LANs
   abbrev LanSeen : List ℕ → Net → Type 0
   LanSeen l net = (fin.get net.lans l ≡ fin.get a.lans l) × (has_lan l b ≡ true)
 
-  lan_fine : (l : List ℕ) (net : Net) → In net → LanSeen l net → Fine In (lan_edits a b l) net
-  lan_fine l net w seen = fine_so (LanReady b is_b l) In (lan_edits a b l) net (by (fin.get b.lans l) refl seen.1) (λ new r. r.1)
+  lan_fine : (l : List ℕ) (net : Net) → In net → LanSeen l net → Fine In (lan_edits in_place a b l) net
+  lan_fine l net w seen = fine_so (LanReady b is_b l) In (lan_edits in_place a b l) net (by (fin.get b.lans l) refl seen.1) (λ new r. r.1)
     where
       begins : (s : Bool) → has_lan l a ≡ s → Fine (LanReady b is_b l) (when (not s) (AddLan l)) net
       begins true e = fine_none (LanReady b is_b l) net (ap is_some seen.0 ∙ e, w)
@@ -429,22 +443,29 @@ module _ (tables_made : of_bridge.TableMade) (room : TableRoom) (a b : Net) (is_
         kept = (ap is_some (get_inserted names net.lans l new_lan l) ∙ ap (λ t. is_some (cond t (Some new_lan) (fin.get net.lans l))) (itself names l), lan_added b is_b net w l seen.1);
       }
 
-      by : (o : Option LanRow) → fin.get b.lans l ≡ o → is_some o ≡ true → Fine (LanReady b is_b l) (option_map_or (lan_settings a l) o []) net
+      by : (o : Option LanRow) → fin.get b.lans l ≡ o → is_some o ≡ true → Fine (LanReady b is_b l) (option_map_or (lan_settings in_place a l) o []) net
       by None e h = absurd (true≢false (sym h))
       by (Some row) e h =
-          fine_append (LanReady b is_b l) (LanReady b is_b l) (when (not (has_lan l a)) (AddLan l)) (when (not (row.speed == (lan_before a l).speed)) (SetLan l (Speed row.speed)) ++ []) net (begins (has_lan l a) refl) (λ r.
-          all_fine (LanReady b is_b l) (OfLan l) (lan_set_fine b is_b l) (when (not (row.speed == (lan_before a l).speed)) (SetLan l (Speed row.speed)) ++ []) (all_append (OfLan l) (when (not (row.speed == (lan_before a l).speed)) (SetLan l (Speed row.speed))) [] (all_when (OfLan l) (not (row.speed == (lan_before a l).speed)) (SetLan l (Speed row.speed)) (λ _. refl)) tt) (made (when (not (has_lan l a)) (AddLan l)) net) r)
+          let before = lan_before a l in
+          let t0 = in_place && not (beq row.is_up before.is_up) in
+          let t1 = not (row.speed == before.speed) in
+          let rest = joined (when t0 (SetLan l (State (state_of row.is_up))) ∷ when t1 (SetLan l (Speed row.speed)) ∷ []) in
+          fine_append (LanReady b is_b l) (LanReady b is_b l) (when (not (has_lan l a)) (AddLan l)) rest net (begins (has_lan l a) refl) (λ r.
+          all_fine (LanReady b is_b l) (LanSets l) (lan_set_fine b is_b l) rest
+          (all_joined (LanSets l) (when t0 (SetLan l (State (state_of row.is_up))) ∷ when t1 (SetLan l (Speed row.speed)) ∷ [])
+          (all_when (LanSets l) t0 (SetLan l (State (state_of row.is_up))) (λ _. refl), (all_when (LanSets l) t1 (SetLan l (Speed row.speed)) (λ _. refl), tt)))
+          (made (when (not (has_lan l a)) (AddLan l)) net) r)
 
-  lans_fine : Fine In (flat_map (lan_edits a b) (fin.keys b.lans)) with_bridges
-  lans_fine = in_turn names In LanSeen (lan_edits a b) lan_fine
-      (λ k q net other seen. (keeps_lan q (lan_edits a b k) net (of_lan.other_lan a b q k other) ∙ seen.0, seen.1))
+  lans_fine : Fine In (flat_map (lan_edits in_place a b) (fin.keys b.lans)) with_bridges
+  lans_fine = in_turn names In LanSeen (lan_edits in_place a b) lan_fine
+      (λ k q net other seen. (keeps_lan q (lan_edits in_place a b k) net (of_lan.other_lan a b q in_place k other) ∙ seen.0, seen.1))
       (fin.keys b.lans) (keys_distinct names b.lans) with_bridges parts_fine.kept
       (λ q h.
       let there = sym (keys_hold names b.lans q) ∙ h in
-      (keeps_lan q (flat_map (bridge_part a b) (fin.keys b.bridges)) gone (all_flat (Stays (lan_step q)) (bridge_part a b) (fin.keys b.bridges) (of_lan.others_part a b q)) ∙ lan_gone q ∙ ap (of_lan.stayed a b q) there, there))
+      (keeps_lan q (flat_map (bridge_part in_place a b) (fin.keys b.bridges)) gone (all_flat (Stays (lan_step q)) (bridge_part in_place a b) (fin.keys b.bridges) (of_lan.others_part a b q in_place)) ∙ lan_gone q ∙ ap (of_lan.stayed a b q) there, there))
 
   abbrev with_lans : Net
-  with_lans = made (flat_map (lan_edits a b) (fin.keys b.lans)) with_bridges
+  with_lans = made (flat_map (lan_edits in_place a b) (fin.keys b.lans)) with_bridges
 
   -- ---- plugs
   -- all bridges and LANs are there
@@ -457,16 +478,16 @@ module _ (tables_made : of_bridge.TableMade) (room : TableRoom) (a b : Net) (is_
     bridges = λ q h.
         let row = found (fin.get b.bridges q) h in
         ap is_some (ap (λ (s : AtBridge). s.row)
-        (keeps_bridge q (flat_map (lan_edits a b) (fin.keys b.lans)) with_bridges (all_leave (bridge_step q 0) LanEdit (bridge_by_lan q 0) (lan_edits a b) (lans_of a b) (fin.keys b.lans))
-        ∙ bridge_made q 0 (flat_map (bridge_part a b) (fin.keys b.bridges)) gone ∙ ap (steps (bridge_step q 0) (flat_map (bridge_part a b) (fin.keys b.bridges))) (bridge_gone q)
-        ∙ of_bridge.comes tables_made a b is_a is_b q 0 (Some row.0) row.1));
+        (keeps_bridge q (flat_map (lan_edits in_place a b) (fin.keys b.lans)) with_bridges (all_leave (bridge_step q 0) LanEdit (bridge_by_lan q 0) (lan_edits in_place a b) (lans_of a b in_place) (fin.keys b.lans))
+        ∙ bridge_made q 0 (flat_map (bridge_part in_place a b) (fin.keys b.bridges)) gone ∙ ap (steps (bridge_step q 0) (flat_map (bridge_part in_place a b) (fin.keys b.bridges))) (bridge_gone q)
+        ∙ of_bridge.comes tables_made a b is_a is_b q 0 in_place (Some row.0) row.1));
     lans = λ q h.
         let row = found (fin.get b.lans q) h in
         ap is_some
-        (lan_made q (flat_map (lan_edits a b) (fin.keys b.lans)) with_bridges
-        ∙ ap (steps (lan_step q) (flat_map (lan_edits a b) (fin.keys b.lans)))
-        (keeps_lan q (flat_map (bridge_part a b) (fin.keys b.bridges)) gone (all_flat (Stays (lan_step q)) (bridge_part a b) (fin.keys b.bridges) (of_lan.others_part a b q)) ∙ lan_gone q)
-        ∙ of_lan.comes a b q (Some row.0) row.1);
+        (lan_made q (flat_map (lan_edits in_place a b) (fin.keys b.lans)) with_bridges
+        ∙ ap (steps (lan_step q) (flat_map (lan_edits in_place a b) (fin.keys b.lans)))
+        (keeps_lan q (flat_map (bridge_part in_place a b) (fin.keys b.bridges)) gone (all_flat (Stays (lan_step q)) (bridge_part in_place a b) (fin.keys b.bridges) (of_lan.others_part a b q in_place)) ∙ lan_gone q)
+        ∙ of_lan.comes a b q in_place (Some row.0) row.1);
   }
 
   abbrev PlugSeen : PortName → Net → Type 0
@@ -493,9 +514,9 @@ module _ (tables_made : of_bridge.TableMade) (room : TableRoom) (a b : Net) (is_
       (λ k q net other seen. (keeps_port q (plug_edits a b k) net (of_port.other_plug a b is_a is_b q 0 k other) ∙ seen.0, seen.1))
       (fin.keys b.ports) (keys_distinct ports b.ports) with_lans all_there
       (λ q h. (
-        keeps_port q (flat_map (lan_edits a b) (fin.keys b.lans)) with_bridges (all_leave (port_step q 0) LanEdit (port_by_lan q 0) (lan_edits a b) (lans_of a b) (fin.keys b.lans))
-            ∙ port_made q 0 (flat_map (bridge_part a b) (fin.keys b.bridges)) gone ∙ ap (steps (port_step q 0) (flat_map (bridge_part a b) (fin.keys b.bridges))) (port_gone q)
-            ∙ of_port.comes a b is_a is_b q 0 (fin.get b.ports q) refl,
+        keeps_port q (flat_map (lan_edits in_place a b) (fin.keys b.lans)) with_bridges (all_leave (port_step q 0) LanEdit (port_by_lan q 0) (lan_edits in_place a b) (lans_of a b in_place) (fin.keys b.lans))
+            ∙ port_made q 0 (flat_map (bridge_part in_place a b) (fin.keys b.bridges)) gone ∙ ap (steps (port_step q 0) (flat_map (bridge_part in_place a b) (fin.keys b.bridges))) (port_gone q)
+            ∙ of_port.comes a b is_a is_b q 0 in_place (fin.get b.ports q) refl,
         sym (keys_hold ports b.ports q) ∙ h,
       ))
 
@@ -503,42 +524,42 @@ module _ (tables_made : of_bridge.TableMade) (room : TableRoom) (a b : Net) (is_
   abbrev InNew : List ℕ → Net → Type 0
   InNew q net = has_bridge q b ≡ true
 
-  power_fine : (q : List ℕ) (net : Net) → HasAll net → InNew q net → Fine HasAll (power_edits a b q) net
+  power_fine : (q : List ℕ) (net : Net) → HasAll net → InNew q net → Fine HasAll (power_edits in_place a b q) net
   power_fine q net there h = by (fin.get b.bridges q)
     where
-      at : (t : Bool) (row : BridgeRow) → Fine HasAll (when (not t) (SetBridge q (PowerOf (power_of row.is_on)))) net
-      at true row = fine_none HasAll net there
-      at false row = record {
+      at : (here : Bool) (row : BridgeRow) → Fine HasAll (when here (SetBridge q (PowerOf (power_of row.is_on)))) net
+      at false row = fine_none HasAll net there
+      at true row = record {
         accepted = (bridge_named net q (there.bridges q h), tt);
         kept = record { bridges = λ k i. contains_changed names net.bridges q (bridge_with (PowerOf (power_of row.is_on))) k ∙ there.bridges k i; lans = there.lans };
       }
 
-      by : (o : Option BridgeRow) → Fine HasAll (option_map_or (power_settings a q) o []) net
+      by : (o : Option BridgeRow) → Fine HasAll (option_map_or (power_settings in_place a q) o []) net
       by None = fine_none HasAll net there
-      by (Some row) = at (beq row.is_on (bridge_before a q row).is_on) row
+      by (Some row) = at (not in_place && not (beq row.is_on (bridge_before a q row).is_on)) row
 
   abbrev LanInNew : List ℕ → Net → Type 0
   LanInNew q net = has_lan q b ≡ true
 
-  state_fine : (q : List ℕ) (net : Net) → HasAll net → LanInNew q net → Fine HasAll (state_edits a b q) net
+  state_fine : (q : List ℕ) (net : Net) → HasAll net → LanInNew q net → Fine HasAll (state_edits in_place a b q) net
   state_fine q net there h = by (fin.get b.lans q)
     where
-      at : (t : Bool) (row : LanRow) → Fine HasAll (when (not t) (SetLan q (State (state_of row.is_up)))) net
-      at true row = fine_none HasAll net there
-      at false row = record {
+      at : (here : Bool) (row : LanRow) → Fine HasAll (when here (SetLan q (State (state_of row.is_up)))) net
+      at false row = fine_none HasAll net there
+      at true row = record {
         accepted = (lan_named net q (there.lans q h), tt);
         kept = record { bridges = there.bridges; lans = λ k i. contains_changed names net.lans q (lan_with (State (state_of row.is_up))) k ∙ there.lans k i };
       }
 
-      by : (o : Option LanRow) → Fine HasAll (option_map_or (state_settings a q) o []) net
+      by : (o : Option LanRow) → Fine HasAll (option_map_or (state_settings in_place a q) o []) net
       by None = fine_none HasAll net there
-      by (Some row) = at (beq row.is_up (lan_before a q).is_up) row
+      by (Some row) = at (not in_place && not (beq row.is_up (lan_before a q).is_up)) row
 
   -- ---- all of it
-  pub coming_accepted : Accepted (joined (coming a b)) gone
+  pub coming_accepted : Accepted (joined (coming in_place a b)) gone
   coming_accepted =
-      (fine_append In HasAll (flat_map (bridge_part a b) (fin.keys b.bridges)) _ gone parts_fine (λ _.
-      fine_append In HasAll (flat_map (lan_edits a b) (fin.keys b.lans)) _ with_bridges lans_fine (λ _.
+      (fine_append In HasAll (flat_map (bridge_part in_place a b) (fin.keys b.bridges)) _ gone parts_fine (λ _.
+      fine_append In HasAll (flat_map (lan_edits in_place a b) (fin.keys b.lans)) _ with_bridges lans_fine (λ _.
       fine_append HasAll HasAll (flat_map (plug_edits a b) (fin.keys b.ports)) _ with_lans plugs_fine (λ there.
-      fine_append HasAll HasAll (flat_map (power_edits a b) (fin.keys b.bridges)) _ _ (in_turn names HasAll InNew (power_edits a b) power_fine (λ k q net other i. i) (fin.keys b.bridges) (keys_distinct names b.bridges) _ there (λ q h. sym (keys_hold names b.bridges q) ∙ h)) (λ there.
-      fine_append HasAll HasAll (flat_map (state_edits a b) (fin.keys b.lans)) [] _ (in_turn names HasAll LanInNew (state_edits a b) state_fine (λ k q net other i. i) (fin.keys b.lans) (keys_distinct names b.lans) _ there (λ q h. sym (keys_hold names b.lans q) ∙ h)) (λ there. fine_none HasAll _ there)))))).accepted
+      fine_append HasAll HasAll (flat_map (power_edits in_place a b) (fin.keys b.bridges)) _ _ (in_turn names HasAll InNew (power_edits in_place a b) power_fine (λ k q net other i. i) (fin.keys b.bridges) (keys_distinct names b.bridges) _ there (λ q h. sym (keys_hold names b.bridges q) ∙ h)) (λ there.
+      fine_append HasAll HasAll (flat_map (state_edits in_place a b) (fin.keys b.lans)) [] _ (in_turn names HasAll LanInNew (state_edits in_place a b) state_fine (λ k q net other i. i) (fin.keys b.lans) (keys_distinct names b.lans) _ there (λ q h. sym (keys_hold names b.lans q) ∙ h)) (λ there. fine_none HasAll _ there)))))).accepted

@@ -16,14 +16,12 @@ use Rattle.mst_net.proofs.tables_lemmas.Keyed.{IsKeyed, same_keys}
 use Rattle.mst_net.proofs.tables_lemmas.Keys.{name_eq, names, ports}
 use Rattle.mst_net.proofs.tables_lemmas.Changed.{value_found}
 use Rattle.mst_net.proofs.tables_lemmas.Somes.{some_is, no_some}
-use Rattle.mst_edits.specs.save.Making.{made, Accepted}
-use Rattle.mst_edits.specs.save.Saved.{when, joined}
-use Rattle.mst_edits.proofs.save_lemmas.Lists.{all_as, holds, holds_first, holds_later, keys_distinct, keys_hold}
-use Rattle.mst_edits.proofs.save_lemmas.Steps.{steps, Stays}
-use Rattle.mst_edits.proofs.save_lemmas.BridgeEnds.{AtBridge, bridge_step}
-use Rattle.mst_edits.proofs.save_lemmas.PortEnds.{AtPort, at_port, port_step, port_made, lan_step}
+use Rattle.mst_edits.specs.Making.{made, Accepted}
+use Rattle.mst_edits.specs.Edits.{when, joined, unplug_edits, del_port_edits, del_lan_edits, del_bridge_edits, going}
+use Rattle.mst_edits.proofs.Lists.{all_as, holds, holds_first, holds_later, keys_distinct, keys_hold}
+use Rattle.mst_edit_laws.proofs.Steps.{steps, Stays}
+use Rattle.mst_edit_laws.proofs.Seen.{AtBridge, bridge_step, AtPort, at_port, port_step, port_made, lan_step}
 use Rattle.mst_edits.specs.Staying.{bridge_stays, port_stays, plug_stays, lan_of, is_same_lan}
-use Rattle.mst_edits.specs.Edits.{unplug_edits, del_port_edits, del_lan_edits, del_bridge_edits, going}
 use Rattle.mst_edit_laws.proofs.Accepting.{Fine, fine_none, fine_append, in_turn, keeps_bridge, keeps_port, keeps_lan}
 use Rattle.mst_edit_laws.proofs.PortMade as of_port
 use Rattle.mst_edit_laws.proofs.Whose.{BridgeEdit, PortEdit, LanEdit, bridge_by_lan, bridge_by_other, lan_by_port, lan_by_other, unplugs_of, del_ports_of, del_lans_of, del_bridges_of, all_leave}

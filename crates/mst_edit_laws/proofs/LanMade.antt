@@ -14,13 +14,12 @@ use Rattle.mst_net.specs.tables.After.{has_lan, new_lan, lan_with, is_up}
 use Rattle.mst_net.specs.tables.Settings.{state_of}
 use Rattle.mst_net.proofs.tables_lemmas.Keys.{name_eq, names}
 use Rattle.mst_net.proofs.tables_lemmas.Changed.{itself}
-use Rattle.mst_edits.specs.save.Making.{made}
-use Rattle.mst_edits.specs.save.Saved.{when, joined, ports_of}
-use Rattle.mst_edits.proofs.save_lemmas.Lists.{all_append, all_flat, all_as, keys_distinct, keys_hold}
-use Rattle.mst_edits.proofs.save_lemmas.Steps.{steps, Stays, steps-append, stays, steps-when, steps-joined, steps_one, steps_none}
-use Rattle.mst_edits.proofs.save_lemmas.PortEnds.{lan_step, lan_made}
+use Rattle.mst_edits.specs.Making.{made}
+use Rattle.mst_edits.specs.Edits.{when, joined, ports_of, unplug_edits, del_port_edits, del_lan_edits, del_bridge_edits, lan_set, lan_settings, bridge_edits, port_edits, lan_edits, bridge_part, plug_edits, power_edits, state_here, state_settings, state_edits, going, coming, edits_with}
+use Rattle.mst_edits.proofs.Lists.{all_append, all_flat, all_as, keys_distinct, keys_hold}
+use Rattle.mst_edit_laws.proofs.Steps.{steps, Stays, steps-append, stays, steps-when, steps-joined, steps_one, steps_none}
+use Rattle.mst_edit_laws.proofs.Seen.{lan_step, lan_made}
 use Rattle.mst_edits.specs.Staying.{lan_before}
-use Rattle.mst_edits.specs.Edits.{unplug_edits, del_port_edits, del_lan_edits, del_bridge_edits, lan_set, lan_settings, bridge_edits, port_edits, lan_edits, bridge_part, plug_edits, power_edits, state_settings, state_edits, going, coming, edits}
 use Rattle.mst_edit_laws.proofs.Whose.{BridgeEdit, PortEdit, LanEdit, lan_by_bridge, lan_by_port, lan_by_other, unplugs_of, del_ports_of, del_lans_of, del_bridges_of, bridges_of, ports_are_of, lans_of, plugs_of, powers_of, states_of, others_leave}
 use Rattle.mst_edit_laws.proofs.Plain.{same_flag, not_found, not_not}
 
@@ -86,67 +85,81 @@ module _ (a b : Net) (q : List ℕ) where
         by None = ap (λ (c : Bool). if c then Some new_lan else None) (itself names q)
         by (Some old) = refl
 
-    pub is_set : steps (lan_step q) (lan_settings a q row) (stayed (has_lan q b)) ≡ Some (record row { is_up = before.is_up })
-    is_set =
-        let new : LanRow = record row { is_up = before.is_up } in
-        steps-joined (lan_step q) (lan_set (has_lan q a) q before row) (stayed (has_lan q b)) (Some new)
-        (Some before, begins, (Some new, row_when q (row.speed == before.speed) (Speed row.speed) before new refl (λ h. ap (λ n. record before { speed = n }) (sym (eqb-true row.speed before.speed h))), refl))
+    -- whether it is up is set here, or left as it was
+    abbrev up_here : Bool → Bool
+    up_here here = if here then row.is_up else before.is_up
 
-    is_in_state : steps (lan_step q) (state_settings a q row) (Some (record row { is_up = before.is_up })) ≡ Some row
-    is_in_state = row_when q (beq row.is_up before.is_up) (State (state_of row.is_up)) (record row { is_up = before.is_up }) row (ap (λ c. record row { is_up = c }) (state_is row.is_up))
+    state_set : (here : Bool) → steps (lan_step q) (state_here here q before row) (Some before) ≡ Some (record before { is_up = up_here here })
+    state_set true = row_when q (beq row.is_up before.is_up) (State (state_of row.is_up)) before (record before { is_up = row.is_up }) (ap (λ c. record before { is_up = c }) (state_is row.is_up))
+        (λ h. ap (λ c. record before { is_up = c }) (sym (same_flag row.is_up before.is_up h)))
+    state_set false = refl
+
+    abbrev but_state : Bool → LanRow
+    but_state in_place = record row { is_up = up_here in_place }
+
+    pub is_set : (in_place : Bool) → steps (lan_step q) (lan_settings in_place a q row) (stayed (has_lan q b)) ≡ Some (but_state in_place)
+    is_set in_place =
+        let old : LanRow = record before { is_up = up_here in_place } in
+        let new : LanRow = but_state in_place in
+        steps-joined (lan_step q) (lan_set in_place (has_lan q a) q before row) (stayed (has_lan q b)) (Some new)
+        (Some before, begins, (Some old, state_set in_place, (Some new, row_when q (row.speed == before.speed) (Speed row.speed) old new refl (λ h. ap (λ n. record old { speed = n }) (sym (eqb-true row.speed before.speed h))), refl)))
+
+    is_in_state : (in_place : Bool) → steps (lan_step q) (state_settings in_place a q row) (Some (but_state in_place)) ≡ Some row
+    is_in_state true = refl
+    is_in_state false = row_when q (beq row.is_up before.is_up) (State (state_of row.is_up)) (but_state false) row (ap (λ c. record row { is_up = c }) (state_is row.is_up))
         (λ h. ap (λ c. record row { is_up = c }) (sym (same_flag row.is_up before.is_up h)))
 
-  pub others_part : (k : List ℕ) → AllByRecursion (Stays (lan_step q)) (bridge_part a b k)
-  others_part k = all_append (Stays (lan_step q)) (bridge_edits a b k) (flat_map (port_edits a b) (ports_of b k))
-      (all_as (BridgeEdit k) (Stays (lan_step q)) (lan_by_bridge q k) (bridge_edits a b k) (bridges_of a b k))
+  pub others_part : (in_place : Bool) (k : List ℕ) → AllByRecursion (Stays (lan_step q)) (bridge_part in_place a b k)
+  others_part in_place k = all_append (Stays (lan_step q)) (bridge_edits in_place a b k) (flat_map (port_edits a b) (ports_of b k))
+      (all_as (BridgeEdit k) (Stays (lan_step q)) (lan_by_bridge q k) (bridge_edits in_place a b k) (bridges_of a b in_place k))
       (all_flat (Stays (lan_step q)) (port_edits a b) (ports_of b k) (λ p. all_as (PortEdit p) (Stays (lan_step q)) (lan_by_port q p) (port_edits a b p) (ports_are_of a b p)))
 
-  pub other_lan : (k : List ℕ) → name_eq k q ≡ false → AllByRecursion (Stays (lan_step q)) (lan_edits a b k)
-  other_lan k other = all_as (LanEdit k) (Stays (lan_step q)) (lan_by_other q k other) (lan_edits a b k) (lans_of a b k)
+  pub other_lan : (in_place : Bool) (k : List ℕ) → name_eq k q ≡ false → AllByRecursion (Stays (lan_step q)) (lan_edits in_place a b k)
+  other_lan in_place k other = all_as (LanEdit k) (Stays (lan_step q)) (lan_by_other q k other) (lan_edits in_place a b k) (lans_of a b in_place k)
 
-  pub other_state : (k : List ℕ) → name_eq k q ≡ false → AllByRecursion (Stays (lan_step q)) (state_edits a b k)
-  other_state k other = all_as (LanEdit k) (Stays (lan_step q)) (lan_by_other q k other) (state_edits a b k) (states_of a b k)
+  pub other_state : (in_place : Bool) (k : List ℕ) → name_eq k q ≡ false → AllByRecursion (Stays (lan_step q)) (state_edits in_place a b k)
+  other_state in_place k other = all_as (LanEdit k) (Stays (lan_step q)) (lan_by_other q k other) (state_edits in_place a b k) (states_of a b in_place k)
 
-  abbrev pub stateless : Option LanRow → Option LanRow
-  stateless o = option_map (λ (row : LanRow). record row { is_up = (lan_before a q).is_up }) o
+  abbrev pub stateless : Bool → Option LanRow → Option LanRow
+  stateless in_place o = option_map (λ (row : LanRow). record row { is_up = if in_place then row.is_up else (lan_before a q).is_up }) o
 
-  pub comes : (o : Option LanRow) → fin.get b.lans q ≡ o → steps (lan_step q) (flat_map (lan_edits a b) (fin.keys b.lans)) (stayed (has_lan q b)) ≡ stateless o
-  comes None e = steps_none (lan_step q) names (lan_edits a b) q other_lan (fin.keys b.lans) (stayed (has_lan q b)) (keys_hold names b.lans q ∙ ap is_some e) ∙ ap (λ o. stayed (is_some o)) e
-  comes (Some row) e =
-      steps_one (lan_step q) names (lan_edits a b) q other_lan (fin.keys b.lans) (stayed (has_lan q b)) (keys_distinct names b.lans) (keys_hold names b.lans q ∙ ap is_some e)
-      ∙ ap (λ x. steps (lan_step q) (option_map_or (lan_settings a q) x []) (stayed (has_lan q b))) e ∙ is_set row e
+  pub comes : (in_place : Bool) (o : Option LanRow) → fin.get b.lans q ≡ o → steps (lan_step q) (flat_map (lan_edits in_place a b) (fin.keys b.lans)) (stayed (has_lan q b)) ≡ stateless in_place o
+  comes in_place None e = steps_none (lan_step q) names (lan_edits in_place a b) q (other_lan in_place) (fin.keys b.lans) (stayed (has_lan q b)) (keys_hold names b.lans q ∙ ap is_some e) ∙ ap (λ o. stayed (is_some o)) e
+  comes in_place (Some row) e =
+      steps_one (lan_step q) names (lan_edits in_place a b) q (other_lan in_place) (fin.keys b.lans) (stayed (has_lan q b)) (keys_distinct names b.lans) (keys_hold names b.lans q ∙ ap is_some e)
+      ∙ ap (λ x. steps (lan_step q) (option_map_or (lan_settings in_place a q) x []) (stayed (has_lan q b))) e ∙ is_set row e in_place
 
-  in_state : (o : Option LanRow) → fin.get b.lans q ≡ o → steps (lan_step q) (flat_map (state_edits a b) (fin.keys b.lans)) (stateless o) ≡ fin.get b.lans q
-  in_state None e = steps_none (lan_step q) names (state_edits a b) q other_state (fin.keys b.lans) None (keys_hold names b.lans q ∙ ap is_some e) ∙ sym e
-  in_state (Some row) e =
-      steps_one (lan_step q) names (state_edits a b) q other_state (fin.keys b.lans) (stateless (Some row)) (keys_distinct names b.lans) (keys_hold names b.lans q ∙ ap is_some e)
-      ∙ ap (λ x. steps (lan_step q) (option_map_or (state_settings a q) x []) (stateless (Some row))) e ∙ is_in_state row e ∙ sym e
+  in_state : (in_place : Bool) (o : Option LanRow) → fin.get b.lans q ≡ o → steps (lan_step q) (flat_map (state_edits in_place a b) (fin.keys b.lans)) (stateless in_place o) ≡ fin.get b.lans q
+  in_state in_place None e = steps_none (lan_step q) names (state_edits in_place a b) q (other_state in_place) (fin.keys b.lans) None (keys_hold names b.lans q ∙ ap is_some e) ∙ sym e
+  in_state in_place (Some row) e =
+      steps_one (lan_step q) names (state_edits in_place a b) q (other_state in_place) (fin.keys b.lans) (stateless in_place (Some row)) (keys_distinct names b.lans) (keys_hold names b.lans q ∙ ap is_some e)
+      ∙ ap (λ x. steps (lan_step q) (option_map_or (state_settings in_place a q) x []) (stateless in_place (Some row))) e ∙ is_in_state row e in_place ∙ sym e
 
-  come_all : steps (lan_step q) (joined (coming a b)) (stayed (has_lan q b)) ≡ fin.get b.lans q
-  come_all =
+  come_all : (in_place : Bool) → steps (lan_step q) (joined (coming in_place a b)) (stayed (has_lan q b)) ≡ fin.get b.lans q
+  come_all in_place =
       let step = lan_step q in
       let s = stayed (has_lan q b) in
-      let mid = stateless (fin.get b.lans q) in
+      let mid = stateless in_place (fin.get b.lans q) in
       let new = fin.get b.lans q in
-      steps-joined step (coming a b) s new (
+      steps-joined step (coming in_place a b) s new (
         s,
-        stays step (flat_map (bridge_part a b) (fin.keys b.bridges)) s (all_flat (Stays step) (bridge_part a b) (fin.keys b.bridges) others_part),
+        stays step (flat_map (bridge_part in_place a b) (fin.keys b.bridges)) s (all_flat (Stays step) (bridge_part in_place a b) (fin.keys b.bridges) (others_part in_place)),
         (
           mid,
-          comes (fin.get b.lans q) refl,
+          comes in_place (fin.get b.lans q) refl,
           (
             mid,
             others_leave step PortEdit (lan_by_port q) (plug_edits a b) (plugs_of a b) (fin.keys b.ports) mid,
             (
               mid,
-              others_leave step BridgeEdit (lan_by_bridge q) (power_edits a b) (powers_of a b) (fin.keys b.bridges) mid,
-              (new, in_state (fin.get b.lans q) refl, refl),
+              others_leave step BridgeEdit (lan_by_bridge q) (power_edits in_place a b) (powers_of a b in_place) (fin.keys b.bridges) mid,
+              (new, in_state in_place (fin.get b.lans q) refl, refl),
             ),
           ),
         ),
       )
 
-  pub lan_changed : fin.get (made (edits a b) a).lans q ≡ fin.get b.lans q
-  lan_changed =
-      lan_made q (edits a b) a ∙ steps-append (lan_step q) (joined (going a b)) (joined (coming a b)) (fin.get a.lans q)
-      ∙ ap (steps (lan_step q) (joined (coming a b))) gone_all ∙ come_all
+  pub lan_changed : (in_place : Bool) → fin.get (made (edits_with in_place a b) a).lans q ≡ fin.get b.lans q
+  lan_changed in_place =
+      lan_made q (edits_with in_place a b) a ∙ steps-append (lan_step q) (joined (going a b)) (joined (coming in_place a b)) (fin.get a.lans q)
+      ∙ ap (steps (lan_step q) (joined (coming in_place a b))) gone_all ∙ come_all in_place

@@ -20,9 +20,8 @@ use Rattle.mst_net.proofs.tables_lemmas.Somes.{some_is, no_some}
 use Rattle.mst_net.proofs.tables_lemmas.Keyed.{after_keep, after_remove}
 use Rattle.mst_net.proofs.tables_lemmas.Keys.{name_eq, names, ports, bridge_trees, port_trees}
 use Rattle.mst_net.proofs.tables_lemmas.Changed.{left_without}
-use Rattle.mst_edits.specs.save.Making.{made}
-use Rattle.mst_edits.proofs.save_lemmas.BridgeEnds.{AtBridge, at_bridge}
-use Rattle.mst_edits.proofs.save_lemmas.PortEnds.{AtPort, at_port}
+use Rattle.mst_edits.specs.Making.{made}
+use Rattle.mst_edit_laws.proofs.Seen.{AtBridge, at_bridge, AtPort, at_port}
 
 abbrev is_eight : ℕ → Bool
 is_eight n = n == 8

@@ -20,13 +20,12 @@ use Rattle.mst_net.specs.tables.Contents.{port_priority_of, port_cost_of}
 use Rattle.mst_net.proofs.tables_lemmas.Keyed.{same_keys}
 use Rattle.mst_net.proofs.tables_lemmas.Keys.{name_eq, names, ports}
 use Rattle.mst_net.proofs.tables_lemmas.Changed.{itself}
-use Rattle.mst_edits.specs.save.Making.{made}
-use Rattle.mst_edits.specs.save.Saved.{when, joined, ports_of}
-use Rattle.mst_edits.proofs.save_lemmas.Lists.{all_append, all_flat_of, all_as, all_of, all_when, holds, in_filter, into_filter, distinct_filter, keys_distinct, keys_hold}
-use Rattle.mst_edits.proofs.save_lemmas.Steps.{steps, Stays, steps-append, stays, steps-when, steps-joined, steps_one, steps_none}
-use Rattle.mst_edits.proofs.save_lemmas.PortEnds.{AtPort, at_port, port_step, port_made}
+use Rattle.mst_edits.specs.Making.{made}
+use Rattle.mst_edits.specs.Edits.{when, joined, ports_of, unplug_edits, del_port_edits, del_lan_edits, del_bridge_edits, in_trees, is_same_cost, port_cost_edits, port_priority_edits, port_set, port_settings, bridge_edits, port_edits, lan_edits, bridge_part, plug_edits, power_edits, state_edits, going, coming, edits_with}
+use Rattle.mst_edits.proofs.Lists.{all_append, all_flat_of, all_as, all_of, all_when, holds, in_filter, into_filter, distinct_filter, keys_distinct, keys_hold}
+use Rattle.mst_edit_laws.proofs.Steps.{steps, Stays, steps-append, stays, steps-when, steps-joined, steps_one, steps_none}
+use Rattle.mst_edit_laws.proofs.Seen.{AtPort, at_port, port_step, port_made}
 use Rattle.mst_edits.specs.Staying.{bridge_stays, port_stays, plug_stays, lan_of, is_same_lan, settings_before, port_priority_before, port_cost_before, vlans_before}
-use Rattle.mst_edits.specs.Edits.{unplug_edits, del_port_edits, del_lan_edits, del_bridge_edits, in_trees, is_same_cost, port_cost_edits, port_priority_edits, port_set, port_settings, bridge_edits, port_edits, lan_edits, bridge_part, plug_edits, power_edits, state_edits, going, coming, edits}
 use Rattle.mst_edit_laws.proofs.Whose.{BridgeEdit, PortEdit, LanEdit, port_by_bridge, port_by_lan, port_by_other, trees_set, unplugs_of, del_ports_of, del_lans_of, del_bridges_of, bridges_of, ports_are_of, lans_of, plugs_of, powers_of, states_of, others_leave}
 use Rattle.mst_edit_laws.proofs.Plain.{not_found, not_not, same_flag}
 
@@ -292,8 +291,8 @@ module _ (a b : Net) (is_a : IsNetwork a) (is_b : IsNetwork b) (q : PortName) (t
   pub other_port : (p : PortName) → port_eq p q ≡ false → AllByRecursion (Stays (port_step q t)) (port_edits a b p)
   other_port p other = all_as (PortEdit p) (Stays (port_step q t)) (port_by_other q t p other) (port_edits a b p) (ports_are_of a b p)
 
-  pub other_bridges : (k : List ℕ) → name_eq k q.bridge ≡ false → AllByRecursion (Stays (port_step q t)) (bridge_part a b k)
-  other_bridges k other = all_append (Stays (port_step q t)) (bridge_edits a b k) (flat_map (port_edits a b) (ports_of b k)) (all_as (BridgeEdit k) (Stays (port_step q t)) (port_by_bridge q t k) (bridge_edits a b k) (bridges_of a b k))
+  pub other_bridges : (in_place : Bool) (k : List ℕ) → name_eq k q.bridge ≡ false → AllByRecursion (Stays (port_step q t)) (bridge_part in_place a b k)
+  other_bridges in_place k other = all_append (Stays (port_step q t)) (bridge_edits in_place a b k) (flat_map (port_edits a b) (ports_of b k)) (all_as (BridgeEdit k) (Stays (port_step q t)) (port_by_bridge q t k) (bridge_edits in_place a b k) (bridges_of a b in_place k))
       (all_flat_of (Stays (port_step q t)) (λ p. name_eq k p.bridge ≡ true) (port_edits a b) (ports_of b k) (all_of ports (λ p. name_eq k p.bridge ≡ true) (ports_of b k) (λ p h. (in_filter ports (λ port. pointwise nat_eq k port.bridge) (fin.keys b.ports) p h).1))
       (λ p home. other_port p (and_left (name_eq p.bridge q.bridge) (nat_eq p.number q.number) (ap (λ x. name_eq x q.bridge) (sym (same_keys names k p.bridge home)) ∙ other))))
 
@@ -304,8 +303,8 @@ module _ (a b : Net) (is_a : IsNetwork a) (is_b : IsNetwork b) (q : PortName) (t
   abbrev pub but_plug : Option PortRow → AtPort
   but_plug o = option_map_or (λ row. at (row_of lan_kept row.settings) (port_priority_of b q t) (port_cost_of b q t) (vlans_of b q)) o (at_port q t b)
 
-  pub comes : (o : Option PortRow) → fin.get b.ports q ≡ o → steps (port_step q t) (flat_map (bridge_part a b) (fin.keys b.bridges)) (stayed (port_stays a b q)) ≡ but_plug o
-  comes o e = home (has_bridge q.bridge b) refl o e
+  pub comes : (in_place : Bool) (o : Option PortRow) → fin.get b.ports q ≡ o → steps (port_step q t) (flat_map (bridge_part in_place a b) (fin.keys b.bridges)) (stayed (port_stays a b q)) ≡ but_plug o
+  comes in_place o e = home (has_bridge q.bridge b) refl o e
     where
       stays_in_b : port_stays a b q ≡ true → has_port q b ≡ true
       stays_in_b h = (and_parts (has_port q a) (has_port q b) (and_parts (bridge_stays a b q.bridge) (has_port q a && has_port q b) h).1).1
@@ -328,13 +327,13 @@ module _ (a b : Net) (is_a : IsNetwork a) (is_b : IsNetwork b) (q : PortName) (t
           (into_filter ports (λ port. pointwise nat_eq q.bridge port.bridge) (fin.keys b.ports) q (keys_hold ports b.ports q ∙ ap is_some e) (itself names q.bridge))
           ∙ ap (λ x. steps (port_step q t) (option_map_or (port_settings a b q) x []) (stayed (port_stays a b q))) e ∙ is_set row e
 
-      home : (h : Bool) → has_bridge q.bridge b ≡ h → (o : Option PortRow) → fin.get b.ports q ≡ o → steps (port_step q t) (flat_map (bridge_part a b) (fin.keys b.bridges)) (stayed (port_stays a b q)) ≡ but_plug o
+      home : (h : Bool) → has_bridge q.bridge b ≡ h → (o : Option PortRow) → fin.get b.ports q ≡ o → steps (port_step q t) (flat_map (bridge_part in_place a b) (fin.keys b.bridges)) (stayed (port_stays a b q)) ≡ but_plug o
       home true h o e =
-          steps_one (port_step q t) names (bridge_part a b) q.bridge other_bridges (fin.keys b.bridges) (stayed (port_stays a b q)) (keys_distinct names b.bridges) (keys_hold names b.bridges q.bridge ∙ h)
-          ∙ steps-append (port_step q t) (bridge_edits a b q.bridge) (flat_map (port_edits a b) (ports_of b q.bridge)) (stayed (port_stays a b q))
-          ∙ ap (steps (port_step q t) (flat_map (port_edits a b) (ports_of b q.bridge))) (stays (port_step q t) (bridge_edits a b q.bridge) (stayed (port_stays a b q)) (all_as (BridgeEdit q.bridge) (Stays (port_step q t)) (port_by_bridge q t q.bridge) (bridge_edits a b q.bridge) (bridges_of a b q.bridge)))
+          steps_one (port_step q t) names (bridge_part in_place a b) q.bridge (other_bridges in_place) (fin.keys b.bridges) (stayed (port_stays a b q)) (keys_distinct names b.bridges) (keys_hold names b.bridges q.bridge ∙ h)
+          ∙ steps-append (port_step q t) (bridge_edits in_place a b q.bridge) (flat_map (port_edits a b) (ports_of b q.bridge)) (stayed (port_stays a b q))
+          ∙ ap (steps (port_step q t) (flat_map (port_edits a b) (ports_of b q.bridge))) (stays (port_step q t) (bridge_edits in_place a b q.bridge) (stayed (port_stays a b q)) (all_as (BridgeEdit q.bridge) (Stays (port_step q t)) (port_by_bridge q t q.bridge) (bridge_edits in_place a b q.bridge) (bridges_of a b in_place q.bridge)))
           ∙ within o e
-      home false h None e = steps_none (port_step q t) names (bridge_part a b) q.bridge other_bridges (fin.keys b.bridges) (stayed (port_stays a b q)) (keys_hold names b.bridges q.bridge ∙ h) ∙ not_there e
+      home false h None e = steps_none (port_step q t) names (bridge_part in_place a b) q.bridge (other_bridges in_place) (fin.keys b.bridges) (stayed (port_stays a b q)) (keys_hold names b.bridges q.bridge ∙ h) ∙ not_there e
       home false h (Some row) e = absurd (true≢false (sym (is_b.ports.has_bridge q row e) ∙ h))
 
   plugged : (o : Option PortRow) → fin.get b.ports q ≡ o → steps (port_step q t) (flat_map (plug_edits a b) (fin.keys b.ports)) (but_plug o) ≡ at_port q t b
@@ -344,30 +343,30 @@ module _ (a b : Net) (is_a : IsNetwork a) (is_b : IsNetwork b) (q : PortName) (t
       ∙ is_plugged row e (port_priority_of b q t) (port_cost_of b q t) (vlans_of b q)
       ∙ ap (λ x. record { row = x; priority = port_priority_of b q t; cost = port_cost_of b q t; vlans = vlans_of b q }) (sym e)
 
-  come_all : steps (port_step q t) (joined (coming a b)) (stayed (port_stays a b q)) ≡ at_port q t b
-  come_all =
+  come_all : (in_place : Bool) → steps (port_step q t) (joined (coming in_place a b)) (stayed (port_stays a b q)) ≡ at_port q t b
+  come_all in_place =
       let step = port_step q t in
       let mid = but_plug (fin.get b.ports q) in
       let new = at_port q t b in
-      steps-joined step (coming a b) (stayed (port_stays a b q)) new (
+      steps-joined step (coming in_place a b) (stayed (port_stays a b q)) new (
         mid,
-        comes (fin.get b.ports q) refl,
+        comes in_place (fin.get b.ports q) refl,
         (
           mid,
-          others_leave step LanEdit (port_by_lan q t) (lan_edits a b) (lans_of a b) (fin.keys b.lans) mid,
+          others_leave step LanEdit (port_by_lan q t) (lan_edits in_place a b) (lans_of a b in_place) (fin.keys b.lans) mid,
           (
             new,
             plugged (fin.get b.ports q) refl,
             (
               new,
-              others_leave step BridgeEdit (port_by_bridge q t) (power_edits a b) (powers_of a b) (fin.keys b.bridges) new,
-              (new, others_leave step LanEdit (port_by_lan q t) (state_edits a b) (states_of a b) (fin.keys b.lans) new, refl),
+              others_leave step BridgeEdit (port_by_bridge q t) (power_edits in_place a b) (powers_of a b in_place) (fin.keys b.bridges) new,
+              (new, others_leave step LanEdit (port_by_lan q t) (state_edits in_place a b) (states_of a b in_place) (fin.keys b.lans) new, refl),
             ),
           ),
         ),
       )
 
-  pub port_changed : at_port q t (made (edits a b) a) ≡ at_port q t b
-  port_changed =
-      port_made q t (edits a b) a ∙ steps-append (port_step q t) (joined (going a b)) (joined (coming a b)) (at_port q t a)
-      ∙ ap (steps (port_step q t) (joined (coming a b))) gone_all ∙ come_all
+  pub port_changed : (in_place : Bool) → at_port q t (made (edits_with in_place a b) a) ≡ at_port q t b
+  port_changed in_place =
+      port_made q t (edits_with in_place a b) a ∙ steps-append (port_step q t) (joined (going a b)) (joined (coming in_place a b)) (at_port q t a)
+      ∙ ap (steps (port_step q t) (joined (coming in_place a b))) gone_all ∙ come_all in_place

@@ -10,17 +10,18 @@ use Rattle.mst_lang.specs.Words.{is_plain}
 use Rattle.mst_lang.specs.declared.line.Version.TheVariants.{V2}
 use Rattle.mst_lang.specs.declared.line.Line.TheVariants.{Edit as edit}
 use Rattle.mst_lang.specs.declared.line.Edit.{Edit}
-use Rattle.mst_net.specs.tables.Tables.{Net, IsNetwork}
+use Rattle.mst_net.specs.tables.Tables.{Net, empty_net}
 use Rattle.mst_net.specs.tables.After.{effect}
+use Rattle.mst_rows.specs.Lines.{row_line}
 use Rattle.mst_net.proofs.tables_lemmas.AfterLemmas.{after_accepted}
-use Rattle.mst_edits.specs.save.Making.{made, Accepted}
-use Rattle.mst_edits.specs.save.SaveText.{Makes, Leave, IsShort}
-use Rattle.mst_edits.proofs.save_lemmas.Spaced.{spaced_is_plain}
-use Rattle.mst_edits.specs.Edits.{edits}
-use Rattle.mst_edit_laws.specs.EditText.{edits_text, ReadAs, ChangesInto}
+use Rattle.mst_edits.specs.Making.{made, Accepted}
+use Rattle.mst_edits.specs.SaveText.{Makes, Leave, Restores, IsShort}
+use Rattle.mst_edit_laws.proofs.Spaced.{spaced_is_plain}
+use Rattle.mst_edits.specs.EditRows.{edits_rows, first_row}
+use Rattle.mst_edit_laws.specs.EditText.{ReadAs, ChangesInto}
 use Rattle.mst_edit_laws.proofs.RowLines.{ended, row_words, said_line, text_is}
 use Rattle.mst_edit_laws.proofs.Reading.{are_words, said_read}
-use Rattle.mst_edit_laws.proofs.Sayable.{IsGood, edits_good}
+use Rattle.mst_edit_laws.proofs.Sayable.{IsGood}
 
 -- ---- lines
 abbrev IsPlain : List ℕ → Type 0
@@ -64,12 +65,19 @@ leave [] net new good short accepted is = is
 leave (e ∷ es) net new good short accepted is =
     (effect e net, subst (λ r. Makes net r (effect e net)) (sym (one_read e good.0 short.0)) (after_accepted e net accepted.0), leave es (effect e net) new good.1 short.1 accepted.1 is)
 
-module _ (a b : Net) (is_a : IsNetwork a) (is_b : IsNetwork b) where
-  lines_are : lines_of (edits_text a b) ≡ codes "mstplan 2" ∷ map said_line (edits a b)
-  lines_are = ap lines_of (text_is (edits a b)) ∙ lines_again (codes "mstplan 2" ∷ map said_line (edits a b)) (refl, plain_lines (edits a b) (edits_good a b is_a is_b))
+module _ (es : List Edit) (good : AllByRecursion IsGood es) (short : AllByRecursion IsShort es) where
+  -- the lines of their rows, behind the version
+  abbrev lines : List (List ℕ)
+  lines = lines_of (flat_map row_line (first_row ∷ edits_rows es))
 
-  pub text_read : AllByRecursion IsShort (edits a b) → ReadAs (lines_of (edits_text a b)) (edits a b)
-  text_read short = subst (λ ls. ReadAs ls (edits a b)) (sym lines_are) (refl, all_read (edits a b) (edits_good a b is_a is_b) short)
+  lines_are : lines ≡ codes "mstplan 2" ∷ map said_line es
+  lines_are = ap lines_of (text_is es) ∙ lines_again (codes "mstplan 2" ∷ map said_line es) (refl, plain_lines es good)
 
-  pub text_changes : AllByRecursion IsShort (edits a b) → Accepted (edits a b) a → made (edits a b) a ≡ b → ChangesInto (lines_of (edits_text a b)) a b
-  text_changes short accepted is = subst (λ ls. ChangesInto ls a b) (sym lines_are) (refl, leave (edits a b) a b (edits_good a b is_a is_b) short accepted is)
+  pub text_read : ReadAs lines es
+  text_read = subst (λ ls. ReadAs ls es) (sym lines_are) (refl, all_read es good short)
+
+  pub text_changes : (a b : Net) → Accepted es a → made es a ≡ b → ChangesInto lines a b
+  text_changes a b accepted is = subst (λ ls. ChangesInto ls a b) (sym lines_are) (refl, leave es a b good short accepted is)
+
+  pub text_restores : (net : Net) → Accepted es empty_net → made es empty_net ≡ net → Restores lines net
+  text_restores net accepted is = subst (λ ls. Restores ls net) (sym lines_are) (refl, leave es empty_net net good short accepted is)

@@ -18,11 +18,11 @@ use Rattle.mst_lang.specs.declared.line.Edit.TheVariants.{DelPort, SetByTree}
 use Rattle.mst_lang.specs.declared.line.TreeChange.TheVariants.{Vlans}
 use Rattle.mst_lang.specs.declared.line.Fault.TheVariants.{E02}
 use Rattle.mst_net.specs.tables.After.{all_vids}
-use Rattle.mst_edits.specs.save.EditLine.{spaced, line_of, IsSayable}
-use Rattle.mst_edits.proofs.save_lemmas.Numbers.{number_of_read}
-use Rattle.mst_edits.proofs.save_lemmas.Reading.{edit_words, line_read}
-use Rattle.mst_edits.proofs.save_lemmas.Short.{spaced_short, name_short, number_short}
-use Rattle.mst_edits.proofs.save_lemmas.Spaced.{AreWords, spaced_is_plain, words_of_spaced}
+use Rattle.mst_edits.specs.EditLine.{spaced, line_of, IsSayable}
+use Rattle.mst_edit_laws.proofs.Numbers.{number_of_read}
+use Rattle.mst_edit_laws.proofs.LinesRead.{edit_words, line_read}
+use Rattle.mst_edits.proofs.Short.{spaced_short, name_short, number_short}
+use Rattle.mst_edit_laws.proofs.Spaced.{AreWords, spaced_is_plain, words_of_spaced}
 use Rattle.mst_edit_laws.proofs.RowLines.{vlans_words, row_words, said_line}
 
 if_true : {A : Type 0} (b : Bool) (x y : A) → b ≡ true → (if b then x else y) ≡ x

@@ -18,15 +18,13 @@ use Rattle.mst_net.proofs.ForeseenLemmas.{foreseen_table}
 use Rattle.mst_net.proofs.tables_lemmas.Keys.{names}
 use Rattle.mst_net.proofs.tables_lemmas.Changed.{itself}
 use Rattle.mst_net.proofs.tables_lemmas.TableFits.{length-mapped}
-use Rattle.mst_edits.specs.save.Making.{made, Accepted}
-use Rattle.mst_edits.specs.save.Runs.{vids_of}
-use Rattle.mst_edits.specs.save.Saved.{vids_in, fits, cut}
-use Rattle.mst_edits.proofs.save_lemmas.Lists.{all_map, all_flat_of, all_as, all_filter, holds, into_filter}
-use Rattle.mst_edits.proofs.save_lemmas.RunLemmas.{covers, set_of_runs}
-use Rattle.mst_edits.proofs.save_lemmas.Cuts.{some_line, vids_in_is}
-use Rattle.mst_edits.proofs.save_lemmas.Tables.{IsUnder, tree_in-mapped, tree_of_none, has_place, under_count}
-use Rattle.mst_edits.proofs.save_lemmas.BridgeEnds.{mstis_fit}
-use Rattle.mst_edits.specs.TableLines.{move, edit_of, moves_to, moved_to, crowds, unwanted, is_one_line, with_tree, gathered, gathered_first, with_way, with_ways, table_after}
+use Rattle.mst_edits.specs.Making.{made, Accepted}
+use Rattle.mst_edits.specs.Runs.{vids_of}
+use Rattle.mst_edits.specs.TableLines.{vids_in, fits, cut, move, edit_of, moves_to, moved_to, crowds, unwanted, is_one_line, with_tree, gathered, gathered_first, with_way, with_ways, table_after}
+use Rattle.mst_edits.proofs.Lists.{all_map, all_flat_of, all_as, all_filter, holds, into_filter}
+use Rattle.mst_edits.proofs.RunLemmas.{covers, set_of_runs}
+use Rattle.mst_edits.proofs.Cuts.{some_line, vids_in_is}
+use Rattle.mst_edits.proofs.TreesMapped.{IsUnder, tree_in-mapped, tree_of_none, has_place, under_count, mstis_fit}
 use Rattle.mst_edit_laws.proofs.Accepting.{Fine, accepted_append}
 use Rattle.mst_edit_laws.proofs.Coming.{TableRoom}
 use Rattle.mst_edit_laws.proofs.Whose.{numbers, some_within}
@@ -275,7 +273,7 @@ module _ (k after : List ℕ) (few_after : tree_count after ≤ 64) where
 
       u_is : (((1 ≤ u) × (u ≤ 4094)) × (has_tree (mapped vids 0 now) u ≡ true)) × (not (has_tree after u) ≡ true)
       u_is = (subst (AllByRecursion (λ tree. (((1 ≤ tree) × (tree ≤ 4094)) × (has_tree (mapped vids 0 now) tree ≡ true)) × (not (has_tree after tree) ≡ true))) is
-          (all_filter (λ tree. not (has_tree after tree)) (mstis_in (mapped vids 0 now)) (λ tree. ((1 ≤ tree) × (tree ≤ 4094)) × (has_tree (mapped vids 0 now) tree ≡ true)) (mstis_fit k 0 (mapped vids 0 now) (length-mapped vids 0 now)))).0
+          (all_filter (λ tree. not (has_tree after tree)) (mstis_in (mapped vids 0 now)) (λ tree. ((1 ≤ tree) × (tree ≤ 4094)) × (has_tree (mapped vids 0 now) tree ≡ true)) (mstis_fit (mapped vids 0 now)))).0
 
       by : (j : ℕ) → 1 ≤ j → (j ≡ tree) ⊎ ((v : ℕ) × (1 ≤ v) × (v ≤ 4094) × (has vids v ≡ false) × (tree_in (zeroed now lines) v ≡ j)) → (j ≡ tree) ⊎ ((has_tree (mapped vids 0 now) j ≡ true) × (j ≡ u → ⊥))
       by j some (inl same) = inl same
@@ -362,6 +360,6 @@ table_room k before after net named long few is there same =
     subst (λ lines. Accepted (map (edit_of k) (with_ways k after before lines)) net) (sym (as_pairs (λ tree runs. move tree (vids_of runs)) cuts (0 ∷ mstis_in after)))
     (all_accepted k after is.2 (flat_map (λ tree. map (λ runs. (tree, runs)) (cuts tree)) (0 ∷ mstis_in after))
     (all_flat_of (λ (p : ℕ × List (ℕ × ℕ)). Wanted k after is.2 p.0) (Wanted k after is.2) (λ tree. map (λ runs. (tree, runs)) (cuts tree)) (0 ∷ mstis_in after)
-    (inl refl, all_as (λ tree. ((1 ≤ tree) × (tree ≤ 4094)) × (has_tree after tree ≡ true)) (Wanted k after is.2) (λ tree p. inr p.1) (mstis_in after) (mstis_fit k 0 after is.0))
+    (inl refl, all_as (λ tree. ((1 ≤ tree) × (tree ≤ 4094)) × (has_tree after tree ≡ true)) (Wanted k after is.2) (λ tree p. inr p.1) (mstis_in after) (mstis_fit after))
     (λ tree wanted. all_map (λ (p : ℕ × List (ℕ × ℕ)). Wanted k after is.2 p.0) (λ runs. (tree, runs)) (cuts tree) (λ runs. wanted)))
     before net (there, same, few))

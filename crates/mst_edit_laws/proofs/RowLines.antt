@@ -23,9 +23,8 @@ use Rattle.mst_lang.specs.declared.line.LanState.TheVariants.{Up, Down}
 use Rattle.mst_net.specs.tables.After.{all_vids}
 use Rattle.mst_rows.specs.Cells.{vids}
 use Rattle.mst_rows.specs.Lines.{row_line}
-use Rattle.mst_edits.specs.save.EditLine.{spaced, words_of, cost_text, no_vids, vlans_text}
-use Rattle.mst_edits.specs.save.SaveRows.{of_port, first_row}
-use Rattle.mst_edits.specs.EditRows.{edit_rows_of}
+use Rattle.mst_edits.specs.EditLine.{spaced, words_of, cost_text, no_vids, vlans_text}
+use Rattle.mst_edits.specs.EditRows.{of_port, first_row, edit_rows, edits_rows}
 
 -- a line, and its end
 abbrev pub ended : List ℕ → List ℕ
@@ -51,13 +50,13 @@ automatic_said : (first : List ℕ) (words : List (List ℕ)) → (first ++ (fla
 automatic_said first words = said first (words ++ decimal 0 ∷ []) ∙ ap (λ w. ended (spaced (first ∷ (words ++ w ∷ [])))) (decimal_digit 0 (omega arith))
 
 vlans_said : (port : PortName) (set : List Bool) (in_all in_none : Bool)
-    → flat_map row_line (if in_all then of_port port_command.AllVlans port (vids (runs_from 0 set) ∷ []) else of_port (if in_none then port_command.NoVlans else port_command.Vlans) port (vids (runs_from 0 set) ∷ []))
+    → flat_map row_line (of_port (if in_all then port_command.AllVlans else if in_none then port_command.NoVlans else port_command.Vlans) port (vids (runs_from 0 set) ∷ []))
     ≡ ended (spaced (codes "setportvlans" ∷ port.bridge ∷ decimal port.number ∷ (if in_all then codes "all" else (if in_none then codes "none" else vids_text set)) ∷ []))
 vlans_said port set true in_none = said (codes "setportvlans") (port.bridge ∷ decimal port.number ∷ codes "all" ∷ [])
 vlans_said port set false true = said (codes "setportvlans") (port.bridge ∷ decimal port.number ∷ codes "none" ∷ [])
 vlans_said port set false false = said (codes "setportvlans") (port.bridge ∷ decimal port.number ∷ vids_text set ∷ [])
 
-line_is : (e : Edit) → flat_map row_line (edit_rows_of e) ≡ ended (said_line e)
+line_is : (e : Edit) → flat_map row_line (edit_rows e) ≡ ended (said_line e)
 line_is (AddBridge bridge mac) = said (codes "addbridge") (bridge ∷ mac_text mac ∷ [])
 line_is (DelBridge bridge) = said (codes "delbridge") (bridge ∷ [])
 line_is (SetBridge bridge (PowerOf On)) = said (codes "bridge") (bridge ∷ codes "on" ∷ [])
@@ -89,12 +88,12 @@ line_is (SetByTree (PortCost port tree (Some cost))) = said (codes "settreeportc
 line_is (SetByTree (Table bridge tree set)) = said (codes "setvid2mstid") (bridge ∷ decimal tree ∷ vids_text set ∷ [])
 line_is (SetByTree (Vlans port set)) = vlans_said port set (pointwise beq set all_vids) (pointwise beq set no_vids)
 
-lines_are : (es : List Edit) → flat_map row_line (flat_map edit_rows_of es) ≡ flat_map ended (map said_line es)
+lines_are : (es : List Edit) → flat_map row_line (edits_rows es) ≡ flat_map ended (map said_line es)
 lines_are [] = refl
-lines_are (e ∷ es) = flat_map-append row_line (edit_rows_of e) (flat_map edit_rows_of es) ∙ (λ i. line_is e i ++ lines_are es i)
+lines_are (e ∷ es) = flat_map-append row_line (edit_rows e) (edits_rows es) ∙ (λ i. line_is e i ++ lines_are es i)
 
 -- the text of the rows is that of the lines
-pub text_is : (es : List Edit) → flat_map row_line (first_row ∷ flat_map edit_rows_of es) ≡ flat_map ended (codes "mstplan 2" ∷ map said_line es)
+pub text_is : (es : List Edit) → flat_map row_line (first_row ∷ edits_rows es) ≡ flat_map ended (codes "mstplan 2" ∷ map said_line es)
 text_is es =
-    ap (λ two. (codes "mstplan" ++ (flat_map after_space (two ∷ []) ++ 10 ∷ [])) ++ flat_map row_line (flat_map edit_rows_of es)) (decimal_digit 2 (omega arith))
+    ap (λ two. (codes "mstplan" ++ (flat_map after_space (two ∷ []) ++ 10 ∷ [])) ++ flat_map row_line (edits_rows es)) (decimal_digit 2 (omega arith))
     ∙ ap (λ t. ended (codes "mstplan 2") ++ t) (lines_are es)

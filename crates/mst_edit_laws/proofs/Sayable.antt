@@ -25,19 +25,18 @@ use Rattle.mst_net.specs.tables.Table.{has_tree, mapped, mstis_in, tree_in}
 use Rattle.mst_net.specs.tables.Tables.{Net, IsNetwork, BridgeRow, PortRow, LanRow}
 use Rattle.mst_net.specs.tables.declared.settings.PortSettings.{PortSettings}
 use Rattle.mst_net.proofs.tables_lemmas.Keys.{names, ports}
-use Rattle.mst_edits.specs.save.EditLine.{line_of, IsSayable}
-use Rattle.mst_edits.specs.save.Runs.{vids_of}
-use Rattle.mst_edits.specs.save.Saved.{when, joined, mapping, fits, cut, ports_of}
-use Rattle.mst_edits.specs.save.SaveText.{IsShort}
-use Rattle.mst_edits.proofs.save_lemmas.BridgeEnds.{table_is, mstis_fit}
-use Rattle.mst_edits.proofs.save_lemmas.Cuts.{IsLine, lines_are, line_set, line_some, one_fits}
-use Rattle.mst_edits.proofs.save_lemmas.Lists.{all_append, all_when, all_map_of, all_flat, all_flat_of, all_as, all_of, keys_hold}
-use Rattle.mst_edits.proofs.save_lemmas.RunLemmas.{runs_of_set}
-use Rattle.mst_edits.proofs.save_lemmas.Short.{HasNoList, edit_short}
-use Rattle.mst_edits.proofs.save_lemmas.Whose.{all_joined}
+use Rattle.mst_edits.specs.EditLine.{line_of, IsSayable}
+use Rattle.mst_edits.specs.Runs.{vids_of}
+use Rattle.mst_edits.specs.Edits.{when, joined, ports_of, unplug_edits, del_port_edits, del_lan_edits, del_bridge_edits, in_trees, priority_edits, port_cost_edits, port_priority_edits, bridge_set, port_set, lan_set, bridge_settings, port_settings, lan_settings, bridge_edits, port_edits, lan_edits, bridge_part, plug_edits, power_settings, power_edits, state_settings, state_edits, going, coming, edits_with}
+use Rattle.mst_edits.specs.TableLines.{mapping, fits, cut, move, edit_of, moves_to, moved_to, direct_moves, crowds, unwanted, gathered_first, ways, with_way, with_ways, table_after}
+use Rattle.mst_edits.specs.SaveText.{IsShort}
+use Rattle.mst_edit_laws.proofs.Seen.{table_is}
+use Rattle.mst_edits.proofs.TreesMapped.{mstis_fit}
+use Rattle.mst_edits.proofs.Cuts.{IsLine, lines_are, line_set, line_some, one_fits}
+use Rattle.mst_edits.proofs.Lists.{all_append, all_when, all_map_of, all_flat, all_flat_of, all_as, all_of, keys_hold, all_joined}
+use Rattle.mst_edits.proofs.RunLemmas.{runs_of_set}
+use Rattle.mst_edits.proofs.Short.{HasNoList, edit_short}
 use Rattle.mst_edits.specs.Staying.{bridge_stays, port_stays, plug_stays, bridge_before, settings_before, lan_before, table_before}
-use Rattle.mst_edits.specs.TableLines.{move, edit_of, moves_to, moved_to, direct_moves, crowds, unwanted, gathered_first, ways, with_way, with_ways, table_after}
-use Rattle.mst_edits.specs.Edits.{unplug_edits, del_port_edits, del_lan_edits, del_bridge_edits, in_trees, priority_edits, port_cost_edits, port_priority_edits, bridge_set, port_set, lan_set, bridge_settings, port_settings, lan_settings, bridge_edits, port_edits, lan_edits, bridge_part, plug_edits, power_settings, power_edits, state_settings, state_edits, going, coming, edits}
 use Rattle.mst_edit_laws.proofs.Plain.{found}
 use Rattle.mst_edit_laws.proofs.Room.{first_is}
 
@@ -116,7 +115,7 @@ module _ (k : List ℕ) (named : IsName k) where
     lines_good long before =
         ways_good (direct_moves k before after) before
         (all_flat_of Fits (λ tree. tree ≤ 4094) (λ tree. moves_to k tree (moved_to before after tree)) (0 ∷ mstis_in after)
-        (omega arith, all_as (λ tree. ((1 ≤ tree) × (tree ≤ 4094)) × (has_tree after tree ≡ true)) (λ tree. tree ≤ 4094) (λ tree fit. fit.0.1) (mstis_in after) (mstis_fit k 0 after long))
+        (omega arith, all_as (λ tree. ((1 ≤ tree) × (tree ≤ 4094)) × (has_tree after tree ≡ true)) (λ tree. tree ≤ 4094) (λ tree fit. fit.0.1) (mstis_in after) (mstis_fit after))
         (λ tree most. moves_good tree most (moved_to before after tree) (moved_set before tree)))
 
 -- ---- what is in a network
@@ -161,32 +160,35 @@ module _ (net : Net) (is : IsNetwork net) where
       by (Some v) e = (is.vlans p v e).1
 
 -- ---- the edits of each name
-module _ (a b : Net) (is_a : IsNetwork a) (is_b : IsNetwork b) where
-  bridge_set_good : (k : List ℕ) (stays : Bool) (before row : BridgeRow) → fin.get b.bridges k ≡ Some row → AllByRecursion IsGood (joined (bridge_set a b stays k before row))
+module _ (in_place : Bool) (a b : Net) (is_a : IsNetwork a) (is_b : IsNetwork b) where
+  bridge_set_good : (k : List ℕ) (stays : Bool) (before row : BridgeRow) → fin.get b.bridges k ≡ Some row → AllByRecursion IsGood (joined (bridge_set in_place a b stays k before row))
   bridge_set_good k stays before row there =
       let named : IsName k = is_b.bridges.named k row there in
       let sixteen = is_b.bridges.sixteen_bits k row there in
       let limits = is_b.bridges.limits_fit k row there in
       let old = table_before a stays k in
       let new = table_of b k in
-      all_joined IsGood (bridge_set a b stays k before row) (
+      all_joined IsGood (bridge_set in_place a b stays k before row) (
         all_when IsGood _ (AddBridge k row.mac) (λ _. plain (AddBridge k row.mac) (record { names = named; values = is_b.bridges.mac_fits k row there }) tt tt),
         (
-          all_when IsGood _ (SetBridge k (KindOf (kind_of row.is_rstp))) (λ _. bridge_good k (KindOf (kind_of row.is_rstp)) named tt),
+          all_when IsGood _ (SetBridge k (PowerOf (power_of row.is_on))) (λ _. bridge_good k (PowerOf (power_of row.is_on)) named tt),
           (
-            all_when IsGood _ (SetBridge k (SystemPriority row.system_priority)) (λ _. bridge_good k (SystemPriority row.system_priority) named sixteen.0),
+            all_when IsGood _ (SetBridge k (KindOf (kind_of row.is_rstp))) (λ _. bridge_good k (KindOf (kind_of row.is_rstp)) named tt),
             (
-              all_when IsGood _ (SetBridge k (Configuration row.revision row.conf_name)) (λ _. bridge_good k (Configuration row.revision row.conf_name) named (sixteen.1, is_b.bridges.names_fit k row there)),
+              all_when IsGood _ (SetBridge k (SystemPriority row.system_priority)) (λ _. bridge_good k (SystemPriority row.system_priority) named sixteen.0),
               (
-                all_map_of IsGood (Fits k named) (edit_of k) (with_ways k new old (direct_moves k old new)) (lines_good k named new (table_is b is_b k).0 old) (λ line good. good),
+                all_when IsGood _ (SetBridge k (Configuration row.revision row.conf_name)) (λ _. bridge_good k (Configuration row.revision row.conf_name) named (sixteen.1, is_b.bridges.names_fit k row there)),
                 (
-                  all_when IsGood _ (SetBridge k (MaxHops row.max_hops)) (λ _. bridge_good k (MaxHops row.max_hops) named limits.0),
+                  all_map_of IsGood (Fits k named) (edit_of k) (with_ways k new old (direct_moves k old new)) (lines_good k named new (table_is b is_b k).0 old) (λ line good. good),
                   (
-                    all_when IsGood _ (SetBridge k (MaxAge row.max_age)) (λ _. bridge_good k (MaxAge row.max_age) named limits.1),
+                    all_when IsGood _ (SetBridge k (MaxHops row.max_hops)) (λ _. bridge_good k (MaxHops row.max_hops) named limits.0),
                     (
-                      all_in_trees (priority_edits a b stays k) (λ t most. all_when IsGood _ (SetByTree (Priority k t (priority_of b k t))) (λ _.
-                          plain (SetByTree (Priority k t (priority_of b k t))) (record { names = named; values = (most, priority_small b is_b k t) }) tt tt)),
-                      tt,
+                      all_when IsGood _ (SetBridge k (MaxAge row.max_age)) (λ _. bridge_good k (MaxAge row.max_age) named limits.1),
+                      (
+                        all_in_trees (priority_edits a b stays k) (λ t most. all_when IsGood _ (SetByTree (Priority k t (priority_of b k t))) (λ _.
+                            plain (SetByTree (Priority k t (priority_of b k t))) (record { names = named; values = (most, priority_small b is_b k t) }) tt tt)),
+                        tt,
+                      ),
                     ),
                   ),
                 ),
@@ -223,10 +225,10 @@ module _ (a b : Net) (is_a : IsNetwork a) (is_b : IsNetwork b) where
         ),
       )
 
-  bridges_good : (k : List ℕ) → AllByRecursion IsGood (bridge_edits a b k)
+  bridges_good : (k : List ℕ) → AllByRecursion IsGood (bridge_edits in_place a b k)
   bridges_good k = by (fin.get b.bridges k) refl
     where
-      by : (o : Option BridgeRow) → fin.get b.bridges k ≡ o → AllByRecursion IsGood (option_map_or (bridge_settings a b k) o [])
+      by : (o : Option BridgeRow) → fin.get b.bridges k ≡ o → AllByRecursion IsGood (option_map_or (bridge_settings in_place a b k) o [])
       by None e = tt
       by (Some row) e = bridge_set_good k (bridge_stays a b k) (bridge_before a k row) row e
 
@@ -237,16 +239,19 @@ module _ (a b : Net) (is_a : IsNetwork a) (is_b : IsNetwork b) where
       by None e = tt
       by (Some row) e = port_set_good p row (port_stays a b p) (settings_before a (port_stays a b p) p) e
 
-  lans_good : (l : List ℕ) → AllByRecursion IsGood (lan_edits a b l)
+  lans_good : (l : List ℕ) → AllByRecursion IsGood (lan_edits in_place a b l)
   lans_good l = by (fin.get b.lans l) refl
     where
-      by : (o : Option LanRow) → fin.get b.lans l ≡ o → AllByRecursion IsGood (option_map_or (lan_settings a l) o [])
+      by : (o : Option LanRow) → fin.get b.lans l ≡ o → AllByRecursion IsGood (option_map_or (lan_settings in_place a l) o [])
       by None e = tt
       by (Some row) e =
           let named : IsName l = is_b.lans.named l row e in
-          all_joined IsGood (lan_set (has_lan l a) l (lan_before a l) row) (
+          all_joined IsGood (lan_set in_place (has_lan l a) l (lan_before a l) row) (
             all_when IsGood _ (AddLan l) (λ _. plain (AddLan l) (record { names = named; values = tt }) tt tt),
-            (all_when IsGood _ (SetLan l (Speed row.speed)) (λ _. lan_good l (Speed row.speed) named (is_b.lans.speed_fits l row e)), tt),
+            (
+              all_when IsGood _ (SetLan l (State (state_of row.is_up))) (λ _. lan_good l (State (state_of row.is_up)) named tt),
+              (all_when IsGood _ (SetLan l (Speed row.speed)) (λ _. lan_good l (Speed row.speed) named (is_b.lans.speed_fits l row e)), tt),
+            ),
           )
 
   plugs_good : (p : PortName) → AllByRecursion IsGood (plug_edits a b p)
@@ -262,17 +267,17 @@ module _ (a b : Net) (is_a : IsNetwork a) (is_b : IsNetwork b) where
               let home = found (fin.get b.lans lan) (is_b.ports.has_lan p row lan e f) in
               all_when IsGood (not (plug_stays a b p)) (Plug p lan) (λ _. plain (Plug p lan) (record { names = (port_named b is_b p row e, is_b.lans.named lan home.0 home.1); values = tt }) tt tt)
 
-  powers_good : (k : List ℕ) → AllByRecursion IsGood (power_edits a b k)
+  powers_good : (k : List ℕ) → AllByRecursion IsGood (power_edits in_place a b k)
   powers_good k = by (fin.get b.bridges k) refl
     where
-      by : (o : Option BridgeRow) → fin.get b.bridges k ≡ o → AllByRecursion IsGood (option_map_or (power_settings a k) o [])
+      by : (o : Option BridgeRow) → fin.get b.bridges k ≡ o → AllByRecursion IsGood (option_map_or (power_settings in_place a k) o [])
       by None e = tt
       by (Some row) e = all_when IsGood _ (SetBridge k (PowerOf (power_of row.is_on))) (λ _. bridge_good k (PowerOf (power_of row.is_on)) (is_b.bridges.named k row e) tt)
 
-  states_good : (l : List ℕ) → AllByRecursion IsGood (state_edits a b l)
+  states_good : (l : List ℕ) → AllByRecursion IsGood (state_edits in_place a b l)
   states_good l = by (fin.get b.lans l) refl
     where
-      by : (o : Option LanRow) → fin.get b.lans l ≡ o → AllByRecursion IsGood (option_map_or (state_settings a l) o [])
+      by : (o : Option LanRow) → fin.get b.lans l ≡ o → AllByRecursion IsGood (option_map_or (state_settings in_place a l) o [])
       by None e = tt
       by (Some row) e = all_when IsGood _ (SetLan l (State (state_of row.is_up))) (λ _. lan_good l (State (state_of row.is_up)) (is_b.lans.named l row e) tt)
 
@@ -292,17 +297,17 @@ module _ (a b : Net) (is_a : IsNetwork a) (is_b : IsNetwork b) where
     ),
   )
 
-  coming_good : AllByRecursion IsGood (joined (coming a b))
-  coming_good = all_joined IsGood (coming a b) (
-    all_flat IsGood (bridge_part a b) (fin.keys b.bridges) (λ k. all_append IsGood (bridge_edits a b k) (flat_map (port_edits a b) (ports_of b k)) (bridges_good k) (all_flat IsGood (port_edits a b) (ports_of b k) ports_good)),
+  coming_good : AllByRecursion IsGood (joined (coming in_place a b))
+  coming_good = all_joined IsGood (coming in_place a b) (
+    all_flat IsGood (bridge_part in_place a b) (fin.keys b.bridges) (λ k. all_append IsGood (bridge_edits in_place a b k) (flat_map (port_edits a b) (ports_of b k)) (bridges_good k) (all_flat IsGood (port_edits a b) (ports_of b k) ports_good)),
     (
-      all_flat IsGood (lan_edits a b) (fin.keys b.lans) lans_good,
+      all_flat IsGood (lan_edits in_place a b) (fin.keys b.lans) lans_good,
       (
         all_flat IsGood (plug_edits a b) (fin.keys b.ports) plugs_good,
-        (all_flat IsGood (power_edits a b) (fin.keys b.bridges) powers_good, (all_flat IsGood (state_edits a b) (fin.keys b.lans) states_good, tt)),
+        (all_flat IsGood (power_edits in_place a b) (fin.keys b.bridges) powers_good, (all_flat IsGood (state_edits in_place a b) (fin.keys b.lans) states_good, tt)),
       ),
     ),
   )
 
-  pub edits_good : AllByRecursion IsGood (edits a b)
-  edits_good = all_append IsGood (joined (going a b)) (joined (coming a b)) going_good coming_good
+  pub edits_good : AllByRecursion IsGood (edits_with in_place a b)
+  edits_good = all_append IsGood (joined (going a b)) (joined (coming in_place a b)) going_good coming_good

@@ -19,15 +19,12 @@ use Rattle.mst_net.specs.tables.After.{new_bridge, new_port, new_lan, in_lan, ha
 use Rattle.mst_net.proofs.tables_lemmas.Keyed.{IsKeyed}
 use Rattle.mst_net.proofs.tables_lemmas.Keys.{name_eq}
 use Rattle.mst_net.specs.tables.declared.settings.PortSettings.{PortSettings}
-use Rattle.mst_edits.specs.save.Saved.{when, joined}
-use Rattle.mst_edits.proofs.save_lemmas.Lists.{all_when, all_map, all_flat, all_as, Distinct, holds}
-use Rattle.mst_edits.proofs.save_lemmas.Whose.{all_joined}
-use Rattle.mst_edits.proofs.save_lemmas.Steps.{steps, Stays, stays, steps_one, steps_none}
-use Rattle.mst_edits.proofs.save_lemmas.BridgeEnds.{bridge_step}
-use Rattle.mst_edits.proofs.save_lemmas.PortEnds.{port_step, lan_step}
+use Rattle.mst_edits.specs.Edits.{when, joined, unplug_edits, del_port_edits, del_lan_edits, del_bridge_edits, in_trees, priority_edits, port_cost_edits, port_priority_edits, bridge_set, port_set, lan_set, bridge_settings, port_settings, lan_settings, bridge_edits, port_edits, lan_edits, plug_edits, power_settings, power_edits, state_settings, state_edits}
+use Rattle.mst_edits.proofs.Lists.{all_when, all_map, all_flat, all_as, Distinct, holds, all_joined}
+use Rattle.mst_edit_laws.proofs.Steps.{steps, Stays, stays, steps_one, steps_none}
+use Rattle.mst_edit_laws.proofs.Seen.{bridge_step, port_step, lan_step}
 use Rattle.mst_edits.specs.TableLines.{edit_of, with_ways, direct_moves}
 use Rattle.mst_edits.specs.Staying.{bridge_stays, port_stays, plug_stays, lan_of, bridge_before, settings_before, lan_before, table_before}
-use Rattle.mst_edits.specs.Edits.{unplug_edits, del_port_edits, del_lan_edits, del_bridge_edits, in_trees, priority_edits, port_cost_edits, port_priority_edits, bridge_set, port_set, lan_set, bridge_settings, port_settings, lan_settings, bridge_edits, port_edits, lan_edits, plug_edits, power_settings, power_edits, state_settings, state_edits}
 
 abbrev pub BridgeEdit : List ℕ → Edit → Type 0
 BridgeEdit b (AddBridge bridge mac) = bridge ≡ b
@@ -187,22 +184,25 @@ module _ (a b : Net) where
   pub del_bridges_of : (q : List ℕ) → AllByRecursion (BridgeEdit q) (del_bridge_edits a b q)
   del_bridges_of q = all_when (BridgeEdit q) (not (bridge_stays a b q)) (DelBridge q) (λ _. refl)
 
-  pub bridge_set_of : (stays : Bool) (q : List ℕ) (before row : BridgeRow) → AllByRecursion (BridgeEdit q) (joined (bridge_set a b stays q before row))
-  bridge_set_of stays q before row = all_joined (BridgeEdit q) (bridge_set a b stays q before row) (
+  pub bridge_set_of : (in_place stays : Bool) (q : List ℕ) (before row : BridgeRow) → AllByRecursion (BridgeEdit q) (joined (bridge_set in_place a b stays q before row))
+  bridge_set_of in_place stays q before row = all_joined (BridgeEdit q) (bridge_set in_place a b stays q before row) (
     all_when (BridgeEdit q) (not stays) _ (λ _. refl),
     (
-      all_when (BridgeEdit q) (not (beq row.is_rstp before.is_rstp)) _ (λ _. refl),
+      all_when (BridgeEdit q) (in_place && not (beq row.is_on before.is_on)) _ (λ _. refl),
       (
-        all_when (BridgeEdit q) (not (row.system_priority == before.system_priority)) _ (λ _. refl),
+        all_when (BridgeEdit q) (not (beq row.is_rstp before.is_rstp)) _ (λ _. refl),
         (
-          all_when (BridgeEdit q) _ _ (λ _. refl),
+          all_when (BridgeEdit q) (not (row.system_priority == before.system_priority)) _ (λ _. refl),
           (
-            all_map (BridgeEdit q) (edit_of q) (with_ways q (table_of b q) (table_before a stays q) (direct_moves q (table_before a stays q) (table_of b q))) (λ line. refl),
+            all_when (BridgeEdit q) _ _ (λ _. refl),
             (
-              all_when (BridgeEdit q) (not (row.max_hops == before.max_hops)) _ (λ _. refl),
+              all_map (BridgeEdit q) (edit_of q) (with_ways q (table_of b q) (table_before a stays q) (direct_moves q (table_before a stays q) (table_of b q))) (λ line. refl),
               (
-                all_when (BridgeEdit q) (not (row.max_age == before.max_age)) _ (λ _. refl),
-                (all_in_trees (BridgeEdit q) (priority_edits a b stays q) (λ t. all_when (BridgeEdit q) _ _ (λ _. refl)), tt),
+                all_when (BridgeEdit q) (not (row.max_hops == before.max_hops)) _ (λ _. refl),
+                (
+                  all_when (BridgeEdit q) (not (row.max_age == before.max_age)) _ (λ _. refl),
+                  (all_in_trees (BridgeEdit q) (priority_edits a b stays q) (λ t. all_when (BridgeEdit q) _ _ (λ _. refl)), tt),
+                ),
               ),
             ),
           ),
@@ -211,12 +211,12 @@ module _ (a b : Net) where
     ),
   )
 
-  pub bridges_of : (q : List ℕ) → AllByRecursion (BridgeEdit q) (bridge_edits a b q)
-  bridges_of q = by (fin.get b.bridges q)
+  pub bridges_of : (in_place : Bool) (q : List ℕ) → AllByRecursion (BridgeEdit q) (bridge_edits in_place a b q)
+  bridges_of in_place q = by (fin.get b.bridges q)
     where
-      by : (o : Option BridgeRow) → AllByRecursion (BridgeEdit q) (option_map_or (bridge_settings a b q) o [])
+      by : (o : Option BridgeRow) → AllByRecursion (BridgeEdit q) (option_map_or (bridge_settings in_place a b q) o [])
       by None = tt
-      by (Some row) = bridge_set_of (bridge_stays a b q) q (bridge_before a q row) row
+      by (Some row) = bridge_set_of in_place (bridge_stays a b q) q (bridge_before a q row) row
 
   pub port_set_of : (stays : Bool) (p : PortName) (before settings : PortSettings) → AllByRecursion (PortEdit p) (joined (port_set a b stays p before settings))
   port_set_of stays p before settings = all_joined (PortEdit p) (port_set a b stays p before settings) (
@@ -246,14 +246,17 @@ module _ (a b : Net) where
       by None = tt
       by (Some row) = port_set_of (port_stays a b p) p (settings_before a (port_stays a b p) p) row.settings
 
-  pub lans_of : (l : List ℕ) → AllByRecursion (LanEdit l) (lan_edits a b l)
-  lans_of l = by (fin.get b.lans l)
+  pub lans_of : (in_place : Bool) (l : List ℕ) → AllByRecursion (LanEdit l) (lan_edits in_place a b l)
+  lans_of in_place l = by (fin.get b.lans l)
     where
-      by : (o : Option LanRow) → AllByRecursion (LanEdit l) (option_map_or (lan_settings a l) o [])
+      by : (o : Option LanRow) → AllByRecursion (LanEdit l) (option_map_or (lan_settings in_place a l) o [])
       by None = tt
-      by (Some row) = all_joined (LanEdit l) (lan_set (has_lan l a) l (lan_before a l) row) (
+      by (Some row) = all_joined (LanEdit l) (lan_set in_place (has_lan l a) l (lan_before a l) row) (
         all_when (LanEdit l) (not (has_lan l a)) _ (λ _. refl),
-        (all_when (LanEdit l) (not (row.speed == (lan_before a l).speed)) _ (λ _. refl), tt),
+        (
+          all_when (LanEdit l) (in_place && not (beq row.is_up (lan_before a l).is_up)) _ (λ _. refl),
+          (all_when (LanEdit l) (not (row.speed == (lan_before a l).speed)) _ (λ _. refl), tt),
+        ),
       )
 
   pub plugs_of : (p : PortName) → AllByRecursion (PortEdit p) (plug_edits a b p)
@@ -263,19 +266,19 @@ module _ (a b : Net) where
       by None = tt
       by (Some lan) = all_when (PortEdit p) (not (plug_stays a b p)) (Plug p lan) (λ _. refl)
 
-  pub powers_of : (q : List ℕ) → AllByRecursion (BridgeEdit q) (power_edits a b q)
-  powers_of q = by (fin.get b.bridges q)
+  pub powers_of : (in_place : Bool) (q : List ℕ) → AllByRecursion (BridgeEdit q) (power_edits in_place a b q)
+  powers_of in_place q = by (fin.get b.bridges q)
     where
-      by : (o : Option BridgeRow) → AllByRecursion (BridgeEdit q) (option_map_or (power_settings a q) o [])
+      by : (o : Option BridgeRow) → AllByRecursion (BridgeEdit q) (option_map_or (power_settings in_place a q) o [])
       by None = tt
-      by (Some row) = all_when (BridgeEdit q) (not (beq row.is_on (bridge_before a q row).is_on)) _ (λ _. refl)
+      by (Some row) = all_when (BridgeEdit q) (not in_place && not (beq row.is_on (bridge_before a q row).is_on)) _ (λ _. refl)
 
-  pub states_of : (l : List ℕ) → AllByRecursion (LanEdit l) (state_edits a b l)
-  states_of l = by (fin.get b.lans l)
+  pub states_of : (in_place : Bool) (l : List ℕ) → AllByRecursion (LanEdit l) (state_edits in_place a b l)
+  states_of in_place l = by (fin.get b.lans l)
     where
-      by : (o : Option LanRow) → AllByRecursion (LanEdit l) (option_map_or (state_settings a l) o [])
+      by : (o : Option LanRow) → AllByRecursion (LanEdit l) (option_map_or (state_settings in_place a l) o [])
       by None = tt
-      by (Some row) = all_when (LanEdit l) (not (beq row.is_up (lan_before a l).is_up)) _ (λ _. refl)
+      by (Some row) = all_when (LanEdit l) (not in_place && not (beq row.is_up (lan_before a l).is_up)) _ (λ _. refl)
 
 -- lists of which each element's edits leave what is looked at
 pub all_leave : {K S : Type 0} (step : Edit → S → S) (P : K → Edit → Type 0) → ((k : K) (e : Edit) → P k e → Stays step e) → (f : K → List Edit) → ((k : K) → AllByRecursion (P k) (f k)) → (ks : List K) → AllByRecursion (Stays step) (flat_map f ks)

@@ -7,7 +7,7 @@ use Rattle.mst_lang.specs.declared.line.Line.TheVariants.{Edit as edit}
 use Rattle.mst_lang.specs.declared.line.Edit.{Edit}
 use Rattle.mst_net.specs.tables.Tables.{Net}
 use Rattle.mst_rows.specs.Lines.{row_line}
-use Rattle.mst_edits.specs.save.SaveText.{Leave}
+use Rattle.mst_edits.specs.SaveText.{Leave}
 use Rattle.mst_edits.specs.EditRows.{change_rows}
 
 -- the text: the lines of the rows

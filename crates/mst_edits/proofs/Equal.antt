@@ -17,10 +17,9 @@ use Rattle.mst_net.specs.tables.Contents.{priority_of, port_priority_of, port_co
 use Rattle.mst_net.specs.tables.Tables.{Net, IsNetwork, BridgeRow, PortRow, LanRow}
 use Rattle.mst_net.specs.tables.declared.settings.PortSettings.{PortSettings}
 use Rattle.mst_net.proofs.tables_lemmas.Keys.{names, ports}
-use Rattle.mst_save.specs.Saved.{when, joined, ports_of}
-use Rattle.mst_save.proofs.Lists.{all_of, keys_hold}
+use Rattle.mst_edits.specs.Edits.{when, joined, ports_of, unplug_edits, del_port_edits, del_lan_edits, del_bridge_edits, is_same_cost, priority_edits, port_cost_edits, port_priority_edits, bridge_set, port_set, lan_set, bridge_settings, port_settings, lan_settings, bridge_edits, port_edits, lan_edits, bridge_part, plug_edits, power_settings, power_edits, state_settings, state_edits, is_same_configuration, edits}
+use Rattle.mst_edits.proofs.Lists.{all_of, keys_hold}
 use Rattle.mst_edits.specs.Staying.{bridge_stays, port_stays, plug_stays, lan_of, is_same_lan, has_mac, bridge_before, settings_before, lan_before}
-use Rattle.mst_edits.specs.Edits.{unplug_edits, del_port_edits, del_lan_edits, del_bridge_edits, is_same_cost, priority_edits, port_cost_edits, port_priority_edits, bridge_set, port_set, lan_set, bridge_settings, port_settings, lan_settings, bridge_edits, port_edits, lan_edits, bridge_part, plug_edits, power_settings, power_edits, state_settings, state_edits, is_same_configuration, edits}
 use Rattle.mst_edits.proofs.LinesMade.{no_table_edits, flat_none}
 use Rattle.mst_edits.proofs.Quiet.{none_in_trees}
 
@@ -100,24 +99,27 @@ module _ (net : Net) (is : IsNetwork net) where
   no_del_bridge q h = none_when (bridge_stays net net q) (DelBridge q) (has_is q h)
 
   -- ---- what is set
-  no_bridge_set : (q : List ℕ) (row : BridgeRow) → joined (bridge_set net net true q row row) ≡ []
-  no_bridge_set q row = joined_none (bridge_set net net true q row row) (
+  no_bridge_set : (q : List ℕ) (row : BridgeRow) → joined (bridge_set false net net true q row row) ≡ []
+  no_bridge_set q row = joined_none (bridge_set false net net true q row row) (
     refl,
     (
-      none_when (beq row.is_rstp row.is_rstp) _ (same_flag row.is_rstp),
+      refl,
       (
-        none_when (row.system_priority == row.system_priority) _ (same_number row.system_priority),
+        none_when (beq row.is_rstp row.is_rstp) _ (same_flag row.is_rstp),
         (
-          none_when (is_same_configuration row row) _ (ap (λ b. b && pointwise nat_eq row.conf_name row.conf_name) (same_number row.revision) ∙ same_text row.conf_name),
+          none_when (row.system_priority == row.system_priority) _ (same_number row.system_priority),
           (
-            no_table_edits q (table_of net q),
+            none_when (is_same_configuration row row) _ (ap (λ b. b && pointwise nat_eq row.conf_name row.conf_name) (same_number row.revision) ∙ same_text row.conf_name),
             (
-              none_when (row.max_hops == row.max_hops) _ (same_number row.max_hops),
+              no_table_edits q (table_of net q),
               (
-                none_when (row.max_age == row.max_age) _ (same_number row.max_age),
+                none_when (row.max_hops == row.max_hops) _ (same_number row.max_hops),
                 (
-                  none_in_trees (priority_edits net net true q) (λ t. none_when (priority_of net q t == priority_of net q t) (SetByTree (Priority q t (priority_of net q t))) (same_number (priority_of net q t))),
-                  tt,
+                  none_when (row.max_age == row.max_age) _ (same_number row.max_age),
+                  (
+                    none_in_trees (priority_edits net net true q) (λ t. none_when (priority_of net q t == priority_of net q t) (SetByTree (Priority q t (priority_of net q t))) (same_number (priority_of net q t))),
+                    tt,
+                  ),
                 ),
               ),
             ),
@@ -130,12 +132,12 @@ module _ (net : Net) (is : IsNetwork net) where
   before_is : (q : List ℕ) (row : BridgeRow) → fin.get net.bridges q ≡ Some row → bridge_before net q row ≡ row
   before_is q row e = ap (λ o. option_map_or (λ old. if old.mac == row.mac then old else new_bridge row.mac) o (new_bridge row.mac)) e ∙ ap (λ b. if b then row else new_bridge row.mac) (same_number row.mac)
 
-  no_bridge : (q : List ℕ) → bridge_edits net net q ≡ []
+  no_bridge : (q : List ℕ) → bridge_edits false net net q ≡ []
   no_bridge q = by (fin.get net.bridges q) refl
     where
-      by : (o : Option BridgeRow) → fin.get net.bridges q ≡ o → option_map_or (bridge_settings net net q) o [] ≡ []
+      by : (o : Option BridgeRow) → fin.get net.bridges q ≡ o → option_map_or (bridge_settings false net net q) o [] ≡ []
       by None e = refl
-      by (Some row) e = (λ i. joined (bridge_set net net (bridge_is q row e i) q (before_is q row e i) row)) ∙ no_bridge_set q row
+      by (Some row) e = (λ i. joined (bridge_set false net net (bridge_is q row e i) q (before_is q row e i) row)) ∙ no_bridge_set q row
 
   no_port_set : (p : PortName) (s : PortSettings) → joined (port_set net net true p s s) ≡ []
   no_port_set p s = joined_none (port_set net net true p s s) (
@@ -173,13 +175,13 @@ module _ (net : Net) (is : IsNetwork net) where
           ap (λ b. joined (port_set net net b p (settings_before net b p) row.settings)) (port_is p row e)
           ∙ ap (λ s. joined (port_set net net true p s row.settings)) (settings_are p row e) ∙ no_port_set p row.settings
 
-  no_lan : (l : List ℕ) → lan_edits net net l ≡ []
+  no_lan : (l : List ℕ) → lan_edits false net net l ≡ []
   no_lan l = by (fin.get net.lans l) refl
     where
-      by : (o : Option LanRow) → fin.get net.lans l ≡ o → option_map_or (lan_settings net l) o [] ≡ []
+      by : (o : Option LanRow) → fin.get net.lans l ≡ o → option_map_or (lan_settings false net l) o [] ≡ []
       by None e = refl
       by (Some row) e =
-          ap (λ (o : Option LanRow). joined (lan_set (is_some o) l (option_map_or (λ r. r) o new_lan) row)) e
+          ap (λ (o : Option LanRow). joined (lan_set false (is_some o) l (option_map_or (λ r. r) o new_lan) row)) e
           ∙ ap (λ (es : List Edit). es ++ []) (none_when (row.speed == row.speed) (SetLan l (Speed row.speed)) (same_number row.speed))
 
   no_plug : (p : PortName) → has_port p net ≡ true → plug_edits net net p ≡ []
@@ -189,17 +191,17 @@ module _ (net : Net) (is : IsNetwork net) where
       by None e = refl
       by (Some lan) e = let f = found (fin.get net.ports p) h in none_when (plug_stays net net p) _ (plug_is p f.0 lan f.1 e)
 
-  no_power : (q : List ℕ) → power_edits net net q ≡ []
+  no_power : (q : List ℕ) → power_edits false net net q ≡ []
   no_power q = by (fin.get net.bridges q) refl
     where
-      by : (o : Option BridgeRow) → fin.get net.bridges q ≡ o → option_map_or (power_settings net q) o [] ≡ []
+      by : (o : Option BridgeRow) → fin.get net.bridges q ≡ o → option_map_or (power_settings false net q) o [] ≡ []
       by None e = refl
       by (Some row) e = none_when (beq row.is_on (bridge_before net q row).is_on) _ (ap (λ r. beq row.is_on r.is_on) (before_is q row e) ∙ same_flag row.is_on)
 
-  no_state : (l : List ℕ) → state_edits net net l ≡ []
+  no_state : (l : List ℕ) → state_edits false net net l ≡ []
   no_state l = by (fin.get net.lans l) refl
     where
-      by : (o : Option LanRow) → fin.get net.lans l ≡ o → option_map_or (state_settings net l) o [] ≡ []
+      by : (o : Option LanRow) → fin.get net.lans l ≡ o → option_map_or (state_settings false net l) o [] ≡ []
       by None e = refl
       by (Some row) e = none_when (beq row.is_up (lan_before net l).is_up) _ (ap (λ (o : Option LanRow). beq row.is_up (up_in (option_map_or (λ r. r) o new_lan))) e ∙ same_flag row.is_up)
 
@@ -213,7 +215,7 @@ module _ (net : Net) (is : IsNetwork net) where
   each_lan : (P : List ℕ → Type 0) → ((l : List ℕ) → has_lan l net ≡ true → P l) → AllByRecursion P (fin.keys net.lans)
   each_lan P h = all_of names P (fin.keys net.lans) (λ l i. h l (sym (keys_hold names net.lans l) ∙ i))
 
-  no_part : (q : List ℕ) → bridge_part net net q ≡ []
+  no_part : (q : List ℕ) → bridge_part false net net q ≡ []
   no_part q = (λ i. no_bridge q i ++ flat_none (port_edits net net) no_port (ports_of net q) i)
 
   pub no_edits : edits net net ≡ []
@@ -222,8 +224,8 @@ module _ (net : Net) (is : IsNetwork net) where
       ++ (all_none (del_port_edits net net) (fin.keys net.ports) (each_port _ no_del_port) i
       ++ (all_none (del_lan_edits net) (fin.keys net.lans) (each_lan _ no_del_lan) i
       ++ (all_none (del_bridge_edits net net) (fin.keys net.bridges) (each_bridge _ no_del_bridge) i ++ []))))
-      ++ (flat_none (bridge_part net net) no_part (fin.keys net.bridges) i
-      ++ (flat_none (lan_edits net net) no_lan (fin.keys net.lans) i
+      ++ (flat_none (bridge_part false net net) no_part (fin.keys net.bridges) i
+      ++ (flat_none (lan_edits false net net) no_lan (fin.keys net.lans) i
       ++ (all_none (plug_edits net net) (fin.keys net.ports) (each_port _ no_plug) i
-      ++ (flat_none (power_edits net net) no_power (fin.keys net.bridges) i
-      ++ (flat_none (state_edits net net) no_state (fin.keys net.lans) i ++ [])))))
+      ++ (flat_none (power_edits false net net) no_power (fin.keys net.bridges) i
+      ++ (flat_none (state_edits false net net) no_state (fin.keys net.lans) i ++ [])))))

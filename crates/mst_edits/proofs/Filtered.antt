@@ -7,7 +7,7 @@ use Rattle.std.proofs.lemmas.List.{take_more}
 use Rattle.std.proofs.lemmas.List.Elements.{filter-append}
 use Rattle.mst_net.proofs.tables_lemmas.Rising.{range_more}
 use Rattle.mst_net.specs.tables.TreesSet.{trees_where}
-use Rattle.mst_save.proofs.Steps.{any_passing}
+use Rattle.mst_edits.proofs.Lists.{any_passing}
 
 one_tested : (test : ℕ → Bool) (from k number : ℕ) → number ≡ from + k → filter test (range_with_len from (k + 1)) ≡ filter test (range_with_len from k) ++ cond (test number) (number ∷ []) []
 one_tested test from k number is =

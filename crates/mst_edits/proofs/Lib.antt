@@ -1,4 +1,11 @@
-pub use Rattle.mst_save.proofs as save_lemmas
+pub mod RunLemmas
+pub mod Short
+pub mod Cuts
+mod Cutting
+mod RunSets
+mod Keeping
+pub mod Lists
+pub mod TreesMapped
 pub mod Listing
 pub mod Sets
 mod Moved
@@ -8,3 +15,5 @@ mod Quiet
 pub mod LinesMade
 mod Equal
 mod TablesMade
+mod NewTable
+mod RowsInTurn

@@ -10,13 +10,12 @@ use Rattle.mst_ids.proofs.VidSetLemmas.{set_where-same}
 use Rattle.mst_ids.proofs.VidTextLemmas.{no_next_run}
 use Rattle.mst_lang.specs.declared.line.Edit.{Edit}
 use Rattle.mst_net.specs.tables.Table.{no_table, tree_in, mapped, mstis_in}
-use Rattle.mst_save.specs.EditLine.{no_vids}
-use Rattle.mst_save.specs.Runs.{vids_of}
-use Rattle.mst_save.specs.Saved.{vids_in, fits, cut}
-use Rattle.mst_save.proofs.Cuts.{vids_in_is}
+use Rattle.mst_edits.specs.EditLine.{no_vids}
+use Rattle.mst_edits.specs.Runs.{vids_of}
+use Rattle.mst_edits.specs.TableLines.{vids_in, fits, cut, move, edit_of, moves_to, moved_to, gathered, gathered_first, is_one_line, with_tree, with_way, with_ways, table_after, table_edits}
+use Rattle.mst_edits.proofs.Cuts.{vids_in_is}
 use Rattle.mst_edits.proofs.Sets.{set_of_has}
 use Rattle.mst_edits.specs.declared.moves.Move.{Move}
-use Rattle.mst_edits.specs.TableLines.{move, edit_of, moves_to, moved_to, gathered, gathered_first, is_one_line, with_tree, with_way, with_ways, table_after, table_edits}
 
 pub length-mapped : (vids : List Bool) (tree : ℕ) (table : List ℕ) → length (mapped vids tree table) ≡ 4094
 unfolding mapped

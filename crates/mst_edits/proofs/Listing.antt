@@ -4,7 +4,7 @@ use Rattle.std.proofs.lemmas.Grind.{common_steps}
 use Rattle.std.proofs.lemmas.List.{take_all}
 use Rattle.std.specs.List.{flat_map, filter}
 use Rattle.mst_lang.specs.declared.line.Edit.{Edit}
-use Rattle.mst_save.specs.Saved.{joined}
+use Rattle.mst_edits.specs.Edits.{joined}
 
 flat_taken : {X A : Type 0} (f : X → List A) (xs : List X) (i : ℕ) (x : X) → i < length xs → x ≡ get_or xs i x → flat_map f (take i xs) ++ f x ≡ flat_map f (take (i + 1) xs)
 flat_taken f xs i x below is = grind (arith, common_steps)

@@ -5,7 +5,7 @@ use Rattle.std.proofs.lemmas.Bool.{and_from, le-leb, lt-leb}
 use Rattle.mst_ids.specs.Vids.{has, is_vid}
 use Rattle.mst_ids.specs.VidBits.{has-set_where}
 use Rattle.mst_net.specs.tables.Table.{tree_in}
-use Rattle.mst_save.specs.Saved.{vids_in}
+use Rattle.mst_edits.specs.TableLines.{vids_in}
 
 abbrev pub is_moved : List ℕ → List ℕ → ℕ → ℕ → Bool
 is_moved before after tree vid = is_vid vid && (tree_in after vid == tree && not (tree_in before vid == tree))

@@ -1,7 +1,7 @@
 -- Lines that are added one after another.
 use Rattle.std.proofs.Common.{◌≡◌, ℕ, Bool, List, [], ◌∷◌, ◌++◌, map, sym, ap, ◌∙◌, append_assoc}
 use Rattle.std.proofs.lemmas.List.{map-append}
-use Rattle.mst_save.specs.Runs.{vids_of}
+use Rattle.mst_edits.specs.Runs.{vids_of}
 use Rattle.mst_edits.specs.declared.moves.Move.{Move}
 use Rattle.mst_edits.specs.TableLines.{move}
 

@@ -5,8 +5,7 @@ use Rattle.std.specs.List.{flat_map, range_with_len}
 use Rattle.std.proofs.lemmas.Bool.{eqb-true, eq-eqb}
 use Rattle.mst_lang.specs.declared.line.Edit.{Edit}
 use Rattle.mst_net.specs.tables.TreesSet.{trees_where}
-use Rattle.mst_save.specs.Saved.{when}
-use Rattle.mst_edits.specs.Edits.{in_trees, is_same_cost}
+use Rattle.mst_edits.specs.Edits.{when, in_trees, is_same_cost}
 use Rattle.mst_edits.proofs.Listing.{only_passing}
 use Rattle.mst_edits.proofs.LinesMade.{flat_none}
 

@@ -5,7 +5,7 @@ use Rattle.std.proofs.lemmas.Bool.{cases_lt, cases_eq, lt-ltb, le-ltb, le-leb, l
 use Rattle.mst_ids.specs.Vids.{has, is_within, set_where, runs_from, IsVidSet}
 use Rattle.mst_ids.specs.VidBits.{has-set_where}
 use Rattle.mst_ids.proofs.VidSetLemmas.{set_where-same, set_where-has}
-use Rattle.mst_save.proofs.RunLemmas.{set_of_runs, covers}
+use Rattle.mst_edits.proofs.RunLemmas.{set_of_runs, covers}
 
 -- a set is that of the numbers that it has
 pub set_of_has : (vids : List Bool) → IsVidSet vids → vids ≡ set_where (has vids)

@@ -10,17 +10,14 @@ use Rattle.mst_ids.specs.VidBits.{has-set_where, length-set_where}
 use Rattle.mst_ids.proofs.VidRangeLemmas.{is_vid_set}
 use Rattle.mst_lang.specs.Ranges.{IsName}
 use Rattle.mst_net.specs.tables.Table.{tree_in, has_tree, mapped, mstis_in}
-use Rattle.mst_save.specs.EditLine.{no_vids}
-use Rattle.mst_save.specs.Runs.{vids_of}
-use Rattle.mst_save.specs.Saved.{vids_in, fits, cut}
-use Rattle.mst_save.proofs.Lists.{all_map_of, all_flat_of, all_as, all_filter}
-use Rattle.mst_save.proofs.RunLemmas.{covers, runs_of_set, set_of_runs}
-use Rattle.mst_save.proofs.Cuts.{IsLine, lines_are, some_line, one_fits, vids_in_is}
-use Rattle.mst_save.proofs.Tables.{tree_in-mapped, has_place}
-use Rattle.mst_save.proofs.BridgeEnds.{mstis_fit}
-use Rattle.mst_save.proofs.Steps.{any_flat, any_passing}
+use Rattle.mst_edits.specs.EditLine.{no_vids}
+use Rattle.mst_edits.specs.Runs.{vids_of}
+use Rattle.mst_edits.specs.TableLines.{vids_in, fits, cut, move, moves_to, moved_to, direct_moves, unwanted, is_one_line, with_tree, gathered, gathered_first, ways, with_way, with_ways, crowds, table_after}
+use Rattle.mst_edits.proofs.Lists.{all_map_of, all_flat_of, all_as, all_filter, any_flat, any_passing}
+use Rattle.mst_edits.proofs.RunLemmas.{covers, runs_of_set, set_of_runs}
+use Rattle.mst_edits.proofs.Cuts.{IsLine, lines_are, some_line, one_fits, vids_in_is}
+use Rattle.mst_edits.proofs.TreesMapped.{tree_in-mapped, has_place, mstis_fit}
 use Rattle.mst_edits.specs.declared.moves.Move.{Move}
-use Rattle.mst_edits.specs.TableLines.{move, moves_to, moved_to, direct_moves, unwanted, is_one_line, with_tree, gathered, gathered_first, ways, with_way, with_ways, crowds, table_after}
 use Rattle.mst_edits.proofs.LinesMade.{length-mapped, length-after, after_append}
 
 -- ---- the lines of a set map its VIDs and no others
@@ -145,7 +142,7 @@ module _ (name : List ℕ) (named : IsName name) (after : List ℕ) (long : leng
       all_as (λ tree. (((1 ≤ tree) × (tree ≤ 4094)) × (has_tree rest tree ≡ true)) × (not (has_tree after tree) ≡ true)) (λ tree. (v : ℕ) → has (vids_in rest tree) v ≡ true → Unwanted rest v)
       (λ tree p v h. let i = in_tree rest tree v h in (omega (arith, p.0.0.0, i.2), ap (has_tree after) i.2 ∙ not_true (has_tree after tree) p.1))
       (unwanted after rest)
-      (all_filter (λ tree. not (has_tree after tree)) (mstis_in rest) (λ tree. ((1 ≤ tree) × (tree ≤ 4094)) × (has_tree rest tree ≡ true)) (mstis_fit name 0 rest len))
+      (all_filter (λ tree. not (has_tree after tree)) (mstis_in rest) (λ tree. ((1 ≤ tree) × (tree ≤ 4094)) × (has_tree rest tree ≡ true)) (mstis_fit rest))
 
   Right : List ℕ → ℕ → Type 0
   Right now v = tree_in now v ≡ tree_in after v
@@ -227,7 +224,7 @@ module _ (name : List ℕ) (named : IsName name) (after : List ℕ) (long : leng
   direct_keeps : (before : List ℕ) (v : ℕ) → AllByRecursion (λ l. has l.vids v ≡ true → tree_in after v ≡ l.tree) (direct_moves name before after)
   direct_keeps before v =
       all_flat_of (λ l. has l.vids v ≡ true → tree_in after v ≡ l.tree) (λ tree. tree ≤ 4094) (λ tree. moves_to name tree (moved_to before after tree)) (0 ∷ mstis_in after)
-      (omega arith, all_as (λ tree. ((1 ≤ tree) × (tree ≤ 4094)) × (has_tree after tree ≡ true)) (λ tree. tree ≤ 4094) (λ tree p. p.0.1) (mstis_in after) (mstis_fit name 0 after long))
+      (omega arith, all_as (λ tree. ((1 ≤ tree) × (tree ≤ 4094)) × (has_tree after tree ≡ true)) (λ tree. tree ≤ 4094) (λ tree p. p.0.1) (mstis_in after) (mstis_fit after))
       (λ tree most. all_as (IsMove (moved_to before after tree) tree) (λ l. has l.vids v ≡ true → tree_in after v ≡ l.tree) (λ l m h. moved_tree before tree v (m.within v h) ∙ sym m.tree_is)
       (moves_to name tree (moved_to before after tree)) (moves_are name named tree most (moved_to before after tree) (moved_set before tree)))
 

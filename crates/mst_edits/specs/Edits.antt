@@ -1,6 +1,6 @@
--- The edits that make one network of another, in their order.
-use Rattle.std.specs.Prelude.{ℕ, ◌==◌, ◌&&◌, Bool, true, false, not, List, [], ◌∷◌, ◌++◌, is_some, Option, Some, None, nat_eq}
-use Rattle.std.specs.List.{flat_map, range_with_len}
+-- The edits that make one network of another, in their order; and those that make a network of none.
+use Rattle.std.specs.Prelude.{ℕ, ◌==◌, ◌&&◌, Bool, true, false, not, List, [], ◌∷◌, ◌++◌, is_some, Option, Some, None, nat_eq, if◌then◌else◌}
+use Rattle.std.specs.List.{flat_map, filter, range_with_len}
 use Rattle.std.specs.Option.{option_map_or}
 use Rattle.std.specs.Bool.{beq}
 use Rattle.std.specs.Cmp.Lexicographic.{pointwise}
@@ -15,11 +15,23 @@ use Rattle.mst_lang.specs.declared.line.TreeChange.TheVariants.{Priority, PortPr
 use Rattle.mst_net.specs.tables.After.{has_lan, table_of, vlans_of}
 use Rattle.mst_net.specs.tables.Contents.{priority_of, port_priority_of, port_cost_of}
 use Rattle.mst_net.specs.tables.Settings.{kind_of, power_of, state_of}
-use Rattle.mst_net.specs.tables.Tables.{Net, BridgeRow, PortRow, LanRow}
+use Rattle.mst_net.specs.tables.Tables.{Net, BridgeRow, PortRow, LanRow, empty_net}
 use Rattle.mst_net.specs.tables.declared.settings.PortSettings.{PortSettings}
-use Rattle.mst_save.specs.Saved.{when, joined, ports_of}
 use Rattle.mst_edits.specs.Staying.{bridge_stays, port_stays, plug_stays, lan_of, bridge_before, settings_before, lan_before, table_before, priority_before, port_priority_before, port_cost_before, vlans_before}
 use Rattle.mst_edits.specs.TableLines.{table_edits}
+
+-- an edit where a test holds
+abbrev pub when : Bool → Edit → List Edit
+when test edit = if test then edit ∷ [] else []
+
+-- lists of edits, one after another
+abbrev pub joined : List (List Edit) → List Edit
+joined [] = []
+joined (edits ∷ others) = edits ++ joined others
+
+-- the ports of a bridge, by number
+abbrev pub ports_of : Net → List ℕ → List PortName
+ports_of net bridge = filter (λ port. pointwise nat_eq bridge port.bridge) (fin.keys net.ports)
 
 -- ---- what goes
 abbrev pub unplug_edits : Net → Net → PortName → List Edit
@@ -60,9 +72,18 @@ abbrev pub port_priority_edits : Net → Net → Bool → PortName → ℕ → L
 port_priority_edits a b stays port tree =
     when (not (port_priority_of b port tree == port_priority_before a stays port tree)) (SetByTree (PortPriority port tree (port_priority_of b port tree)))
 
-abbrev pub bridge_set : Net → Net → Bool → List ℕ → BridgeRow → BridgeRow → List (List Edit)
-bridge_set a b stays bridge before row =
+-- whether a bridge is on, and whether a LAN is up, where it is to be set here
+abbrev pub power_here : Bool → List ℕ → BridgeRow → BridgeRow → List Edit
+power_here here bridge before row = when (here && not (beq row.is_on before.is_on)) (SetBridge bridge (PowerOf (power_of row.is_on)))
+
+abbrev pub state_here : Bool → List ℕ → LanRow → LanRow → List Edit
+state_here here lan before row = when (here && not (beq row.is_up before.is_up)) (SetLan lan (State (state_of row.is_up)))
+
+-- what is set of a bridge, of a port and of a LAN; states stand in their place, or come last
+abbrev pub bridge_set : Bool → Net → Net → Bool → List ℕ → BridgeRow → BridgeRow → List (List Edit)
+bridge_set in_place a b stays bridge before row =
     when (not stays) (AddBridge bridge row.mac)
+    ∷ power_here in_place bridge before row
     ∷ when (not (beq row.is_rstp before.is_rstp)) (SetBridge bridge (KindOf (kind_of row.is_rstp)))
     ∷ when (not (row.system_priority == before.system_priority)) (SetBridge bridge (SystemPriority row.system_priority))
     ∷ when (not (is_same_configuration row before)) (SetBridge bridge (Configuration row.revision row.conf_name))
@@ -83,50 +104,51 @@ port_set a b stays port before settings =
     ∷ when (not (beq settings.is_restricted before.is_restricted)) (SetPort port (RestrictedRole settings.is_restricted))
     ∷ []
 
-abbrev pub lan_set : Bool → List ℕ → LanRow → LanRow → List (List Edit)
-lan_set stays lan before row =
+abbrev pub lan_set : Bool → Bool → List ℕ → LanRow → LanRow → List (List Edit)
+lan_set in_place stays lan before row =
     when (not stays) (AddLan lan)
+    ∷ state_here in_place lan before row
     ∷ when (not (row.speed == before.speed)) (SetLan lan (Speed row.speed))
     ∷ []
 
 -- those of a record of the new network
-abbrev pub bridge_settings : Net → Net → List ℕ → BridgeRow → List Edit
-bridge_settings a b bridge row = joined (bridge_set a b (bridge_stays a b bridge) bridge (bridge_before a bridge row) row)
+abbrev pub bridge_settings : Bool → Net → Net → List ℕ → BridgeRow → List Edit
+bridge_settings in_place a b bridge row = joined (bridge_set in_place a b (bridge_stays a b bridge) bridge (bridge_before a bridge row) row)
 
 abbrev pub port_settings : Net → Net → PortName → PortRow → List Edit
 port_settings a b port row = joined (port_set a b (port_stays a b port) port (settings_before a (port_stays a b port) port) row.settings)
 
-abbrev pub lan_settings : Net → List ℕ → LanRow → List Edit
-lan_settings a lan row = joined (lan_set (has_lan lan a) lan (lan_before a lan) row)
+abbrev pub lan_settings : Bool → Net → List ℕ → LanRow → List Edit
+lan_settings in_place a lan row = joined (lan_set in_place (has_lan lan a) lan (lan_before a lan) row)
 
-abbrev pub bridge_edits : Net → Net → List ℕ → List Edit
-bridge_edits a b bridge = option_map_or (bridge_settings a b bridge) (fin.get b.bridges bridge) []
+abbrev pub bridge_edits : Bool → Net → Net → List ℕ → List Edit
+bridge_edits in_place a b bridge = option_map_or (bridge_settings in_place a b bridge) (fin.get b.bridges bridge) []
 
 abbrev pub port_edits : Net → Net → PortName → List Edit
 port_edits a b port = option_map_or (port_settings a b port) (fin.get b.ports port) []
 
-abbrev pub lan_edits : Net → Net → List ℕ → List Edit
-lan_edits a b lan = option_map_or (lan_settings a lan) (fin.get b.lans lan) []
+abbrev pub lan_edits : Bool → Net → Net → List ℕ → List Edit
+lan_edits in_place a b lan = option_map_or (lan_settings in_place a lan) (fin.get b.lans lan) []
 
 -- a bridge, and its ports by number
-abbrev pub bridge_part : Net → Net → List ℕ → List Edit
-bridge_part a b bridge = bridge_edits a b bridge ++ flat_map (port_edits a b) (ports_of b bridge)
+abbrev pub bridge_part : Bool → Net → Net → List ℕ → List Edit
+bridge_part in_place a b bridge = bridge_edits in_place a b bridge ++ flat_map (port_edits a b) (ports_of b bridge)
 
--- ---- plugs and states
+-- ---- plugs, and the states that come last
 abbrev pub plug_edits : Net → Net → PortName → List Edit
 plug_edits a b port = option_map_or (λ lan. when (not (plug_stays a b port)) (Plug port lan)) (lan_of b port) []
 
-abbrev pub power_settings : Net → List ℕ → BridgeRow → List Edit
-power_settings a bridge row = when (not (beq row.is_on (bridge_before a bridge row).is_on)) (SetBridge bridge (PowerOf (power_of row.is_on)))
+abbrev pub power_settings : Bool → Net → List ℕ → BridgeRow → List Edit
+power_settings in_place a bridge row = power_here (not in_place) bridge (bridge_before a bridge row) row
 
-abbrev pub power_edits : Net → Net → List ℕ → List Edit
-power_edits a b bridge = option_map_or (power_settings a bridge) (fin.get b.bridges bridge) []
+abbrev pub power_edits : Bool → Net → Net → List ℕ → List Edit
+power_edits in_place a b bridge = option_map_or (power_settings in_place a bridge) (fin.get b.bridges bridge) []
 
-abbrev pub state_settings : Net → List ℕ → LanRow → List Edit
-state_settings a lan row = when (not (beq row.is_up (lan_before a lan).is_up)) (SetLan lan (State (state_of row.is_up)))
+abbrev pub state_settings : Bool → Net → List ℕ → LanRow → List Edit
+state_settings in_place a lan row = state_here (not in_place) lan (lan_before a lan) row
 
-abbrev pub state_edits : Net → Net → List ℕ → List Edit
-state_edits a b lan = option_map_or (state_settings a lan) (fin.get b.lans lan) []
+abbrev pub state_edits : Bool → Net → Net → List ℕ → List Edit
+state_edits in_place a b lan = option_map_or (state_settings in_place a lan) (fin.get b.lans lan) []
 
 -- ---- all of it
 -- what goes: plugs and ports by bridge and number, and LANs and bridges by name
@@ -138,18 +160,27 @@ going a b =
     ∷ flat_map (del_bridge_edits a b) (fin.keys a.bridges)
     ∷ []
 
--- what comes and is set: each bridge by name, with its ports, and each LAN; then plugs, and states
-abbrev pub coming : Net → Net → List (List Edit)
-coming a b =
-    flat_map (bridge_part a b) (fin.keys b.bridges)
-    ∷ flat_map (lan_edits a b) (fin.keys b.lans)
+-- what comes and is set: each bridge by name, with its ports, and each LAN; then plugs, and states where they come last
+abbrev pub coming : Bool → Net → Net → List (List Edit)
+coming in_place a b =
+    flat_map (bridge_part in_place a b) (fin.keys b.bridges)
+    ∷ flat_map (lan_edits in_place a b) (fin.keys b.lans)
     ∷ flat_map (plug_edits a b) (fin.keys b.ports)
-    ∷ flat_map (power_edits a b) (fin.keys b.bridges)
-    ∷ flat_map (state_edits a b) (fin.keys b.lans)
+    ∷ flat_map (power_edits in_place a b) (fin.keys b.bridges)
+    ∷ flat_map (state_edits in_place a b) (fin.keys b.lans)
     ∷ []
 
+-- all edits, with each state in its place or with states last
+abbrev pub edits_with : Bool → Net → Net → List Edit
+edits_with in_place a b = joined (going a b) ++ joined (coming in_place a b)
+
+-- a change: states come last
 abbrev pub edits : Net → Net → List Edit
-edits a b = joined (going a b) ++ joined (coming a b)
+edits a b = edits_with false a b
+
+-- a network is saved as what comes of none, with each state in its place
+abbrev pub saved_edits : Net → List Edit
+saved_edits net = joined (coming true empty_net net)
 
 -- whether there is an edit
 abbrev pub has_any : List Edit → Bool

@@ -1,5 +1,10 @@
-pub use Rattle.mst_save.specs as save
+pub mod EditLine
+pub mod Runs
+pub mod Homes
 pub mod Staying
 pub mod TableLines
 pub mod Edits
 pub mod EditRows
+pub mod SaveText
+pub mod Digest
+pub mod Making

@@ -1,15 +1,37 @@
 -- The lines that make one table of VIDs of another, none of which makes a 65th tree.
-use Rattle.std.specs.Prelude.{◌==◌, ◌&&◌, ◌||◌, ℕ, Bool, not, List, [], ◌∷◌, ◌++◌, map, length, nat_lt, if◌then◌else◌}
+use Rattle.std.specs.Prelude.{◌==◌, ◌&&◌, ◌||◌, ℕ, Bool, not, List, [], ◌∷◌, ◌++◌, map, length, nat_le, nat_lt, if◌then◌else◌}
 use Rattle.std.specs.List.{flat_map, filter}
 use Rattle.mst_ids.specs.Vids.{is_vid, has, set_where, runs_from}
 use Rattle.mst_lang.specs.declared.line.Edit.{Edit}
 use Rattle.mst_lang.specs.declared.line.Edit.TheVariants.{SetByTree}
 use Rattle.mst_lang.specs.declared.line.TreeChange.TheVariants.{Table}
 use Rattle.mst_net.specs.tables.Table.{tree_in, has_tree, mapped, mstis_in, tree_count}
-use Rattle.mst_save.specs.EditLine.{no_vids}
-use Rattle.mst_save.specs.Runs.{vids_of}
-use Rattle.mst_save.specs.Saved.{vids_in, fits, cut}
+use Rattle.mst_edits.specs.EditLine.{no_vids, line_of}
+use Rattle.mst_edits.specs.Runs.{vids_of}
 use Rattle.mst_edits.specs.declared.moves.Move.{Move}
+
+-- the VIDs that a table maps to a tree
+abbrev pub vids_in : List ℕ → ℕ → List Bool
+vids_in table tree = set_where (λ vid. is_vid vid && tree_in table vid == tree)
+
+-- ---- runs as lines
+-- the edit that maps the VIDs of some runs
+abbrev pub mapping : List ℕ → ℕ → List (ℕ × ℕ) → Edit
+mapping bridge tree runs = SetByTree (Table bridge tree (vids_of runs))
+
+-- whether the line of that edit has at most 4,096 bytes
+abbrev pub fits : List ℕ → ℕ → List (ℕ × ℕ) → Bool
+fits bridge tree runs = nat_le (length (line_of (mapping bridge tree runs))) 4096
+
+-- runs cut into lines, the first of which has begun: the next run is put into the line where it fits, else it
+-- begins the next line
+abbrev pub cut_from : (List (ℕ × ℕ) → Bool) → List (ℕ × ℕ) → List (ℕ × ℕ) → List (List (ℕ × ℕ))
+cut_from fits line [] = line ∷ []
+cut_from fits line (run ∷ runs) = if fits (line ++ run ∷ []) then cut_from fits (line ++ run ∷ []) runs else line ∷ cut_from fits (run ∷ []) runs
+
+abbrev pub cut : (List (ℕ × ℕ) → Bool) → List (ℕ × ℕ) → List (List (ℕ × ℕ))
+cut fits [] = []
+cut fits (run ∷ runs) = cut_from fits (run ∷ []) runs
 
 -- VIDs that one line maps to a tree
 abbrev pub move : ℕ → List Bool → Move

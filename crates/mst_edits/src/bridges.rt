@@ -1,4 +1,4 @@
-ghost use Rattle.std.specs.Prelude.{◌≡◌, ◌++◌, ◌==◌, ℕ, Bool, List, OnOk, not, filter, nat_eq};
+ghost use Rattle.std.specs.Prelude.{◌≡◌, ◌++◌, ◌==◌, ℕ, List, OnOk, not, false, filter, nat_eq};
 ghost use Rattle.std.specs.Bool.{beq};
 ghost use Rattle.std.specs.FinMap as fin;
 ghost use Rattle.std.specs.List.{flat_map};
@@ -8,21 +8,21 @@ ghost use Rattle.mst_lang.specs.declared.line.BridgeChange.TheVariants.{Kind as 
 ghost use Rattle.mst_net.specs.tables.After.{table_of};
 ghost use Rattle.mst_net.specs.tables.Seen.{bridge_row};
 ghost use Rattle.mst_net.specs.tables.Settings.{kind_of};
-ghost use Rattle.mst_save.specs.Homes.{kept_for};
-ghost use Rattle.mst_save.specs.Saved.{when, joined};
+ghost use Rattle.mst_net.specs.tables.Table.{no_table};
+ghost use Rattle.mst_edits.specs.Homes.{kept_for};
 ghost use Rattle.mst_edits.specs.Staying.{table_before};
 ghost use Rattle.mst_edits.specs.TableLines.{table_edits};
-ghost use Rattle.mst_edits.specs.Edits.{bridge_part, bridge_edits, bridge_set, bridge_settings, in_trees, is_same_configuration as are_same_configuration, power_edits, power_settings, priority_edits};
+ghost use Rattle.mst_edits.specs.Edits.{bridge_part, bridge_edits, bridge_set, bridge_settings, in_trees, is_same_configuration as are_same_configuration, joined, power_edits, power_here, power_settings, priority_edits, when};
 
+use crate::homes::{Homes, ports_of};
 use crate::list::push_when;
 use crate::ports::add_ports;
 use crate::staying::{bridge_before, bridge_stays, priority_before};
-use crate::tables::add_table;
+use crate::tables::{add_new_table, add_table};
 use crate::trees::either;
 use mst_ids::{Name, Tree};
 use mst_lang::{BridgeChange, Edit, Kind, TreeChange};
 use mst_net::{Bridge, Saved};
-use mst_save::{Homes, ports_of};
 use std::alloc::{AllocError, Global};
 
 /// Adds the edits of each bridge of the new network and its ports, by name and number.
@@ -34,17 +34,19 @@ pub(crate) fn add_bridges<C: Saved, D: Saved>(
     edits: &mut Vec<Edit>,
 ) -> Result<(), AllocError>
     requires { (bridge : List ℕ) → kept_for homes.now bridge ≡ filter (λ port. pointwise nat_eq bridge port.bridge) (fin.keys (D.tables new.now).net.ports) }
-    ensures { OnOk result (edits.new.items ≡ edits.old.items ++ flat_map (bridge_part (C.tables old.now).net (D.tables new.now).net) (fin.keys (D.tables new.now).net.bridges)) }
+    ensures { OnOk result (edits.new.items ≡ edits.old.items ++ flat_map (bridge_part false (C.tables old.now).net (D.tables new.now).net) (fin.keys (D.tables new.now).net.bridges)) }
 {
     let names = new.bridge_names(alloc)?;
     for name in names.as_slice() {
-        add_part(alloc, old, new, homes, name, edits)?;
+        add_part(alloc, false, old, new, homes, name, edits)?;
     }
     Ok(())
 }
 
-fn add_part<C: Saved, D: Saved>(
+/// Adds the edits of a bridge and its ports: whether it is on among them, or not.
+pub(crate) fn add_part<C: Saved, D: Saved>(
     alloc: Global,
+    in_place: bool,
     old: &C,
     new: &D,
     homes: &Homes,
@@ -52,45 +54,50 @@ fn add_part<C: Saved, D: Saved>(
     edits: &mut Vec<Edit>,
 ) -> Result<(), AllocError>
     requires { (bridge : List ℕ) → kept_for homes.now bridge ≡ filter (λ port. pointwise nat_eq bridge port.bridge) (fin.keys (D.tables new.now).net.ports) }
-    ensures { OnOk result (edits.new.items ≡ edits.old.items ++ bridge_part (C.tables old.now).net (D.tables new.now).net name.now) }
+    ensures { OnOk result (edits.new.items ≡ edits.old.items ++ bridge_part in_place (C.tables old.now).net (D.tables new.now).net name.now) }
 {
-    add_bridge(alloc, old, new, name, edits)?;
+    add_bridge(alloc, in_place, old, new, name, edits)?;
     add_ports(alloc, old, new, ports_of(homes, name), edits)
 }
 
 /// Adds the edits of a bridge, if it is there.
 fn add_bridge<C: Saved, D: Saved>(
     alloc: Global,
+    in_place: bool,
     old: &C,
     new: &D,
     name: &Name,
     edits: &mut Vec<Edit>,
 ) -> Result<(), AllocError>
-    ensures { OnOk result (edits.new.items ≡ edits.old.items ++ bridge_edits (C.tables old.now).net (D.tables new.now).net name.now) }
+    ensures { OnOk result (edits.new.items ≡ edits.old.items ++ bridge_edits in_place (C.tables old.now).net (D.tables new.now).net name.now) }
 {
     match new.bridge(name) {
-        Some(bridge) => add_settings(alloc, old, new, name, &bridge, edits),
+        Some(bridge) => add_settings(alloc, in_place, old, new, name, &bridge, edits),
         None => Ok(()),
     }
 }
 
 fn add_settings<C: Saved, D: Saved>(
     alloc: Global,
+    in_place: bool,
     old: &C,
     new: &D,
     name: &Name,
     bridge: &Bridge,
     edits: &mut Vec<Edit>,
 ) -> Result<(), AllocError>
-    ensures { OnOk result (edits.new.items ≡ edits.old.items ++ bridge_settings (C.tables old.now).net (D.tables new.now).net name.now (bridge_row bridge.now)) }
+    ensures { OnOk result (edits.new.items ≡ edits.old.items ++ bridge_settings in_place (C.tables old.now).net (D.tables new.now).net name.now (bridge_row bridge.now)) }
 {
     let stays = bridge_stays(old, new, name);
     let before = bridge_before(old, name, bridge);
-    add_changes(alloc, old, new, stays, name, &before, bridge, edits)
+    add_changes(
+        alloc, in_place, old, new, stays, name, &before, bridge, edits,
+    )
 }
 
 fn add_changes<C: Saved, D: Saved>(
     alloc: Global,
+    in_place: bool,
     old: &C,
     new: &D,
     stays: bool,
@@ -99,13 +106,14 @@ fn add_changes<C: Saved, D: Saved>(
     bridge: &Bridge,
     edits: &mut Vec<Edit>,
 ) -> Result<(), AllocError>
-    ensures { OnOk result (edits.new.items ≡ edits.old.items ++ joined (bridge_set (C.tables old.now).net (D.tables new.now).net stays name.now (bridge_row before.now) (bridge_row bridge.now))) }
+    ensures { OnOk result (edits.new.items ≡ edits.old.items ++ joined (bridge_set in_place (C.tables old.now).net (D.tables new.now).net stays name.now (bridge_row before.now) (bridge_row bridge.now))) }
 {
     let edit = Edit::AddBridge {
         bridge: *name,
         mac: bridge.mac,
     };
     push_when(!stays, &edit, edits)?;
+    add_power_here(in_place, name, before, bridge, edits)?;
     add_kind(name, before, bridge, edits)?;
     add_system_priority(name, before, bridge, edits)?;
     add_configuration(name, before, bridge, edits)?;
@@ -129,6 +137,20 @@ fn push_change(
         change,
     };
     push_when(test, &edit, edits)
+}
+
+/// Adds whether a bridge is on, where that is to be set here.
+fn add_power_here(
+    here: bool,
+    name: &Name,
+    before: &Bridge,
+    bridge: &Bridge,
+    edits: &mut Vec<Edit>,
+) -> Result<(), AllocError>
+    ensures { OnOk result (edits.new.items ≡ edits.old.items ++ power_here here name.now (bridge_row before.now) (bridge_row bridge.now)) }
+{
+    let is_other = here && bridge.is_on() != before.is_on();
+    push_change(is_other, name, BridgeChange::Power(bridge.power), edits)
 }
 
 /// Whether a bridge is of kind rstp.
@@ -228,12 +250,29 @@ fn add_own_table<C: Saved, D: Saved>(
 ) -> Result<(), AllocError>
     ensures { OnOk result (edits.new.items ≡ edits.old.items ++ table_edits name.now (table_before (C.tables old.now).net stays name.now) (table_of (D.tables new.now).net name.now)) }
 {
-    let after = new.table(name);
-    if stays {
-        let before = old.table(name);
-        return add_table(alloc, name, before.trees(), after.trees(), edits);
+    if !stays {
+        return add_first_table(alloc, new, name, edits);
     }
-    add_table(alloc, name, &[Tree::cist(); 4094], after.trees(), edits)
+    let before = old.table(name);
+    let after = new.table(name);
+    add_table(alloc, name, before.trees(), after.trees(), edits)
+}
+
+/// Adds the edits of a new bridge's table. A bridge that maps no VID costs no table.
+fn add_first_table<D: Saved>(
+    alloc: Global,
+    new: &D,
+    name: &Name,
+    edits: &mut Vec<Edit>,
+) -> Result<(), AllocError>
+    ensures { OnOk result (edits.new.items ≡ edits.old.items ++ table_edits name.now no_table (table_of (D.tables new.now).net name.now)) }
+{
+    let trees = new.mstis(name, alloc)?;
+    if trees.is_empty() {
+        return Ok(());
+    }
+    let after = new.table(name);
+    add_new_table(alloc, name, after.trees(), edits)
 }
 
 /// Adds the edits of a bridge's priorities, by tree.
@@ -283,7 +322,7 @@ pub(crate) fn add_powers<C: Saved, D: Saved>(
     new: &D,
     edits: &mut Vec<Edit>,
 ) -> Result<(), AllocError>
-    ensures { OnOk result (edits.new.items ≡ edits.old.items ++ flat_map (power_edits (C.tables old.now).net (D.tables new.now).net) (fin.keys (D.tables new.now).net.bridges)) }
+    ensures { OnOk result (edits.new.items ≡ edits.old.items ++ flat_map (power_edits false (C.tables old.now).net (D.tables new.now).net) (fin.keys (D.tables new.now).net.bridges)) }
 {
     let names = new.bridge_names(alloc)?;
     for name in names.as_slice() {
@@ -298,7 +337,7 @@ fn add_power<C: Saved, D: Saved>(
     name: &Name,
     edits: &mut Vec<Edit>,
 ) -> Result<(), AllocError>
-    ensures { OnOk result (edits.new.items ≡ edits.old.items ++ power_edits (C.tables old.now).net (D.tables new.now).net name.now) }
+    ensures { OnOk result (edits.new.items ≡ edits.old.items ++ power_edits false (C.tables old.now).net (D.tables new.now).net name.now) }
 {
     match new.bridge(name) {
         Some(bridge) => add_own_power(old, name, &bridge, edits),
@@ -312,9 +351,8 @@ fn add_own_power<C: Saved>(
     bridge: &Bridge,
     edits: &mut Vec<Edit>,
 ) -> Result<(), AllocError>
-    ensures { OnOk result (edits.new.items ≡ edits.old.items ++ power_settings (C.tables old.now).net name.now (bridge_row bridge.now)) }
+    ensures { OnOk result (edits.new.items ≡ edits.old.items ++ power_settings false (C.tables old.now).net name.now (bridge_row bridge.now)) }
 {
     let before = bridge_before(old, name, bridge);
-    let is_other = bridge.is_on() != before.is_on();
-    push_change(is_other, name, BridgeChange::Power(bridge.power), edits)
+    add_power_here(true, name, &before, bridge, edits)
 }

@@ -1,20 +1,18 @@
-ghost use Rattle.std.specs.Prelude.{◌≡◌, ◌++◌, ◌∷◌, List, OnOk, IfOk};
-ghost use Rattle.std.specs.List.{flat_map};
+ghost use Rattle.std.specs.Prelude.{◌≡◌, ◌++◌, List, OnOk, IfOk, false};
 ghost use Rattle.mst_rows.specs.Rows.{Row};
-ghost use Rattle.mst_save.specs.Saved.{joined};
-ghost use Rattle.mst_save.specs.SaveRows.{first_row};
-ghost use Rattle.mst_edits.specs.Edits.{coming, edits, has_any};
-ghost use Rattle.mst_edits.specs.EditRows.{change_rows, edit_rows_of};
+ghost use Rattle.mst_edits.specs.Edits.{coming, edits, has_any, joined};
+ghost use Rattle.mst_edits.specs.EditRows.{change_rows, edits_rows};
 
 use crate::bridges::{add_bridges, add_powers};
 use crate::going::add_going;
+use crate::homes::homes_of;
 use crate::lans::{add_lans, add_states};
 use crate::ports::add_plugs;
 use crate::rows::put_edit;
+use crate::save::put_version;
 use mst_lang::Edit;
 use mst_net::Saved;
 use mst_rows::Rows;
-use mst_save::{homes_of, put_version};
 use std::alloc::{AllocError, Global};
 
 /// Puts the rows of a script of version 2 that makes the new network of the old one, and tells whether there is an
@@ -32,7 +30,8 @@ pub fn put_edits<C: Saved, D: Saved, R: Rows>(
         → IfOk result (λ differs. (differs ≡ has_any (edits (C.tables old.now).net (D.tables new.now).net)) × R.grew first out.new (rows ++ change_rows (C.tables old.now).net (D.tables new.now).net)) }
 {
     let all = edits_between(alloc, old, new)?;
-    put_all(&all, out)?;
+    put_version(out)?;
+    put_rows(&all, out)?;
     Ok(is_any(&all))
 }
 
@@ -57,12 +56,12 @@ fn add_coming<C: Saved, D: Saved>(
     new: &D,
     all: &mut Vec<Edit>,
 ) -> Result<(), AllocError>
-    ensures { OnOk result (all.new.items ≡ all.old.items ++ joined (coming (C.tables old.now).net (D.tables new.now).net)) }
+    ensures { OnOk result (all.new.items ≡ all.old.items ++ joined (coming false (C.tables old.now).net (D.tables new.now).net)) }
 {
     let ports = new.port_names(alloc)?;
     let homes = homes_of(alloc, &ports)?;
     add_bridges(alloc, old, new, &homes, all)?;
-    add_lans(alloc, old, new, all)?;
+    add_lans(alloc, false, old, new, all)?;
     add_plugs(old, new, &ports, all)?;
     add_powers(alloc, old, new, all)?;
     add_states(alloc, old, new, all)
@@ -77,11 +76,10 @@ fn is_any(all: &[Edit]) -> bool
     }
 }
 
-/// Puts the version, and the row of each edit.
-fn put_all<R: Rows>(all: &[Edit], out: &mut R) -> Result<(), AllocError>
-    ensures { (first : R) (rows : List Row) → R.grew first out.old rows → OnOk result (R.grew first out.new (rows ++ first_row ∷ flat_map edit_rows_of all.now)) }
+/// Puts the row of each edit.
+pub(crate) fn put_rows<R: Rows>(all: &[Edit], out: &mut R) -> Result<(), AllocError>
+    ensures { (first : R) (rows : List Row) → R.grew first out.old rows → OnOk result (R.grew first out.new (rows ++ edits_rows all.now)) }
 {
-    put_version(out)?;
     for edit in all {
         put_edit(edit, out)?;
     }

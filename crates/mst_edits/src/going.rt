@@ -1,8 +1,7 @@
 ghost use Rattle.std.specs.Prelude.{◌≡◌, ◌++◌, OnOk};
 ghost use Rattle.std.specs.FinMap as fin;
 ghost use Rattle.std.specs.List.{flat_map};
-ghost use Rattle.mst_save.specs.Saved.{joined};
-ghost use Rattle.mst_edits.specs.Edits.{going, unplug_edits, del_port_edits, del_lan_edits, del_bridge_edits};
+ghost use Rattle.mst_edits.specs.Edits.{going, joined, unplug_edits, del_port_edits, del_lan_edits, del_bridge_edits};
 
 use crate::list::push_when;
 use crate::staying::{bridge_stays, has_lan, lan_of, plug_stays, port_stays};

@@ -1,10 +1,10 @@
 ghost use Rattle.std.specs.Prelude.{◌≡◌, ℕ, ◌+◌, ◌<◌, ◌≤◌, ◌++◌, ◌∷◌, [], ◌==◌, List, length, IfOk, OnOk, decimal};
 ghost use Rattle.mst_ids.specs.Vids.{run_text};
-ghost use Rattle.mst_save.specs.Runs.{vids_of};
+ghost use Rattle.mst_edits.specs.Runs.{vids_of};
 ghost use Rattle.mst_edits.specs.TableLines.{move, moves_to, is_one_line as has_one_line};
 
+use crate::runs::{digits, run_length, with_run};
 use mst_ids::{Name, Tree, VidSet};
-use mst_save::{Line, begun, run_length, with_run};
 use std::alloc::{AllocError, Global};
 
 /// The most bytes that a line may have.
@@ -41,6 +41,28 @@ pub(crate) fn add_moves(
         vids: line.vids,
     })?;
     Ok(())
+}
+
+/// A line that isn't added yet: its VIDs, and how many bytes it has.
+#[derive(Clone, Copy)]
+struct Line {
+    vids: VidSet,
+    length: usize,
+}
+
+/// The line of one run.
+fn begun(name: &Name, tree: Tree, run: (u16, u16)) -> Line
+    requires least { 1 ≤ run.0 }
+    requires order { run.0 ≤ run.1 }
+    requires greatest { run.1 ≤ 4094 }
+    ensures vids { result.vids ≡ vids_of (run ∷ []) }
+    ensures long { result.length ≡ 15 + length name.now + length (decimal tree) + length (run_text run) }
+    ensures short { result.length ≤ 4096 }
+{
+    Line {
+        vids: with_run(&VidSet::none(), run),
+        length: 15 + name.as_bytes().len() + digits(tree.value()) + run_length(run),
+    }
 }
 
 /// The line with the next run, where it then fits; else it adds this one, and begins the next one with the run.

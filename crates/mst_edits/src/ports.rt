@@ -7,9 +7,8 @@ ghost use Rattle.mst_lang.specs.declared.line.PortChange.TheVariants.{Key, PathC
 ghost use Rattle.mst_lang.specs.declared.line.TreeChange.TheVariants.{Vlans};
 ghost use Rattle.mst_net.specs.tables.After.{vlans_of};
 ghost use Rattle.mst_net.specs.tables.Seen.{port_row};
-ghost use Rattle.mst_save.specs.Saved.{when, joined};
 ghost use Rattle.mst_edits.specs.Staying.{vlans_before as vlans_were};
-ghost use Rattle.mst_edits.specs.Edits.{in_trees, is_same_cost as are_same_cost, plug_edits, port_cost_edits, port_edits, port_priority_edits, port_set, port_settings};
+ghost use Rattle.mst_edits.specs.Edits.{in_trees, is_same_cost as are_same_cost, joined, plug_edits, port_cost_edits, port_edits, port_priority_edits, port_set, port_settings, when};
 
 use crate::list::push_when;
 use crate::staying::{
@@ -275,6 +274,7 @@ pub(crate) fn add_plugs<C: Saved, D: Saved>(
     Ok(())
 }
 
+/// Adds the plug of a port, if it has one that doesn't stay.
 fn add_plug<C: Saved, D: Saved>(
     old: &C,
     new: &D,

@@ -1,31 +1,24 @@
-ghost use Rattle.std.specs.Prelude.{◌++◌, ◌∷◌, [], List, OnOk};
-ghost use Rattle.mst_lang.specs.declared.line.Edit.TheVariants.{SetBridge, SetPort, SetLan, SetByTree};
-ghost use Rattle.mst_ids.specs.Vids.{runs_from};
-ghost use Rattle.mst_kinds.specs.declared.port_command.PortCommand.TheVariants.{AllVlans};
+ghost use Rattle.std.specs.Prelude.{◌≡◌, ◌++◌, List, OnOk};
+ghost use Rattle.mst_lang.specs.declared.line.Edit.TheVariants.{AddBridge, SetBridge, SetPort, SetLan, Plug, SetByTree};
 ghost use Rattle.mst_lang.specs.declared.line.BridgeChange.TheVariants.{Power as PowerOf, Kind as KindOf, Configuration};
 ghost use Rattle.mst_lang.specs.declared.line.PortChange.TheVariants.{PathCost, RestrictedRole};
 ghost use Rattle.mst_lang.specs.declared.line.LanChange.TheVariants.{State};
-ghost use Rattle.mst_lang.specs.declared.line.TreeChange.TheVariants.{Priority as PriorityOf, PortPriority, Vlans};
-ghost use Rattle.mst_rows.specs.Cells.{vids as vids_cell};
-ghost use Rattle.mst_save.specs.SaveRows.{of_port};
+ghost use Rattle.mst_lang.specs.declared.line.TreeChange.TheVariants.{Priority as PriorityOf, PortPriority, PortCost, Table, Vlans};
 ghost use Rattle.mst_rows.specs.Rows.{Row};
-ghost use Rattle.mst_edits.specs.EditRows.{edit_rows_of};
+ghost use Rattle.mst_edits.specs.EditRows.{edit_rows, vlans_command as command_of};
 
-use mst_ids::{ConfName, Cost, Name, PortName, Priority, Tree, VidSet};
+use crate::line::{put_named, put_number, put_of_port, put_port_number, put_port_tree};
+use mst_ids::{ConfName, Cost, Mac, Name, PortName, Priority, Tree, VidSet};
 use mst_kinds::{BridgeCommand, Kind, PortCommand};
 use mst_lang::{
     BridgeChange, Edit, Kind as BridgeKind, LanChange, LanState, PortChange, Power, TreeChange,
 };
 use mst_rows::{Rows, Value, put};
-use mst_save::{
-    put_add, put_cost, put_line, put_named, put_number, put_of_port, put_plug_into,
-    put_port_number, put_port_tree, put_vlan_list,
-};
 use std::alloc::AllocError;
 
 /// Puts the row of an edit.
 pub(crate) fn put_edit<R: Rows>(edit: &Edit, out: &mut R) -> Result<(), AllocError>
-    ensures { (first : R) (rows : List Row) → R.grew first out.old rows → OnOk result (R.grew first out.new (rows ++ edit_rows_of edit.now)) }
+    ensures { (first : R) (rows : List Row) → R.grew first out.old rows → OnOk result (R.grew first out.new (rows ++ edit_rows edit.now)) }
 {
     match edit {
         Edit::AddBridge { bridge, mac } => put_add(bridge, *mac, out),
@@ -45,8 +38,16 @@ pub(crate) fn put_edit<R: Rows>(edit: &Edit, out: &mut R) -> Result<(), AllocErr
     }
 }
 
+/// Puts a new bridge.
+fn put_add<R: Rows>(name: &Name, mac: Mac, out: &mut R) -> Result<(), AllocError>
+    ensures { (first : R) (rows : List Row) → R.grew first out.old rows → OnOk result (R.grew first out.new (rows ++ edit_rows (AddBridge name.now mac))) }
+{
+    let values = [Value::Name(name), Value::Mac(mac)];
+    put::<R>(Kind::OfBridge(BridgeCommand::Add), &values, out)
+}
+
 fn put_bridge<R: Rows>(name: &Name, change: &BridgeChange, out: &mut R) -> Result<(), AllocError>
-    ensures { (first : R) (rows : List Row) → R.grew first out.old rows → OnOk result (R.grew first out.new (rows ++ edit_rows_of (SetBridge name.now change.now))) }
+    ensures { (first : R) (rows : List Row) → R.grew first out.old rows → OnOk result (R.grew first out.new (rows ++ edit_rows (SetBridge name.now change.now))) }
 {
     match change {
         BridgeChange::Power(power) => put_power(name, *power, out),
@@ -77,7 +78,7 @@ fn put_bridge<R: Rows>(name: &Name, change: &BridgeChange, out: &mut R) -> Resul
 }
 
 fn put_power<R: Rows>(name: &Name, power: Power, out: &mut R) -> Result<(), AllocError>
-    ensures { (first : R) (rows : List Row) → R.grew first out.old rows → OnOk result (R.grew first out.new (rows ++ edit_rows_of (SetBridge name.now (PowerOf power)))) }
+    ensures { (first : R) (rows : List Row) → R.grew first out.old rows → OnOk result (R.grew first out.new (rows ++ edit_rows (SetBridge name.now (PowerOf power)))) }
 {
     match power {
         Power::On => put_named(Kind::OfBridge(BridgeCommand::On), name, out),
@@ -86,7 +87,7 @@ fn put_power<R: Rows>(name: &Name, power: Power, out: &mut R) -> Result<(), Allo
 }
 
 fn put_kind<R: Rows>(name: &Name, kind: BridgeKind, out: &mut R) -> Result<(), AllocError>
-    ensures { (first : R) (rows : List Row) → R.grew first out.old rows → OnOk result (R.grew first out.new (rows ++ edit_rows_of (SetBridge name.now (KindOf kind)))) }
+    ensures { (first : R) (rows : List Row) → R.grew first out.old rows → OnOk result (R.grew first out.new (rows ++ edit_rows (SetBridge name.now (KindOf kind)))) }
 {
     match kind {
         BridgeKind::Mstp => put_named(Kind::OfBridge(BridgeCommand::Mstp), name, out),
@@ -100,7 +101,7 @@ fn put_configuration<'a, R: Rows>(
     conf_name: &'a ConfName,
     out: &mut R,
 ) -> Result<(), AllocError>
-    ensures { (first : R) (rows : List Row) → R.grew first out.old rows → OnOk result (R.grew first out.new (rows ++ edit_rows_of (SetBridge name.now (Configuration revision conf_name.now)))) }
+    ensures { (first : R) (rows : List Row) → R.grew first out.old rows → OnOk result (R.grew first out.new (rows ++ edit_rows (SetBridge name.now (Configuration revision conf_name.now)))) }
 {
     let values = [
         Value::Name(name),
@@ -111,7 +112,7 @@ fn put_configuration<'a, R: Rows>(
 }
 
 fn put_port<R: Rows>(name: &PortName, change: &PortChange, out: &mut R) -> Result<(), AllocError>
-    ensures { (first : R) (rows : List Row) → R.grew first out.old rows → OnOk result (R.grew first out.new (rows ++ edit_rows_of (SetPort name.now change.now))) }
+    ensures { (first : R) (rows : List Row) → R.grew first out.old rows → OnOk result (R.grew first out.new (rows ++ edit_rows (SetPort name.now change.now))) }
 {
     match change {
         PortChange::Key(key) => put_port_number(PortCommand::Key, name, u64::from(*key), out),
@@ -121,7 +122,7 @@ fn put_port<R: Rows>(name: &PortName, change: &PortChange, out: &mut R) -> Resul
 }
 
 fn put_external<R: Rows>(name: &PortName, cost: Option<Cost>, out: &mut R) -> Result<(), AllocError>
-    ensures { (first : R) (rows : List Row) → R.grew first out.old rows → OnOk result (R.grew first out.new (rows ++ edit_rows_of (SetPort name.now (PathCost cost)))) }
+    ensures { (first : R) (rows : List Row) → R.grew first out.old rows → OnOk result (R.grew first out.new (rows ++ edit_rows (SetPort name.now (PathCost cost)))) }
 {
     match cost {
         None => put_port_number(PortCommand::ExternalCost, name, 0, out),
@@ -134,7 +135,7 @@ fn put_restricted<R: Rows>(
     is_restricted: bool,
     out: &mut R,
 ) -> Result<(), AllocError>
-    ensures { (first : R) (rows : List Row) → R.grew first out.old rows → OnOk result (R.grew first out.new (rows ++ edit_rows_of (SetPort name.now (RestrictedRole is_restricted)))) }
+    ensures { (first : R) (rows : List Row) → R.grew first out.old rows → OnOk result (R.grew first out.new (rows ++ edit_rows (SetPort name.now (RestrictedRole is_restricted)))) }
 {
     if is_restricted {
         return put_of_port(PortCommand::Restricted, name, out);
@@ -142,8 +143,24 @@ fn put_restricted<R: Rows>(
     put_of_port(PortCommand::Unrestricted, name, out)
 }
 
+/// Puts a plug.
+fn put_plug_into<'a, R: Rows>(
+    name: &'a PortName,
+    lan: &'a Name,
+    out: &mut R,
+) -> Result<(), AllocError>
+    ensures { (first : R) (rows : List Row) → R.grew first out.old rows → OnOk result (R.grew first out.new (rows ++ edit_rows (Plug name.now lan.now))) }
+{
+    let values = [
+        Value::Name(&name.bridge),
+        Value::Number(u64::from(name.number.value())),
+        Value::Name(lan),
+    ];
+    put::<R>(Kind::OfPort(PortCommand::Plug), &values, out)
+}
+
 fn put_lan<R: Rows>(name: &Name, change: &LanChange, out: &mut R) -> Result<(), AllocError>
-    ensures { (first : R) (rows : List Row) → R.grew first out.old rows → OnOk result (R.grew first out.new (rows ++ edit_rows_of (SetLan name.now change.now))) }
+    ensures { (first : R) (rows : List Row) → R.grew first out.old rows → OnOk result (R.grew first out.new (rows ++ edit_rows (SetLan name.now change.now))) }
 {
     match change {
         LanChange::State(state) => put_state(name, *state, out),
@@ -157,7 +174,7 @@ fn put_lan<R: Rows>(name: &Name, change: &LanChange, out: &mut R) -> Result<(), 
 }
 
 fn put_state<R: Rows>(name: &Name, state: LanState, out: &mut R) -> Result<(), AllocError>
-    ensures { (first : R) (rows : List Row) → R.grew first out.old rows → OnOk result (R.grew first out.new (rows ++ edit_rows_of (SetLan name.now (State state)))) }
+    ensures { (first : R) (rows : List Row) → R.grew first out.old rows → OnOk result (R.grew first out.new (rows ++ edit_rows (SetLan name.now (State state)))) }
 {
     match state {
         LanState::Up => put_named(Kind::OfPort(PortCommand::LanUp), name, out),
@@ -166,7 +183,7 @@ fn put_state<R: Rows>(name: &Name, state: LanState, out: &mut R) -> Result<(), A
 }
 
 fn put_by_tree<R: Rows>(change: &TreeChange, out: &mut R) -> Result<(), AllocError>
-    ensures { (first : R) (rows : List Row) → R.grew first out.old rows → OnOk result (R.grew first out.new (rows ++ edit_rows_of (SetByTree change.now))) }
+    ensures { (first : R) (rows : List Row) → R.grew first out.old rows → OnOk result (R.grew first out.new (rows ++ edit_rows (SetByTree change.now))) }
 {
     match change {
         TreeChange::Priority {
@@ -191,7 +208,7 @@ fn put_priority<R: Rows>(
     priority: Priority,
     out: &mut R,
 ) -> Result<(), AllocError>
-    ensures { (first : R) (rows : List Row) → R.grew first out.old rows → OnOk result (R.grew first out.new (rows ++ edit_rows_of (SetByTree (PriorityOf name.now tree priority)))) }
+    ensures { (first : R) (rows : List Row) → R.grew first out.old rows → OnOk result (R.grew first out.new (rows ++ edit_rows (SetByTree (PriorityOf name.now tree priority)))) }
 {
     let values = [
         Value::Name(name),
@@ -201,38 +218,75 @@ fn put_priority<R: Rows>(
     put::<R>(Kind::OfBridge(BridgeCommand::Priority), &values, out)
 }
 
+/// Puts the internal path cost of a port in a tree, 0 where it is automatic.
+fn put_cost<R: Rows>(
+    name: &PortName,
+    tree: Tree,
+    cost: Option<Cost>,
+    out: &mut R,
+) -> Result<(), AllocError>
+    ensures { (first : R) (rows : List Row) → R.grew first out.old rows → OnOk result (R.grew first out.new (rows ++ edit_rows (SetByTree (PortCost name.now tree cost)))) }
+{
+    match cost {
+        None => put_port_tree(PortCommand::InternalCost, name, tree, 0, out),
+        Some(cost) => put_port_tree(PortCommand::InternalCost, name, tree, cost.value(), out),
+    }
+}
+
 fn put_port_priority<R: Rows>(
     name: &PortName,
     tree: Tree,
     priority: Priority,
     out: &mut R,
 ) -> Result<(), AllocError>
-    ensures { (first : R) (rows : List Row) → R.grew first out.old rows → OnOk result (R.grew first out.new (rows ++ edit_rows_of (SetByTree (PortPriority name.now tree priority)))) }
+    ensures { (first : R) (rows : List Row) → R.grew first out.old rows → OnOk result (R.grew first out.new (rows ++ edit_rows (SetByTree (PortPriority name.now tree priority)))) }
 {
     let priority = u64::from(priority.step()) * 16;
     put_port_tree(PortCommand::Priority, name, tree, priority, out)
 }
 
-fn put_vlans<R: Rows>(name: &PortName, vids: &VidSet, out: &mut R) -> Result<(), AllocError>
-    ensures { (first : R) (rows : List Row) → R.grew first out.old rows → OnOk result (R.grew first out.new (rows ++ edit_rows_of (SetByTree (Vlans name.now vids.now)))) }
+/// Puts the row that maps VIDs to a tree.
+fn put_line<'a, R: Rows>(
+    name: &'a Name,
+    tree: Tree,
+    vids: &'a VidSet,
+    out: &mut R,
+) -> Result<(), AllocError>
+    ensures { (first : R) (rows : List Row) → R.grew first out.old rows → OnOk result (R.grew first out.new (rows ++ edit_rows (SetByTree (Table name.now tree vids.now)))) }
 {
-    if *vids == VidSet::all() {
-        return put_all_vlans(name, vids, out);
-    }
-    put_vlan_list(name, vids, out)
+    let values = [
+        Value::Name(name),
+        Value::Number(u64::from(tree.value())),
+        Value::Vids(vids),
+    ];
+    put::<R>(Kind::OfBridge(BridgeCommand::Msti), &values, out)
 }
 
-fn put_all_vlans<'a, R: Rows>(
+/// Puts the VLANs of a port.
+fn put_vlans<'a, R: Rows>(
     name: &'a PortName,
     vids: &'a VidSet,
     out: &mut R,
 ) -> Result<(), AllocError>
-    ensures { (first : R) (rows : List Row) → R.grew first out.old rows → OnOk result (R.grew first out.new (rows ++ of_port AllVlans name.now (vids_cell (runs_from 0 vids.now) ∷ []))) }
+    ensures { (first : R) (rows : List Row) → R.grew first out.old rows → OnOk result (R.grew first out.new (rows ++ edit_rows (SetByTree (Vlans name.now vids.now)))) }
 {
     let values = [
         Value::Name(&name.bridge),
         Value::Number(u64::from(name.number.value())),
         Value::Vids(vids),
     ];
-    put::<R>(Kind::OfPort(PortCommand::AllVlans), &values, out)
+    put::<R>(Kind::OfPort(vlans_command(vids)), &values, out)
+}
+
+/// The command of a port that is in all VLANs, in none, or in some.
+fn vlans_command(vids: &VidSet) -> PortCommand
+    ensures { result ≡ command_of vids.now }
+{
+    if *vids == VidSet::all() {
+        return PortCommand::AllVlans;
+    }
+    if *vids == VidSet::none() {
+        return PortCommand::NoVlans;
+    }
+    PortCommand::Vlans
 }

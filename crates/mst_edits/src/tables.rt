@@ -1,4 +1,5 @@
-ghost use Rattle.std.specs.Prelude.{◌≡◌, ◌++◌, ◌<◌, length, map, IfOk, OnOk};
+ghost use Rattle.std.specs.Prelude.{◌≡◌, ◌++◌, ◌∷◌, [], ◌<◌, length, map, IfOk, OnOk};
+ghost use Rattle.mst_net.specs.tables.Table.{no_table};
 ghost use Rattle.mst_edits.specs.TableLines.{edit_of, table_edits, direct_moves as direct_of, crowds as crowds_it, gathered as gathered_of, gathered_first as first_of, ways, with_way as with_way_of, table_after};
 
 use crate::list::push_when;
@@ -34,6 +35,46 @@ pub(crate) fn add_table(
         make(name, &here, &mut now, edits)?;
     }
     Ok(())
+}
+
+/// Adds the edits that make a new bridge's table. Where that has room for its trees, so has each table on the way.
+pub(crate) fn add_new_table(
+    alloc: Global,
+    name: &Name,
+    after: &[Tree],
+    edits: &mut Vec<Edit>,
+) -> Result<(), AllocError>
+    requires { length after.now ≡ 4094 }
+    ensures { OnOk result (edits.new.items ≡ edits.old.items ++ table_edits name.now no_table after.now) }
+{
+    let before = [Tree::cist(); 4094];
+    if tree_count(after) > TREE_LIMIT {
+        return add_table(alloc, name, &before, after, edits);
+    }
+    let lines = direct_moves(alloc, name, &before, after)?;
+    add_lines(name, &lines, edits)
+}
+
+/// Adds the edits of some lines.
+fn add_lines(name: &Name, lines: &[Move], edits: &mut Vec<Edit>) -> Result<(), AllocError>
+    ensures { OnOk result (edits.new.items ≡ edits.old.items ++ map (edit_of name.now) lines.now) }
+{
+    for line in lines {
+        add_line(name, line, edits)?;
+    }
+    Ok(())
+}
+
+/// Adds the edit of a line.
+fn add_line(name: &Name, line: &Move, edits: &mut Vec<Edit>) -> Result<(), AllocError>
+    ensures { OnOk result (edits.new.items ≡ edits.old.items ++ edit_of name.now line.now ∷ []) }
+{
+    let edit = Edit::SetByTree(TreeChange::Table {
+        bridge: *name,
+        tree: line.tree,
+        vids: line.vids,
+    });
+    push_when(true, &edit, edits)
 }
 
 /// The lines, were there room for each tree.
@@ -163,12 +204,7 @@ fn make(
     ensures table { OnOk result (now.new ≡ table_after now.old lines.now) }
 {
     for line in lines {
-        let edit = Edit::SetByTree(TreeChange::Table {
-            bridge: *name,
-            tree: line.tree,
-            vids: line.vids,
-        });
-        push_when(true, &edit, edits)?;
+        add_line(name, line, edits)?;
         map_vids(now, &line.vids, line.tree);
     }
     Ok(())

@@ -1,9 +1,9 @@
-ghost use Rattle.std.specs.Prelude.{◌≡◌, ◌≤◌, ◌||◌, ◌&&◌, ◌==◌, not, length};
-ghost use Rattle.mst_ids.specs.Vids.{has, is_within, set_where};
+ghost use Rattle.std.specs.Prelude.{◌≡◌, ◌≤◌, ◌&&◌, ◌==◌, not, length};
 ghost use Rattle.mst_net.specs.tables.Table.{tree_in};
 ghost use Rattle.mst_edits.specs.TableLines.{moved_to as moved_of, with_tree};
 
-use mst_ids::{Tree, Vid, VidSet};
+use crate::runs::insert;
+use mst_ids::{Tree, VidSet};
 
 /// The VIDs that one table has in a tree and another one hasn't.
 pub(crate) fn moved_to(before: &[Tree], after: &[Tree], tree: Tree) -> VidSet
@@ -51,15 +51,5 @@ pub(crate) fn add_tree(table: &[Tree], tree: Tree, vids: &mut VidSet)
         if is_in(table, number, tree) {
             insert(number, vids);
         }
-    }
-}
-
-fn insert(number: u16, vids: &mut VidSet)
-    requires least { 1 ≤ number }
-    requires greatest { number ≤ 4094 }
-    ensures { vids.new ≡ set_where (λ n. has vids.old n || is_within (number, number) n) }
-{
-    if let Some(vid) = Vid::new(u64::from(number)) {
-        vids.insert(vid);
     }
 }

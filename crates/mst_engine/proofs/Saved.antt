@@ -9,7 +9,7 @@ use Rattle.mst_lang.specs.declared.line.Line.TheVariants.{Blank, Mark, Edit as e
 use Rattle.mst_lang.specs.declared.line.Version.TheVariants.{V1, V2}
 use Rattle.mst_net.specs.tables.Tables.{Net}
 use Rattle.mst_report.specs.State.{State, empty_state}
-use Rattle.mst_report.specs.save.SaveText.{Makes, Leave, Restores}
+use Rattle.mst_edits.specs.SaveText.{Makes, Leave, Restores}
 use Rattle.mst_engine.specs.Script.{Serves, ServesRead, Runs, reading_at, version_said, edited}
 use Rattle.mst_print.specs.Shape.{of_script}
 use Rattle.mst_engine.specs.Steps.{Step, RunsBy, silent, left_by, texts_of, refusals_of, lacks_of}

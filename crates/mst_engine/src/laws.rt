@@ -8,8 +8,8 @@ ghost use Rattle.mst_net.specs.tables.Tables.{Net, IsNetwork};
 ghost use Rattle.mst_net.specs.tables.declared.refusal.Refusal.{Refusal};
 ghost use Rattle.mst_report.specs.State.{State, IsState, empty_state};
 ghost use Rattle.mst_lang.specs.Lines.{lines_of};
-ghost use Rattle.mst_report.specs.save.Saved.{saved_edits};
-ghost use Rattle.mst_report.specs.save.SaveText.{save_text, IsShort};
+ghost use Rattle.mst_edits.specs.Edits.{saved_edits};
+ghost use Rattle.mst_edits.specs.SaveText.{save_text, IsShort};
 ghost use Rattle.mst_engine.specs.Captures.{Compares};
 ghost use Rattle.mst_rows.specs.Rows.{Row};
 ghost use Rattle.mst_engine.specs.Script.{answered, Serves, ServesRead, Runs, Loads, LoadsAll, unmarked};
@@ -21,10 +21,10 @@ ghost use Rattle.mst_print.specs.declared.form.Form.{Form};
 ghost use Rattle.mst_print.specs.declared.form.Shape.{Shape};
 
 use mst_compare::laws::{has_list, one_list};
+use mst_edit_laws::laws::restored;
 use mst_lang::laws::edits_in_range;
 use mst_net::laws::networks;
 use mst_report::laws::{entries_of_network, has_answer, one_answer};
-use mst_report::save_laws::restored;
 
 /// Every script has a run in which no line meets want of memory, in each form, and so have any lines of each version, the
 /// first of any number, from any network on.

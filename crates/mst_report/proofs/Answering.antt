@@ -19,8 +19,8 @@ use Rattle.mst_plan_text.specs.PlanText.{ArePlanRows}
 use Rattle.mst_plan_text.specs.text.ConfigurationText.{configuration_rows, rows_of_bridge}
 use Rattle.mst_plan_text.specs.text.RegionsText.{regions_rows}
 use Rattle.mst_rows.specs.Rows.{Row}
-use Rattle.mst_save.specs.Digest.{digest_row}
-use Rattle.mst_save.specs.SaveRows.{save_rows}
+use Rattle.mst_edits.specs.Digest.{digest_row}
+use Rattle.mst_edits.specs.EditRows.{save_rows}
 use Rattle.mst_plan_text.specs.text.TreeText.{tree_rows}
 use Rattle.mst_plan_text.specs.text.VlanText.{AreVlanRows}
 use Rattle.mst_report.specs.Answers.{Answers, TellsOutcome, TellsChanges}

@@ -7,9 +7,9 @@ use Rattle.mst_net.specs.tables.declared.refusal.Refusal.{Refusal}
 use Rattle.mst_net.specs.tables.Tables.{Net}
 use Rattle.mst_rows.specs.Lines.{row_line}
 use Rattle.mst_rows.specs.Rows.{Row}
-use Rattle.mst_save.specs.Digest.{digits_row}
-use Rattle.mst_save.specs.SaveRows.{save_rows}
-use Rattle.mst_save.specs.SaveText.{save_text}
+use Rattle.mst_edits.specs.Digest.{digits_row}
+use Rattle.mst_edits.specs.EditRows.{save_rows}
+use Rattle.mst_edits.specs.SaveText.{save_text}
 
 -- rows as an answer, and the rows of one
 abbrev pub answer_of : List Row → Result (List Row) Refusal

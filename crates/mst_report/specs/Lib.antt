@@ -1,5 +1,4 @@
 pub use Rattle.mst_changes.specs as changes
-pub use Rattle.mst_save.specs as save
 pub mod State
 pub mod Answers
 pub mod Digest

@@ -1,5 +1,5 @@
 -- Which queries are refused.
-use Rattle.std.specs.Prelude.{◌≢◌, ℕ, List, Option, None, Some, Ok, Err}
+use Rattle.std.specs.Prelude.{◌≢◌, List, Option, None, Some, Ok, Err}
 use Rattle.mst_lang.specs.declared.line.Query.{Query}
 use Rattle.mst_net.specs.tables.declared.refusal.Refusal.{Refusal}
 use Rattle.mst_net.specs.tables.declared.refusal.Refusal.TheVariants.{E99}

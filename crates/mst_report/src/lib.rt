@@ -8,5 +8,4 @@ mod rows;
 
 pub use answers::asks_plan;
 pub use mst_plan::{Settler, forest_of};
-pub use mst_save::{laws as save_laws, put_saved};
 pub use planner::Planner;

@@ -8,13 +8,13 @@ ghost use Rattle.mst_report.specs.Refusing.{HasRows};
 
 use crate::planner::Planner;
 use mst_changes::{Entries, put_changes};
+use mst_edits::{put_digest, put_saved};
 use mst_ids::{Name, Tree, Vid};
 use mst_lang::Query;
 use mst_note_text::laws::notes;
 use mst_note_text::put_notes;
 use mst_plan_text::{put_configuration, put_lags, put_plan, put_regions, put_tree, put_vlan};
 use mst_rows::Rows;
-use mst_save::{put_digest, put_saved};
 use std::alloc::AllocError;
 
 impl Planner {

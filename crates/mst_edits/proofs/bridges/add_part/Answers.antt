@@ -12,6 +12,6 @@ returns g c =
     let name = c.args.name.now in
     let old = c.args.edits.now.items in
     on_ok_weaker c.add_ports.result (λ e.
-    onto _ e c.in_ok-add_bridge.ensures ∙ append_assoc old (bridge_edits a b name) (flat_map (port_edits a b) c.ports_of.result.now)
-    ∙ ap (λ ps. old ++ (bridge_edits a b name ++ flat_map (port_edits a b) ps)) (c.ports_of.ensures ∙ c.requires name))
+    onto _ e c.in_ok-add_bridge.ensures ∙ append_assoc old (bridge_edits c.args.in_place a b name) (flat_map (port_edits a b) c.ports_of.result.now)
+    ∙ ap (λ ps. old ++ (bridge_edits c.args.in_place a b name ++ flat_map (port_edits a b) ps)) (c.ports_of.ensures ∙ c.requires name))
     c.add_ports.ensures

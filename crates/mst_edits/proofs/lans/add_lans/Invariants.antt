@@ -5,4 +5,4 @@ use Rattle.mst_edits.proofs.lans.add_lans.Given as goal
 
 -- the edits of those before it
 abbrev pub invariant-loop-name : goal.invariant-loop-name
-invariant-loop-name g l = l.edits.items ≡ l.fn.edits.items ++ flat_map (lan_edits (g.C.Contents.tables l.old).net (g.D.Contents.tables l.new).net) (take l.name-index l.name-items)
+invariant-loop-name g l = l.edits.items ≡ l.fn.edits.items ++ flat_map (lan_edits l.in_place (g.C.Contents.tables l.old).net (g.D.Contents.tables l.new).net) (take l.name-index l.name-items)

@@ -1,7 +1,7 @@
 use Rattle.std.proofs.Common.{◌+◌, ◌++◌, ◌∷◌, [], ◌∙◌, length, sym, ap, append-nil, ⊎_elim}
 use Rattle.std.proofs.lemmas.Bool.{cases_lt}
 use Rattle.mst_ids.specs.Vids.{run_text}
-use Rattle.mst_save.proofs.Cutting.{first_run, begin, next_run, put, part, done}
+use Rattle.mst_edits.proofs.Cutting.{first_run, begin, next_run, put, part, done}
 use Rattle.mst_edits.proofs.MovesInTurn.{moves_of, one_line}
 use Rattle.mst_edits.proofs.moves.add_moves.Goals as goal
 

@@ -1,5 +1,5 @@
 use Rattle.std.proofs.Common.{◌≡◌, ℕ, ◌-◌, List, ◌++◌}
-use Rattle.mst_save.proofs.Cutting.{Putting}
+use Rattle.mst_edits.proofs.Cutting.{Putting}
 use Rattle.mst_edits.proofs.MovesInTurn.{moves_of}
 use Rattle.mst_edits.proofs.moves.add_moves.Given as goal
 

@@ -5,9 +5,8 @@ use Rattle.std.proofs.lemmas.Result.{on_ok_weaker}
 use Rattle.mst_lang.specs.declared.line.Edit.TheVariants.{SetByTree}
 use Rattle.mst_lang.specs.declared.line.TreeChange.TheVariants.{Vlans}
 use Rattle.mst_net.specs.tables.After.{vlans_of}
-use Rattle.mst_save.specs.Saved.{when}
+use Rattle.mst_edits.specs.Edits.{when, port_set}
 use Rattle.mst_edits.specs.Staying.{vlans_before}
-use Rattle.mst_edits.specs.Edits.{port_set}
 use Rattle.mst_edits.proofs.Listing.{onto, all_behind}
 use Rattle.mst_edits.proofs.ports.add_changes.Goals as goal
 

@@ -1,7 +1,6 @@
 use Rattle.std.proofs.Common.{◌≡◌, ◌-◌, true, false, length, take, drop, sym, ap, ◌∙◌}
 use Rattle.std.proofs.lemmas.Result.{IfOk-weaker}
-use Rattle.mst_save.specs.Saved.{vids_in}
-use Rattle.mst_edits.specs.TableLines.{gathered, is_one_line}
+use Rattle.mst_edits.specs.TableLines.{vids_in, gathered, is_one_line}
 use Rattle.mst_edits.proofs.LinesMade.{with_none, first_is, others_are}
 use Rattle.mst_edits.proofs.tables.gathered_first.Goals as goal
 

@@ -12,6 +12,6 @@ loop-line-preserved c =
     let i = c.loop-line.line-index in
     record {
       long = ap length c.map_vids.ensures ∙ length-mapped line.vids line.tree c.loop-line.now;
-      edits = edit_made c.args.name.now lines i line c.args.edits.now.items c.loop-line.edits.items c.push_when.new.list.items c.loop-line-test.true c.line-item.is c.loop-line.invariant.edits c.in_ok-push_when.ensures;
+      edits = edit_made c.args.name.now lines i line c.args.edits.now.items c.loop-line.edits.items c.add_line.new.edits.items c.loop-line-test.true c.line-item.is c.loop-line.invariant.edits c.in_ok-add_line.ensures;
       table = table_made lines i line c.args.now.now c.loop-line.now c.map_vids.new.table c.loop-line-test.true c.line-item.is c.loop-line.invariant.table c.map_vids.ensures;
     }

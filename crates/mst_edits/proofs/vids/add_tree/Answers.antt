@@ -1,7 +1,7 @@
 use Rattle.std.proofs.Common.{◌≡◌, ℕ, Bool, ◌∙◌, sym, arith}
 use Rattle.mst_ids.specs.Vids.{has}
-use Rattle.mst_save.specs.Saved.{vids_in}
-use Rattle.mst_save.proofs.Cuts.{mapped_is}
+use Rattle.mst_edits.specs.TableLines.{vids_in}
+use Rattle.mst_edits.proofs.Cuts.{mapped_is}
 use Rattle.mst_edits.proofs.Sets.{set_of_has, none_yet, one_in, one_out, all_in}
 use Rattle.mst_edits.proofs.Moved.{none_in, zero_out}
 use Rattle.mst_edits.proofs.vids.add_tree.Goals as goal

@@ -1,6 +1,6 @@
 use Rattle.std.proofs.Common.{◌≡◌}
 use Rattle.mst_ids.specs.Vids.{has, set_where}
-use Rattle.mst_save.specs.Saved.{vids_in}
+use Rattle.mst_edits.specs.TableLines.{vids_in}
 use Rattle.mst_edits.proofs.Sets.{with_below}
 use Rattle.mst_edits.proofs.vids.add_tree.Given as goal
 

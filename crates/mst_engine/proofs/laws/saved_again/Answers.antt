@@ -1,5 +1,5 @@
 use Rattle.mst_lang.specs.Lines.{lines_of}
-use Rattle.mst_report.specs.save.SaveText.{save_text}
+use Rattle.mst_edits.specs.SaveText.{save_text}
 use Rattle.mst_engine.proofs.Saved.{restored_run}
 use Rattle.mst_engine.proofs.laws.saved_again.Goals as goal
 

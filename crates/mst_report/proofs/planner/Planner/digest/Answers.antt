@@ -1,6 +1,6 @@
 use Rattle.std.proofs.Common.{refl, subst, [], ◌∷◌, ◌++◌}
 use Rattle.std.proofs.lemmas.Result.{on_ok_weaker}
-use Rattle.mst_save.specs.Digest.{digest_row}
+use Rattle.mst_edits.specs.Digest.{digest_row}
 use Rattle.mst_report.proofs.planner.Planner.digest.Goals as goal
 
 pub returns : goal.returns

@@ -1,6 +1,6 @@
 use Rattle.std.proofs.Common.{refl, subst, ◌++◌}
 use Rattle.std.proofs.lemmas.Result.{on_ok_weaker}
-use Rattle.mst_save.specs.SaveRows.{save_rows}
+use Rattle.mst_edits.specs.EditRows.{save_rows}
 use Rattle.mst_report.proofs.planner.Planner.saved.Goals as goal
 
 pub returns : goal.returns
