@@ -18,8 +18,7 @@ import tempfile
 HERE = os.path.dirname(os.path.abspath(__file__))
 TOP = os.path.join(HERE, os.pardir)
 BELOW = ("mst_ids", "mst_vector", "mst_topology", "mst_progress", "mst_outcome", "mst_settle")
-# From nothing a step leads to each bridge but the root at least, and two do at most: one as its neighbour's message is taken in, and one as
-# it is settled. A repair takes no more than this.
+# From nothing one step leads to each bridge but the root, as its neighbour's message is taken in. A repair takes no more than this.
 BRIDGES, FEW = 128, 32
 SECONDS = 900
 
@@ -51,7 +50,7 @@ def main():
         print(f"{tried.stdout}{tried.stderr}\nFAILED: steps weren't counted")
         return 1
     all_steps, repair = map(int, counted.groups())
-    is_right = tried.returncode == 0 and BRIDGES - 1 <= all_steps <= 2 * BRIDGES and 0 < repair <= FEW
+    is_right = tried.returncode == 0 and all_steps == BRIDGES - 1 and 0 < repair <= FEW
     if not is_right:
         print(f"{tried.stdout}{tried.stderr}")
     print(f"{'' if is_right else 'FAILED: '}from nothing {all_steps} steps, after the change {repair}")

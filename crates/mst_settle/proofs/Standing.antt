@@ -73,20 +73,19 @@ module _ {B P V : Type 0} (m : Rules B P V) (wires : List (TreePort ℕ ℕ ℕ 
     -- the outcome taken over, then with what differs touched
     module _ (a : Assignment V) (vectors : (n : ℕ) → vector_of a n ≡ vector_of tree.outcome n) (designated : (lan : ℕ) → designated_of a lan ≡ designated_of tree.outcome lan)
         (c : Assignment V) (touched : KeepsOutcome a c) where
-      pub can_repair : TouchesMissing t u c → TouchesMissing u t c → IsTopology m v → IsRepairable m (vector_of c) (designated_of c) c.touched_bridges c.touched_lans u
-      can_repair there back ok = repairable t u c there back m (subst (IsTopology m) (sym is) held.topology) (subst (IsTopology m) (sym to) ok)
+      pub can_repair : TouchesMissing t u c → TouchesMissing u t c → IsRepairable m (vector_of c) (designated_of c) c.touched_bridges c.touched_lans u
+      can_repair there back = repairable t u c there back m (subst (IsTopology m) (sym is) held.topology)
           (subst (λ (z : Topology ℕ ℕ ℕ B P). length z.bridges ≤ 1024) (sym is) held.size)
           (settled_same tree.outcome c (λ n. touched.vectors n ∙ vectors n) m t (λ lan. touched.designated lan ∙ designated lan) held_settled)
 
-      -- and then repaired, and a copy of the outcome kept
-      pub is_repaired : (d : Assignment V) → IsSettledFor m u d → WithinBounds (vector_of c) (vector_of d) d.settlings
-          → (copy : Assignment V) → ((k : ℕ) → vector_of copy k ≡ vector_of d k) → ((lan : ℕ) → designated_of copy lan ≡ designated_of d lan)
-          → (kept : Assignment V) (n : ℕ) → kept ≡ copy → n ≡ d.settlings → IsSettledOn m v (vector_of tree.outcome) (Some kept) n
-      is_repaired d settled bounds copy same_vectors same_designated kept n same_kept same_n =
-          let there = settled_same d copy same_vectors m u same_designated settled in
-          let bounded : WithinBounds (vector_of tree.outcome) (vector_of d) d.settlings = subst (λ z. WithinBounds z (vector_of d) d.settlings) (vectors_same tree.outcome c (λ k. touched.vectors k ∙ vectors k)) bounds in
-          let on_u : IsSettledOn m u (vector_of tree.outcome) (Some copy) d.settlings = record {
-            settled = record { vectors = there.vectors; designated = there.designated };
-            bounds = subst (λ (w : ℕ → Option V). WithinBounds (vector_of tree.outcome) w d.settlings) (sym (vectors_same d copy same_vectors)) bounded;
-          } in
-          rw (same_kept, same_n) (subst (λ z. IsSettledOn m z (vector_of tree.outcome) (Some copy) d.settlings) to on_u)
+-- a copy of what a settler settled for the topology u is kept
+module _ {B P V : Type 0} (m : Rules B P V) (u v : Topology ℕ ℕ ℕ B P) (to : u ≡ v) (before : ℕ → Option V) (d : Assignment V) (settled : IsSettledFor m u d) (bounds : WithinBounds before (vector_of d) d.settlings) where
+  pub is_settled_on : (copy : Assignment V) → ((k : ℕ) → vector_of copy k ≡ vector_of d k) → ((lan : ℕ) → designated_of copy lan ≡ designated_of d lan)
+      → (kept : Assignment V) (n : ℕ) → kept ≡ copy → n ≡ d.settlings → IsSettledOn m v before (Some kept) n
+  is_settled_on copy same_vectors same_designated kept n same_kept same_n =
+      let there = settled_same d copy same_vectors m u same_designated settled in
+      let on_u : IsSettledOn m u before (Some copy) d.settlings = record {
+        settled = record { vectors = there.vectors; designated = there.designated };
+        bounds = subst (λ (w : ℕ → Option V). WithinBounds before w d.settlings) (sym (vectors_same d copy same_vectors)) bounds;
+      } in
+      rw (same_kept, same_n) (subst (λ z. IsSettledOn m z before (Some copy) d.settlings) to on_u)

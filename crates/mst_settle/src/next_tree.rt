@@ -1,13 +1,12 @@
 //! A tree on the wiring after an edit, from the one that stands: shared where it is the same tree, and else a repaired copy.
-ghost use Rattle.std.specs.Prelude.{◌≡◌, ℕ, ◌≤◌, IfOk, IsTrue, length, Some};
+ghost use Rattle.std.specs.Prelude.{◌≡◌, ◌≤◌, IfOk, IsTrue, length};
 ghost use Rattle.mst_topology.specs.Topology.{IsTopology};
 ghost use Rattle.mst_topology.specs.Wiring.{topology_of};
-ghost use Rattle.mst_outcome.specs.Assignment.{vector_of, designated_of};
-ghost use Rattle.mst_settle.specs.Settler.{KeepsSpace};
+ghost use Rattle.mst_outcome.specs.Assignment.{vector_of, IsSettledFor};
+ghost use Rattle.mst_settle.specs.Settler.{HasSpaceFor, KeepsSpace};
 ghost use Rattle.mst_topology.specs.Repair.{WithinBounds};
-ghost use Rattle.mst_topology.specs.Slots.{HasRoom};
 ghost use Rattle.mst_settle.specs.Differences.{HasSpaceForBoth};
-ghost use Rattle.mst_outcome.specs.Held.{IsHeld};
+ghost use Rattle.mst_outcome.specs.Held.{IsHeld, topology_on};
 ghost use Rattle.mst_settle.specs.Repaired.{IsSettledOn};
 ghost use Rattle.mst_outcome.specs.Shared.{own_of};
 ghost use Rattle.std.specs.Option.{option_map};
@@ -23,18 +22,41 @@ use std::alloc::{AllocError, Global};
 use std::collections::BTreeMap;
 use std::rc::Rc;
 
-/// Has a settler take over what is settled, where it has space for that. It takes no memory.
-fn load_into<M: Metric>(alloc: Global, standing: &SpanningTree<M>, settler: &mut Settler<M>)
-    requires bridges { (n : ℕ) (x : M.Vector) → vector_of standing.now.outcome n ≡ Some x → HasRoom settler.old.touched_bridges n }
-    requires lans { (lan port : ℕ) → designated_of standing.now.outcome lan ≡ Some port → HasRoom settler.old.touched_lans lan }
-    ensures vectors { (n : ℕ) → vector_of settler.new n ≡ vector_of standing.now.outcome n }
-    ensures designated { (lan : ℕ) → designated_of settler.new lan ≡ designated_of standing.now.outcome lan }
-    ensures bridges { settler.new.touched_bridges ≡ settler.old.touched_bridges }
-    ensures lans { settler.new.touched_lans ≡ settler.old.touched_lans }
+/// Has a settler settle the tree after an edit: from nothing, where nothing is settled for the one that stands, and else by taking
+/// over what is settled and repairing that. It takes no memory.
+fn settle_next<M: TellsApart>(
+    alloc: Global,
+    standing: &SpanningTree<M>,
+    rewiring: &Rewiring<M>,
+    from: &Topology<M>,
+    to: &Topology<M>,
+    before: &ByNumber<M::Port>,
+    own: &ByNumber<M::Port>,
+    same: bool,
+    settler: &mut Settler<M>,
+)
+    requires before { before.now ≡ standing.now.own }
+    requires same { IsTrue same → before.now ≡ own.now }
+    requires held { IsHeld M.rules rewiring.now.from standing.now }
+    requires from { from.now ≡ topology_on rewiring.now.from standing.now }
+    requires to { to.now ≡ topology_of rewiring.now.to to.now.bridges own.now }
+    requires size { length to.now.bridges ≤ 1024 }
+    requires space_from { HasSpaceFor from.now settler.old }
+    requires space_to { HasSpaceFor to.now settler.old }
+    ensures settled { IsSettledFor M.rules to.now settler.new }
+    ensures bounds { WithinBounds (vector_of standing.now.outcome) (vector_of settler.new) settler.new.settlings }
+    ensures space { KeepsSpace settler.old settler.new }
 {
     match standing.outcome() {
-        None => settler.load(&Outcome::new(alloc)),
-        Some(outcome) => settler.load(outcome),
+        None => {
+            settler.load(&Outcome::new(alloc));
+            settler.settle_first(to);
+        }
+        Some(outcome) => {
+            settler.load(outcome);
+            touch_differences::<M>(settler, rewiring, from, to, before, own, same);
+            settler.repair(to);
+        }
     }
 }
 
@@ -128,9 +150,9 @@ fn settled<M: TellsApart>(
     }
     reserve_bridges::<M>(settler, &from)?;
     reserve_bridges::<M>(settler, &to)?;
-    load_into(alloc, standing, settler);
-    touch_differences::<M>(settler, rewiring, &from, &to, before, own, same);
-    settler.repair(&to);
+    settle_next(
+        alloc, standing, rewiring, &from, &to, before, own, same, settler,
+    );
     let settlings = settler.settlings();
     let settled = settler.outcome(alloc)?;
     let outcome = Rc::new(alloc, settled)?;

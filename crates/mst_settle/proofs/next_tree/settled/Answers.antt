@@ -3,8 +3,9 @@ use Rattle.mst_topology.specs.Wiring.{topology_of}
 use Rattle.mst_settle.proofs.Scratch.{space_kept}
 use Rattle.mst_outcome.specs.Held.{topology_on}
 use Rattle.mst_outcome.specs.Shared.{outcome_of}
-use Rattle.mst_settle.proofs.Spaced.{space_same, space_then, on_kept, on_ports}
-use Rattle.mst_settle.proofs.Standing.{stands, vectors_have_space, ports_have_space, can_repair, is_repaired}
+use Rattle.mst_outcome.specs.Assignment.{vector_of}
+use Rattle.mst_settle.proofs.Spaced.{space_then, on_kept, on_ports}
+use Rattle.mst_settle.proofs.Standing.{stands, is_settled_on}
 use Rattle.mst_settle.proofs.next_tree.settled.Goals as goal
 
 pub returns-in-None-clause-settled : goal.returns-in-None-clause-settled
@@ -34,62 +35,30 @@ reserve_bridges-requires-2 g c =
     on_kept c.args.settler.now c.reserve_bridges.new.settler c.new-to.result.ports c.in_ok-reserve_bridges.ensures.keeps.space
     (on_ports c.args.rewiring.now.to c.args.bridges.now c.args.own.now c.new-to.result to c.args.settler.now c.requires.space.to)
 
-pub load_into-requires-clause-bridges : goal.load_into-requires-clause-bridges
-load_into-requires-clause-bridges g c =
-    let from : c.new-from.result ≡ topology_on c.args.rewiring.now.from c.args.standing.now = rw (← c.requires.before, ← c.bridges.ensures, ← c.from.ensures) c.new-from.ensures in
-    vectors_have_space g.M.Metric.rules c.args.rewiring.now.from c.args.standing.now c.requires.held c.new-from.result from c.reserve_bridges-2.new.settler (space_kept c.new-from.result c.reserve_bridges.new.settler c.reserve_bridges-2.new.settler c.in_ok-reserve_bridges.ensures.ok c.in_ok-reserve_bridges-2.ensures.keeps.space)
+pub settle_next-requires-clause-from : goal.settle_next-requires-clause-from
+settle_next-requires-clause-from g c = rw (← c.requires.before, ← c.bridges.ensures, ← c.from.ensures) c.new-from.ensures
 
-pub load_into-requires-clause-lans : goal.load_into-requires-clause-lans
-load_into-requires-clause-lans g c =
-    let from : c.new-from.result ≡ topology_on c.args.rewiring.now.from c.args.standing.now = rw (← c.requires.before, ← c.bridges.ensures, ← c.from.ensures) c.new-from.ensures in
-    ports_have_space g.M.Metric.rules c.args.rewiring.now.from c.args.standing.now c.requires.held c.new-from.result from c.reserve_bridges-2.new.settler (space_kept c.new-from.result c.reserve_bridges.new.settler c.reserve_bridges-2.new.settler c.in_ok-reserve_bridges.ensures.ok c.in_ok-reserve_bridges-2.ensures.keeps.space)
+pub settle_next-requires-clause-size : goal.settle_next-requires-clause-size
+settle_next-requires-clause-size g c = rw c.new-to.ensures c.requires.size
 
-pub touch_differences-requires-clause-space_from : goal.touch_differences-requires-clause-space_from
-touch_differences-requires-clause-space_from g c =
-    space_kept c.new-from.result c.reserve_bridges-2.new.settler c.load_into.new.settler (space_kept c.new-from.result c.reserve_bridges.new.settler c.reserve_bridges-2.new.settler c.in_ok-reserve_bridges.ensures.ok c.in_ok-reserve_bridges-2.ensures.keeps.space) (space_same c.reserve_bridges-2.new.settler c.load_into.new.settler c.load_into.ensures.bridges c.load_into.ensures.lans)
+pub settle_next-requires-clause-space_from : goal.settle_next-requires-clause-space_from
+settle_next-requires-clause-space_from g c = space_kept c.new-from.result c.reserve_bridges.new.settler c.reserve_bridges-2.new.settler c.in_ok-reserve_bridges.ensures.ok c.in_ok-reserve_bridges-2.ensures.keeps.space
 
-pub touch_differences-requires-clause-space_to : goal.touch_differences-requires-clause-space_to
-touch_differences-requires-clause-space_to g c =
-    space_kept c.new-to.result c.reserve_bridges-2.new.settler c.load_into.new.settler c.in_ok-reserve_bridges-2.ensures.ok (space_same c.reserve_bridges-2.new.settler c.load_into.new.settler c.load_into.ensures.bridges c.load_into.ensures.lans)
-
-pub repair-requires-clause-size : goal.repair-requires-clause-size
-repair-requires-clause-size g c = rw c.new-to.ensures c.requires.size
-
-pub repair-requires-clause-space : goal.repair-requires-clause-space
-repair-requires-clause-space g c =
-    space_kept c.new-to.result c.load_into.new.settler c.touch_differences.new.settler (space_kept c.new-to.result c.reserve_bridges-2.new.settler c.load_into.new.settler c.in_ok-reserve_bridges-2.ensures.ok (space_same c.reserve_bridges-2.new.settler c.load_into.new.settler c.load_into.ensures.bridges c.load_into.ensures.lans)) c.touch_differences.ensures.keeps.space
-
-pub repair-requires-clause-repairable : goal.repair-requires-clause-repairable
-repair-requires-clause-repairable g c =
-    let from : c.new-from.result ≡ topology_on c.args.rewiring.now.from c.args.standing.now = rw (← c.requires.before, ← c.bridges.ensures, ← c.from.ensures) c.new-from.ensures in
-    let to : c.new-to.result ≡ topology_of c.args.rewiring.now.to c.args.bridges.now c.args.own.now = rw (← c.to.ensures) c.new-to.ensures in
-    can_repair g.M.Metric.rules c.args.rewiring.now.from c.args.standing.now c.requires.held c.new-from.result from c.new-to.result (topology_of c.args.rewiring.now.to c.args.bridges.now c.args.own.now) to
-    c.load_into.new.settler c.load_into.ensures.vectors c.load_into.ensures.designated c.touch_differences.new.settler c.touch_differences.ensures.keeps
-    c.touch_differences.ensures.there c.touch_differences.ensures.back c.requires.topology
+pub settle_next-requires-clause-space_to : goal.settle_next-requires-clause-space_to
+settle_next-requires-clause-space_to g c = c.in_ok-reserve_bridges-2.ensures.ok
 
 pub returns-clause-settled : goal.returns-clause-settled
 returns-clause-settled g c =
-    let from : c.new-from.result ≡ topology_on c.args.rewiring.now.from c.args.standing.now = rw (← c.requires.before, ← c.bridges.ensures, ← c.from.ensures) c.new-from.ensures in
     let to : c.new-to.result ≡ topology_of c.args.rewiring.now.to c.args.bridges.now c.args.own.now = rw (← c.to.ensures) c.new-to.ensures in
-    is_repaired g.M.Metric.rules c.args.rewiring.now.from c.args.standing.now c.requires.held c.new-from.result from c.new-to.result (topology_of c.args.rewiring.now.to c.args.bridges.now c.args.own.now) to
-    c.load_into.new.settler c.load_into.ensures.vectors c.load_into.ensures.designated c.touch_differences.new.settler c.touch_differences.ensures.keeps
-    c.repair.new.self c.repair.ensures.settled c.repair.ensures.bounds c.in_ok-settled.settled c.in_ok-settled.ensures.vectors c.in_ok-settled.ensures.designated
+    is_settled_on g.M.Metric.rules c.new-to.result (topology_of c.args.rewiring.now.to c.args.bridges.now c.args.own.now) to (vector_of c.args.standing.now.outcome)
+    c.settle_next.new.settler c.settle_next.ensures.settled c.settle_next.ensures.bounds c.in_ok-settled.settled c.in_ok-settled.ensures.vectors c.in_ok-settled.ensures.designated
     c.in_ok-outcome.outcome.value c.settlings-settlings.result c.in_ok-outcome.ensures.ok c.settlings-settlings.ensures
 
 pub returns-in_err-settled-clause-space : goal.returns-in_err-settled-clause-space
-returns-in_err-settled-clause-space g c =
-    let loaded = space_then c.args.settler.now c.reserve_bridges-2.new.settler c.load_into.new.settler (space_then c.args.settler.now c.reserve_bridges.new.settler c.reserve_bridges-2.new.settler c.in_ok-reserve_bridges.ensures.keeps.space c.in_ok-reserve_bridges-2.ensures.keeps.space) (space_same c.reserve_bridges-2.new.settler c.load_into.new.settler c.load_into.ensures.bridges c.load_into.ensures.lans) in
-    let repaired = space_then c.args.settler.now c.touch_differences.new.settler c.repair.new.self (space_then c.args.settler.now c.load_into.new.settler c.touch_differences.new.settler loaded c.touch_differences.ensures.keeps.space) c.repair.ensures.space in
-    repaired
+returns-in_err-settled-clause-space g c = space_then c.args.settler.now c.reserve_bridges-2.new.settler c.settle_next.new.settler (space_then c.args.settler.now c.reserve_bridges.new.settler c.reserve_bridges-2.new.settler c.in_ok-reserve_bridges.ensures.keeps.space c.in_ok-reserve_bridges-2.ensures.keeps.space) c.settle_next.ensures.space
 
 pub returns-in_err-outcome-clause-space : goal.returns-in_err-outcome-clause-space
-returns-in_err-outcome-clause-space g c =
-    let loaded = space_then c.args.settler.now c.reserve_bridges-2.new.settler c.load_into.new.settler (space_then c.args.settler.now c.reserve_bridges.new.settler c.reserve_bridges-2.new.settler c.in_ok-reserve_bridges.ensures.keeps.space c.in_ok-reserve_bridges-2.ensures.keeps.space) (space_same c.reserve_bridges-2.new.settler c.load_into.new.settler c.load_into.ensures.bridges c.load_into.ensures.lans) in
-    let repaired = space_then c.args.settler.now c.touch_differences.new.settler c.repair.new.self (space_then c.args.settler.now c.load_into.new.settler c.touch_differences.new.settler loaded c.touch_differences.ensures.keeps.space) c.repair.ensures.space in
-    repaired
+returns-in_err-outcome-clause-space g c = space_then c.args.settler.now c.reserve_bridges-2.new.settler c.settle_next.new.settler (space_then c.args.settler.now c.reserve_bridges.new.settler c.reserve_bridges-2.new.settler c.in_ok-reserve_bridges.ensures.keeps.space c.in_ok-reserve_bridges-2.ensures.keeps.space) c.settle_next.ensures.space
 
 pub returns-clause-space : goal.returns-clause-space
-returns-clause-space g c =
-    let loaded = space_then c.args.settler.now c.reserve_bridges-2.new.settler c.load_into.new.settler (space_then c.args.settler.now c.reserve_bridges.new.settler c.reserve_bridges-2.new.settler c.in_ok-reserve_bridges.ensures.keeps.space c.in_ok-reserve_bridges-2.ensures.keeps.space) (space_same c.reserve_bridges-2.new.settler c.load_into.new.settler c.load_into.ensures.bridges c.load_into.ensures.lans) in
-    let repaired = space_then c.args.settler.now c.touch_differences.new.settler c.repair.new.self (space_then c.args.settler.now c.load_into.new.settler c.touch_differences.new.settler loaded c.touch_differences.ensures.keeps.space) c.repair.ensures.space in
-    repaired
+returns-clause-space g c = space_then c.args.settler.now c.reserve_bridges-2.new.settler c.settle_next.new.settler (space_then c.args.settler.now c.reserve_bridges.new.settler c.reserve_bridges-2.new.settler c.in_ok-reserve_bridges.ensures.keeps.space c.in_ok-reserve_bridges-2.ensures.keeps.space) c.settle_next.ensures.space

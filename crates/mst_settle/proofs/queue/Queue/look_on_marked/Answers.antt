@@ -27,9 +27,12 @@ loop-entry-preserved g c =
       lans_seen = c.look_on_if_marked.ensures.lans_seen;
     }
 
-pub returns : goal.returns
-returns g c =
+pub returns-clause-looked : goal.returns-clause-looked
+returns-clause-looked g c =
     let e : length c.entries-entry-items.result.now ≡ length c.args.lans.now = ap length c.entries-entry-items.ensures.value in
     let at : c.loop-entry.entry-index ≡ length c.args.lans.now = omega arith in
     looks_fewer g.M.Metric.rules c.args.progress.now.topology (vector_of c.args.progress.now) c.args.self.now.keys c.loop-entry.self.keys (Before c.args.lans.now (IsOnMarked c.args.progress.now.topology) (length c.args.lans.now)) (λ k. (e : ℕ × Bool) × Contains c.args.lans.now e × IsOnMarked c.args.progress.now.topology e k)
     (rw at at c.loop-entry.invariant.looked) (λ k h. before_all c.args.lans.now (IsOnMarked c.args.progress.now.topology) k h.0 h.1 h.2)
+
+pub returns-clause-seen : goal.returns-clause-seen
+returns-clause-seen g c = c.loop-entry.invariant.seen

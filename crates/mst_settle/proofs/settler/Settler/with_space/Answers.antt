@@ -1,4 +1,4 @@
-use Rattle.std.proofs.Common.{◌≡◌, ◌<◌, ◌≤◌, subst, sym, inl, inr, arith}
+use Rattle.std.proofs.Common.{subst, sym, inl, inr, arith}
 use Rattle.mst_topology.specs.Slots.{HasRoom}
 use Rattle.mst_topology.proofs.Entries.{same_or_other}
 use Rattle.mst_topology.proofs.Reserved.{below_other}
