@@ -1,60 +1,35 @@
 -- The settings that ports have in one tree alone are noted where something is set.
-use Rattle.std.proofs.Common.{◌≡◌, ◌≢◌, ℕ, zero, suc, ◌+◌, ◌<◌, ◌≤◌, ◌==◌, ◌&&◌, ◌||◌, Bool, true, false, cond, if◌then◌else◌, not, max, List, [], ◌∷◌, Option, Some, None, is_some, refl, sym, ap, subst, ◌∙◌, arith, true≢false}
-use Rattle.std.specs.List.{AllByRecursion, filter, fold, range_with_len}
+use Rattle.std.proofs.Common.{◌≡◌, ◌≢◌, ℕ, ◌==◌, ◌&&◌, ◌||◌, Bool, true, false, if◌then◌else◌, not, max, List, [], ◌∷◌, Option, Some, None, is_some, refl, sym, ap, subst, ◌∙◌, true≢false}
+use Rattle.std.specs.List.{AllByRecursion, filter_map, fold}
 use Rattle.std.specs.Option.{unwrap_or}
 use Rattle.std.specs.BTreeMap.{BTreeMap}
-use Rattle.std.proofs.lemmas.Bool.{eqb-true, eqb-false, eq-eqb, ne_eqb, or_parts, not-false, and_right}
+use Rattle.std.proofs.lemmas.Bool.{eqb-true, eq-eqb, ne_eqb, or_parts, not-false}
 use Rattle.mst_ids.specs.Identifiers.{port_id}
 use Rattle.mst_ids.specs.Costs.{automatic_cost}
 use Rattle.mst_ids.specs.declared.name.PortName.{PortName}
 use Rattle.mst_vector.specs.declared.msti.MstiPort.{MstiPort}
 use Rattle.mst_forest.specs.topology.Places.{in_map}
+use Rattle.mst_forest.specs.topology.Wiring.{settings_in}
 use Rattle.mst_net.specs.tables.ByTree.{ByTree, AreInTrees, port_priority_in, port_cost_in}
+use Rattle.mst_net.specs.tables.Tables.{Net, Numbers}
 use Rattle.mst_net.specs.tables.TreesSet.{trees_where}
 use Rattle.mst_net.proofs.tables_lemmas.SettingsLemmas.{network_in_trees}
-use Rattle.mst_net.proofs.tables_lemmas.TreesListed.{all_listed, priority_told, cost_told}
+use Rattle.mst_net.proofs.tables_lemmas.TreesListed.{priority_told, cost_told}
 use Rattle.mst_view.specs.Trees.{is_among}
 use Rattle.mst_view.specs.Viewed.{Viewed, named_port}
 use Rattle.mst_view.specs.declared.in_view.PortInView.{PortInView}
 use Rattle.mst_trees.specs.Internal.{KnownInternal}
 use Rattle.mst_forest.specs.Apart.{Apart}
-use Rattle.mst_forest.specs.Msti.{msti_port}
+use Rattle.mst_forest.specs.Agrees.{AreOf}
+use Rattle.mst_forest.specs.Msti.{is_internal, msti_port}
+use Rattle.mst_forest.specs.Seen.{seen_cist_port, seen_tree_port}
 use Rattle.mst_trees.specs.Own.{is_set, noted_at, IsNoted}
-use Rattle.mst_trees.specs.Wirings.{AreOwn, HaveNumbers, own_in, base_settings, base_port, msti_wires}
+use Rattle.mst_trees.specs.Wirings.{AreOwn, own_in, base_settings, base_port, cist_wires, own_cist_port}
 use Rattle.mst_forest.proofs.Entries.{all_weaker, all_both}
-use Rattle.mst_forest.proofs.Lists.{apart_unmapped}
-
--- ---- the trees that pass a test
-among_kept : (kept first passes x y : Bool) → (first ≡ true → passes ≡ kept) → x ≡ (y && passes) → cond kept (first || x) x ≡ ((first || y) && passes)
-among_kept true true passes x y same e = sym (same refl)
-among_kept true false passes x y same e = e
-among_kept false true passes x y same e = e ∙ and_right y passes (same refl) ∙ sym (same refl)
-among_kept false false passes x y same e = e
-
-among_filtered : (test : ℕ → Bool) (tree : ℕ) (ts : List ℕ) → is_among (filter test ts) tree ≡ (is_among ts tree && test tree)
-among_filtered test tree [] = refl
-among_filtered test tree (t ∷ ts) = by (test t) refl (among_filtered test tree ts)
-  where
-    by : (kept : Bool) → test t ≡ kept → is_among (filter test ts) tree ≡ (is_among ts tree && test tree) → is_among (cond kept (t ∷ filter test ts) (filter test ts)) tree ≡ ((t == tree || is_among ts tree) && test tree)
-    by true e rest = among_kept true (t == tree) (test tree) (is_among (filter test ts) tree) (is_among ts tree) (λ f. ap test (sym (eqb-true t tree f)) ∙ e) rest
-    by false e rest = among_kept false (t == tree) (test tree) (is_among (filter test ts) tree) (is_among ts tree) (λ f. ap test (sym (eqb-true t tree f)) ∙ e) rest
-
-among_range : (tree a n : ℕ) → a ≤ tree → tree < a + n → is_among (range_with_len a n) tree ≡ true
-among_range tree a zero l h = absurd (omega arith)
-among_range tree a (suc n) l h = by (a == tree) refl (λ later. among_range tree (a + 1) n later (omega arith))
-  where
-    by : (b : Bool) → (a == tree) ≡ b → (a + 1 ≤ tree → is_among (range_with_len (a + 1) n) tree ≡ true) → (b || is_among (range_with_len (a + 1) n) tree) ≡ true
-    by true e rest = refl
-    by false e rest = rest (let other = eqb-false a tree e in omega arith)
-
-among_where : (test : ℕ → Bool) (tree : ℕ) → (test tree ≡ true → tree ≤ 4094) → is_among (trees_where test) tree ≡ test tree
-among_where test tree small = by 4095 refl (test tree) refl
-  where
-    by : (n : ℕ) → n ≡ 4095 → (b : Bool) → test tree ≡ b → is_among (trees_where test) tree ≡ b
-    by n is true e =
-        let l = small e in
-        ap (λ ts. is_among ts tree) (sym (all_listed test n is)) ∙ among_filtered test tree (range_with_len 0 n) ∙ ap (λ b. b && test tree) (among_range tree 0 n (omega arith) (omega arith)) ∙ e
-    by n is false e = ap (λ ts. is_among ts tree) (sym (all_listed test n is)) ∙ among_filtered test tree (range_with_len 0 n) ∙ and_right _ _ e
+use Rattle.mst_forest.proofs.Lists.{all_passing, apart_weaker, kept_same}
+use Rattle.mst_forest.proofs.Seen.{PortsRise, ports_apart}
+use Rattle.mst_forest.proofs.Views.{port_names_differ}
+use Rattle.mst_trees.proofs.Among.{among_where}
 
 -- ---- one port
 pub set_among : (set : ByTree) (port : PortName) → AreInTrees set → (tree : ℕ)
@@ -114,10 +89,33 @@ module _ (v : Viewed) (tree : ℕ) where
     all_both (λ q. p.number ≢ q.number) _ _ (λ q other noted. ap (λ o. unwrap_or (noted_from o ps q.number) (base_settings q)) (passed_by q.number None p (λ e. other (sym e))) ∙ noted) ps h.0 (all_noted ps h.1),
   )
 
-  pub are_own : (internal : List PortInView) (own : List (ℕ × MstiPort)) → HaveNumbers (msti_wires internal) → ((k : ℕ) → in_map own k ≡ noted_of internal k) → AreOwn v internal tree own
-  are_own internal own numbers noted =
-      all_weaker _ _ (λ p right. ap (λ o. unwrap_or o (base_settings p)) (noted p.number) ∙ right) internal
-      (all_noted internal (apart_unmapped (λ p q. p.number ≢ q.number) base_port internal numbers))
+  pub are_own : (ports : List PortInView) (own : List (ℕ × MstiPort)) → Apart (λ p q. p.number ≢ q.number) ports → ((k : ℕ) → in_map own k ≡ noted_of ports k) → AreOwn v ports tree own
+  are_own ports own numbers noted = all_weaker _ _ (λ p right. ap (λ o. unwrap_or o (base_settings p)) (noted p.number) ∙ right) ports (all_noted ports numbers)
 
+-- ---- a view of a network
 pub known_in_trees : (v : Viewed) (internal : List PortInView) → KnownInternal v internal → AreInTrees v.settings
 known_in_trees v internal known = subst AreInTrees (sym known.of.view.settings) (network_in_trees known.net known.of.network)
+
+module _ (net : Net) (numbers : Numbers) (v : Viewed) (region_ids : List (ℕ × ℕ)) (of : AreOf net numbers v region_ids) where
+  pub seen_in_trees : AreInTrees v.settings
+  seen_in_trees = subst AreInTrees (sym of.view.settings) (network_in_trees net of.network)
+
+  -- its ports have distinct numbers
+  pub seen_numbers : Apart (λ p q. p.number ≢ q.number) v.ports
+  seen_numbers =
+      apart_weaker (PortsRise net numbers) (λ p q. p.number ≢ q.number)
+      (λ p q l same. port_names_differ p.name q.name l.less (of.numbered.ports_differ p.name q.name q.number (l.first.has_numbers.port ∙ ap Some same) l.second.has_numbers.port)) v.ports
+      (ports_apart net numbers v of.view)
+
+-- the settings of all ports are those of the internal ones
+pub own_internal : (v : Viewed) (internal : List PortInView) → KnownInternal v internal → (tree : ℕ) (own : List (ℕ × MstiPort)) → AreOwn v v.ports tree own → AreOwn v internal tree own
+own_internal v internal known tree own are =
+    subst (λ ports. AreOwn v ports tree own) (sym known.is)
+    (all_passing _ _ (λ p. p.is_enabled && is_internal known.net known.designated (named_port p)) (λ p right _. right) v.ports are)
+
+-- ---- the CIST
+one_cist_port : (v : Viewed) (own : List (ℕ × MstiPort)) (p : PortInView) → settings_in own (base_port p) ≡ msti_port v.settings 0 (named_port p) → own_cist_port own p ≡ seen_cist_port v.settings p
+one_cist_port v own p e i = if p.is_enabled then Some (seen_tree_port p (record { id = (e i).id; external = unwrap_or p.settings.external (automatic_cost (max 1 p.speed)); internal = (e i).internal })) else None
+
+pub own_cist_ports : (v : Viewed) (own : List (ℕ × MstiPort)) → AreOwn v v.ports 0 own → filter_map (own_cist_port own) v.ports ≡ cist_wires v
+own_cist_ports v own are = kept_same (own_cist_port own) (seen_cist_port v.settings) v.ports (all_weaker _ _ (one_cist_port v own) v.ports are)

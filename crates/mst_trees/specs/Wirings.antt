@@ -1,5 +1,5 @@
 -- The wirings that the trees of a view share.
-use Rattle.std.specs.Prelude.{◌≡◌, ◌≢◌, ℕ, List, [], map, max, filter_map, nat_eq}
+use Rattle.std.specs.Prelude.{◌≡◌, ◌≢◌, ℕ, List, [], map, max, filter_map, nat_eq, Option, Some, None, unwrap_or, if◌then◌else◌}
 use Rattle.std.specs.Option.{option_map_or}
 use Rattle.std.specs.List.{AllByRecursion}
 use Rattle.std.specs.Map.{lookup}
@@ -42,10 +42,20 @@ msti_wires internal = map base_port internal
 abbrev pub msti_bridges_seen : Viewed → ℕ → List (ℕ × MstiBridge)
 msti_bridges_seen v tree = filter_map (seen_msti_bridge v tree) v.bridges
 
--- with these settings of its own in a tree each of the internal ports has the settings that it has there
+-- with these settings of its own in a tree each of these ports has the settings that it has there
 abbrev pub AreOwn : Viewed → List PortInView → ℕ → List (ℕ × MstiPort) → Type 0
-AreOwn v internal tree own = AllByRecursion (λ p. settings_in own (base_port p) ≡ msti_port v.settings tree (named_port p)) internal
+AreOwn v ports tree own = AllByRecursion (λ p. settings_in own (base_port p) ≡ msti_port v.settings tree (named_port p)) ports
 
 -- those of a tree, of those of all trees
 abbrev pub own_in : List (ℕ × BTreeMap ℕ MstiPort) → ℕ → List (ℕ × MstiPort)
 own_in own tree = option_map_or (λ m. m.entries) (lookup (nat_eq tree) own) []
+
+-- ---- the CIST by these
+-- what it has to know of a port with these settings of its own in it: an identifier and an internal cost, as an MSTI, and the external cost
+abbrev pub own_cist_settings : List (ℕ × MstiPort) → PortInView → CistPort
+own_cist_settings own p =
+    let set = settings_in own (base_port p) in
+    record { id = set.id; external = unwrap_or p.settings.external (automatic_cost (max 1 p.speed)); internal = set.internal }
+
+abbrev pub own_cist_port : List (ℕ × MstiPort) → PortInView → Option (TreePort ℕ ℕ ℕ CistPort)
+own_cist_port own p = if p.is_enabled then Some (seen_tree_port p (own_cist_settings own p)) else None

@@ -1,9 +1,9 @@
-ghost use Rattle.std.specs.Prelude.{ℕ, ◌==◌, IfOk, OnOk};
+ghost use Rattle.std.specs.Prelude.{◌≡◌, ◌≢◌, ℕ, ◌==◌, [], IfOk, OnOk};
 ghost use Rattle.mst_net.specs.tables.ByTree.{AreInTrees};
 ghost use Rattle.mst_view.specs.Trees.{is_among};
-ghost use Rattle.mst_trees.specs.Internal.{KnownInternal};
 ghost use Rattle.mst_trees.specs.Own.{is_set, IsNoted};
-ghost use Rattle.mst_trees.specs.Wirings.{HaveNumbers, AreOwn, own_in, msti_wires};
+ghost use Rattle.mst_forest.specs.Apart.{Apart};
+ghost use Rattle.mst_trees.specs.Wirings.{AreOwn, own_in};
 
 use indexmap::IndexMap;
 use mst_forest::msti_port;
@@ -15,6 +15,21 @@ use std::collections::BTreeMap;
 
 /// The settings that ports have in one tree alone, by the ports' numbers, for each tree in which there are such.
 pub(crate) type OwnSettings = IndexMap<Tree, BTreeMap<usize, MstiPort>>;
+
+/// The settings that ports have in a tree alone, or this map of none.
+pub(crate) fn own_of<'a>(
+    own: &'a OwnSettings,
+    none: &'a BTreeMap<usize, MstiPort>,
+    tree: Tree,
+) -> &'a BTreeMap<usize, MstiPort>
+    requires { none.now.entries ≡ [] }
+    ensures { result.now.entries ≡ own_in own.now.entries tree }
+{
+    match own.get(&tree) {
+        None => none,
+        Some(there) => there,
+    }
+}
 
 /// Notes the settings of a port in a tree.
 fn note_in(
@@ -66,18 +81,14 @@ fn note_port(
     note_in_each(alloc, view, port, costs.as_slice(), own)
 }
 
-/// The settings that the internal ports of a view have in one MSTI alone.
-pub(crate) fn own_settings(
-    alloc: Global,
-    view: &View,
-    internal: &[PortInView],
-) -> Result<OwnSettings, AllocError>
-    requires known { KnownInternal view.now internal.now }
-    requires numbers { HaveNumbers (msti_wires internal.now) }
-    ensures { IfOk result (λ own. (tree : ℕ) → AreOwn view.now internal.now tree (own_in own.entries tree)) }
+/// The settings that the ports of a view have in one tree alone, the CIST among them.
+pub(crate) fn own_settings(alloc: Global, view: &View) -> Result<OwnSettings, AllocError>
+    requires set { AreInTrees view.now.settings }
+    requires numbers { Apart (λ p q. p.number ≢ q.number) view.now.ports }
+    ensures { IfOk result (λ own. (tree : ℕ) → AreOwn view.now view.now.ports tree (own_in own.entries tree)) }
 {
     let mut own = IndexMap::new(alloc);
-    for port in internal {
+    for port in view.ports() {
         note_port(alloc, view, port, &mut own)?;
     }
     Ok(own)

@@ -1,5 +1,5 @@
 //! The trees of a network, settled by its view and its regions: from nothing, or repaired from those that stand.
-ghost use Rattle.std.specs.Prelude.{◌≡◌, IfOk};
+ghost use Rattle.std.specs.Prelude.{◌≡◌, ℕ, IfOk};
 ghost use Rattle.mst_vector.specs.Cist.{cist_rules};
 ghost use Rattle.mst_forest.specs.outcome.Assignment.{vector_of};
 ghost use Rattle.mst_forest.specs.outcome.Held.{IsHeld};
@@ -12,19 +12,21 @@ ghost use Rattle.mst_forest.specs.Mstis.{AreHeld, outcomes};
 ghost use Rattle.mst_trees.specs.Mstis.{AreOutcomes};
 ghost use Rattle.mst_trees.specs.SettledBy.{IsSettledBy};
 ghost use Rattle.mst_forest.specs.Seen.{cist_seen};
-ghost use Rattle.mst_trees.specs.Wirings.{msti_wires};
+ghost use Rattle.mst_trees.specs.Wirings.{AreOwn, msti_wires, own_in};
 ghost use Rattle.mst_forest.specs.nested.Trees.{IsSettled};
 
 use crate::cist::{cist_wiring, repaired_cist};
 use crate::msti::{internal_ports, msti_wiring};
 use crate::mstis::repaired_mstis;
+use crate::own::{OwnSettings, own_of, own_settings};
 use mst_forest::laws::{has_outcome, nested};
 use mst_forest::outcome_laws::renamed;
 use mst_forest::{Forest, Mstis, Regions, SpanningTree, Wiring};
-use mst_ids::{BridgeNo, LanNo, Name, PortName, PortNo};
+use mst_ids::{BridgeNo, LanNo, Name, PortName, PortNo, Tree};
 use mst_vector::{CistMetric, CistPort, MstiMetric, MstiPort};
 use mst_view::{PortInView, View};
 use std::alloc::{AllocError, Global};
+use std::collections::BTreeMap;
 
 /// Settles the trees of a network, by its view and its regions. `AllocError`: memory was wanted and refused.
 pub fn forest_of(alloc: Global, view: &View, regions: &Regions) -> Result<Forest, AllocError>
@@ -55,46 +57,60 @@ pub fn repaired_forest(
     nested();
     renamed::<CistMetric, Name, Name, PortName, BridgeNo, LanNo, PortNo>();
     renamed::<MstiMetric, Name, Name, PortName, BridgeNo, LanNo, PortNo>();
-    let (cist_wiring, cist) = next_cist(alloc, standing, view, regions)?;
+    let own = own_settings(alloc, view)?;
+    let (cist_wiring, cist) = next_cist(alloc, standing, view, regions, &own)?;
     let internal = internal_ports(alloc, view, regions, &cist)?;
     let msti_wiring = msti_wiring(alloc, internal.as_slice())?;
-    let mstis = next_mstis(alloc, standing, view, internal.as_slice(), &msti_wiring)?;
+    let mstis = next_mstis(
+        alloc,
+        standing,
+        view,
+        internal.as_slice(),
+        &own,
+        &msti_wiring,
+    )?;
     let regions = regions.copy()?;
     Ok(Forest::of(regions, cist_wiring, cist, msti_wiring, mstis))
 }
 
-/// The CIST of another network, repaired from the one that stands, on its wiring.
+/// The CIST of another network, repaired from the one that stands, on its wiring, with the settings that ports have in one tree
+/// alone.
 fn next_cist(
     alloc: Global,
     standing: &Forest,
     view: &View,
     regions: &Regions,
+    own: &OwnSettings,
 ) -> Result<(Wiring<CistPort>, SpanningTree<CistMetric>), AllocError>
-    requires { Known view.now regions.now }
+    requires known { Known view.now regions.now }
+    requires own { AreOwn view.now view.now.ports 0 (own_in own.now.entries 0) }
     ensures settled { IfOk result (λ r. IsSettledBy cist_rules (cist_seen view.now regions.now) (vector_of standing.now.cist) r.1.outcome) }
     ensures held { IfOk result (λ r. IsHeld cist_rules r.0 r.1) }
 {
     let (from, before) = standing.cist_wired();
-    let wiring = cist_wiring(alloc, view)?;
+    let none = BTreeMap::new(alloc);
+    let wiring = cist_wiring(alloc, view, own_of(own, &none, Tree::cist()))?;
     let cist = repaired_cist(alloc, before, from, &wiring, view, regions)?;
     Ok((wiring, cist))
 }
 
-/// The MSTIs of another network of whose view these are the internal ports, on their wiring: each is repaired from
-/// the one that stands, if there is one.
+/// The MSTIs of another network of whose view these are the internal ports, on their wiring, with the settings that these have in
+/// one tree alone: each is repaired from the one that stands, if there is one.
 fn next_mstis(
     alloc: Global,
     standing: &Forest,
     view: &View,
     internal: &[PortInView],
+    own: &OwnSettings,
     wiring: &Wiring<MstiPort>,
 ) -> Result<Mstis, AllocError>
     requires known { KnownInternal view.now internal.now }
+    requires own { (tree : ℕ) → AreOwn view.now internal.now tree (own_in own.now.entries tree) }
     requires wiring { wiring.now ≡ msti_wires internal.now }
     ensures settled { IfOk result (λ mstis. AreOutcomes view.now internal.now standing.now.mstis (outcomes mstis.entries)) }
     ensures held { IfOk result (λ mstis. AreHeld wiring.now mstis.entries) }
 {
     let (from, former) = standing.mstis_wired();
     let nothing = Wiring::new(alloc);
-    repaired_mstis(alloc, former, view, internal, &nothing, from, wiring)
+    repaired_mstis(alloc, former, view, internal, own, &nothing, from, wiring)
 }

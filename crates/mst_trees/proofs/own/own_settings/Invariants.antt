@@ -6,4 +6,4 @@ use Rattle.mst_trees.proofs.own.own_settings.Given as goal
 
 -- the settings of the ports before the next are noted
 abbrev pub invariant-loop-port : goal.invariant-loop-port
-invariant-loop-port l = (tree k : ℕ) → in_map (own_in l.own.entries tree) k ≡ noted_of l.view tree (take l.port-index l.internal) k
+invariant-loop-port l = (tree k : ℕ) → in_map (own_in l.own.entries tree) k ≡ noted_of l.view tree (take l.port-index l.port-items) k

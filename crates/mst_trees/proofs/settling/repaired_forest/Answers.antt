@@ -5,13 +5,23 @@ use Rattle.mst_forest.specs.Seen.{internal_seen, cist_seen}
 use Rattle.mst_forest.specs.Agrees.{AreOf}
 use Rattle.mst_forest.specs.Forest.{Forest}
 use Rattle.mst_forest.specs.Mstis.{outcomes}
-use Rattle.mst_trees.specs.Wirings.{msti_wires}
+use Rattle.mst_trees.specs.Internal.{KnownInternal}
+use Rattle.mst_trees.specs.Wirings.{msti_wires, own_in}
 use Rattle.mst_trees.proofs.Growing.{internal_agrees, is_forest}
 use Rattle.mst_trees.proofs.Keeping.{keeps_bounds}
 use Rattle.mst_trees.proofs.OnWiring.{internal_numbers}
+use Rattle.mst_trees.proofs.OwnSettings.{seen_in_trees, seen_numbers, own_internal}
 use Rattle.mst_trees.proofs.SettledTrees.{same_internal, is_settled_seen}
 use Rattle.mst_trees.proofs.Unused.{settles_no_unused}
 use Rattle.mst_trees.proofs.settling.repaired_forest.Goals as goal
+
+pub own_settings-requires : goal.own_settings-requires
+own_settings-requires c =
+    let k = c.requires in
+    record { set = seen_in_trees k.net k.numbers c.args.view.now c.args.regions.now k.of; numbers = seen_numbers k.net k.numbers c.args.view.now c.args.regions.now k.of }
+
+pub next_cist-requires : goal.next_cist-requires
+next_cist-requires c = record { known = c.requires; own = c.in_ok-own.ensures 0 }
 
 pub msti_wiring-requires : goal.msti_wiring-requires
 msti_wiring-requires c =
@@ -35,16 +45,18 @@ next_mstis-requires c =
     let region_ids = c.args.regions.now in
     let k = c.requires in
     let o = c.has_outcome.ensures k.net k.of.network in
+    let known : KnownInternal v c.as_slice-2.result.now = record {
+      net = k.net;
+      numbers = k.numbers;
+      region_ids = region_ids;
+      of = k.of;
+      designated = o.0.cist.designated;
+      is = c.as_slice-2.ensures.value ∙ c.in_ok-internal.ensures
+          ∙ internal_agrees k.net k.numbers v region_ids k.of c.renamed.ensures.vectors c.renamed.ensures.ports o.0.cist o.1.cist c.in_ok-cist_wiring.cist.outcome c.in_ok-cist_wiring.ensures.settled.outcome;
+    } in
     record {
-      known = record {
-        net = k.net;
-        numbers = k.numbers;
-        region_ids = region_ids;
-        of = k.of;
-        designated = o.0.cist.designated;
-        is = c.as_slice-2.ensures.value ∙ c.in_ok-internal.ensures
-            ∙ internal_agrees k.net k.numbers v region_ids k.of c.renamed.ensures.vectors c.renamed.ensures.ports o.0.cist o.1.cist c.in_ok-cist_wiring.cist.outcome c.in_ok-cist_wiring.ensures.settled.outcome;
-      };
+      known = known;
+      own = λ tree. own_internal v c.as_slice-2.result.now known tree (own_in c.in_ok-own.own.entries tree) (c.in_ok-own.ensures tree);
       wiring = c.in_ok-msti_wiring.ensures ∙ ap msti_wires (c.as_slice.ensures.value ∙ sym c.as_slice-2.ensures.value);
     }
 
