@@ -7,3 +7,4 @@ pub mod Steps
 pub mod Texts
 pub mod Told
 pub mod Verified
+pub mod Kept

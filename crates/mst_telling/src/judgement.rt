@@ -1,11 +1,12 @@
-ghost use Rattle.std.specs.Prelude.{◌≡◌, ◌++◌, List, OnOk, if◌then◌else◌, map};
+ghost use Rattle.std.specs.Prelude.{◌≡◌, ◌++◌, List, IfOk, OnOk, if◌then◌else◌, map};
 ghost use Rattle.mst_policy.specs.declared.policy.PolicyLine.{PolicyLine as LineOf};
 ghost use Rattle.mst_rows.specs.Rows.{Row};
-ghost use Rattle.mst_telling.specs.Judged.{found_at, line_lacks, told_in};
+ghost use Rattle.mst_telling.specs.Judged.{found_at, line_lacks, reasons_in, told_in};
 ghost use Rattle.mst_telling.specs.Rows.{row_at};
 ghost use Rattle.mst_telling.specs.Steps.{no_rows};
 ghost use Rattle.mst_telling.specs.Told.{found_rows, reason_rows};
 
+use crate::kept::{KeptReason, all_kept};
 use crate::reason::{At, put_reason};
 use mst_reasons::{Cause, Missing, Reason};
 use mst_rows::Rows;
@@ -16,7 +17,7 @@ use std::alloc::{AllocError, Global};
 pub struct Finding {
     pub place: Option<Cause>,
     /// For each line: none where it is kept there, or the place isn't looked at for it.
-    pub reasons: Vec<Vec<Reason>>,
+    pub reasons: Vec<Vec<KeptReason>>,
 }
 
 /// What the lines of a policy were judged by in a network.
@@ -29,8 +30,23 @@ pub struct Judgement {
 }
 
 impl Finding {
+    /// Of these reasons of lines in a place, kept by those of the first of these places. `AllocError`: memory was wanted and refused.
+    pub fn beside(
+        alloc: Global,
+        found: &[Finding],
+        place: Option<Cause>,
+        reasons: Vec<Vec<Reason>>,
+    ) -> Result<Finding, AllocError>
+        ensures place { IfOk result (λ finding. finding.place ≡ place) }
+        ensures reasons { IfOk result (λ finding. reasons_in finding.reasons ≡ reasons_in reasons) }
+    {
+        let first = found.first().map(|finding| &finding.reasons);
+        let reasons = all_kept(alloc, first, &place, reasons)?;
+        Ok(Finding { place, reasons })
+    }
+
     /// The reasons of the line at a place of the list.
-    pub(crate) fn reasons_of(&self, n: usize) -> &[Reason]
+    pub(crate) fn reasons_of(&self, n: usize) -> &[KeptReason]
         ensures { result.now ≡ (found_at n self.now).reasons }
     {
         match self.reasons.get(n) {
@@ -73,7 +89,7 @@ pub(crate) fn put_reasons<R: Rows>(
     alloc: Global,
     at: At,
     place: &Option<Cause>,
-    reasons: &[Reason],
+    reasons: &[KeptReason],
     out: &mut R,
 ) -> Result<(), AllocError>
     ensures { (first : R) (rows : List Row) → R.grew first out.old rows → OnOk result (R.grew first out.new (rows ++ map (row_at at.step) (reason_rows at.number place.now reasons.now))) }

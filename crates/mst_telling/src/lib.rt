@@ -5,6 +5,7 @@
 
 mod broken;
 mod judgement;
+mod kept;
 mod lacking;
 pub mod laws;
 mod news;
@@ -18,6 +19,7 @@ mod unkept;
 mod verified;
 
 pub use judgement::{Finding, Judgement};
+pub use kept::KeptReason;
 pub use lacking::{has_port, missing_in};
 pub use mst_reasons::{Hazards, is_whole};
 pub use once::is_looked_at;

@@ -6,10 +6,11 @@ ghost use Rattle.mst_telling.specs.Texts.{news};
 ghost use Rattle.mst_telling.specs.Told.{found_rows, reason_rows};
 
 use crate::judgement::Finding;
+use crate::kept::KeptReason;
 use crate::reason::{At, put_reason, reason_text};
 use crate::refused::{missing_text, put_missing};
 use crate::texts::Texts;
-use mst_reasons::{Cause, Missing, Reason};
+use mst_reasons::{Cause, Missing};
 use mst_rows::Rows;
 use std::alloc::{AllocError, Global};
 
@@ -37,7 +38,7 @@ pub(crate) fn put_if_new<R: Rows>(
     is_wanted: bool,
     at: At,
     place: &Option<Cause>,
-    reason: &Reason,
+    reason: &KeptReason,
     told: &Texts,
     out: &mut R,
 ) -> Result<(), AllocError>
@@ -59,7 +60,7 @@ pub(crate) fn put_unless<R: Rows>(
     alloc: Global,
     at: At,
     place: &Option<Cause>,
-    reasons: &[Reason],
+    reasons: &[KeptReason],
     texts: &Texts,
     out: &mut R,
 ) -> Result<(), AllocError>

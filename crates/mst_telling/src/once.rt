@@ -10,12 +10,13 @@ ghost use Rattle.mst_telling.specs.Texts.{is_told, news};
 ghost use Rattle.mst_telling.specs.Told.{is_open as item_is_open, looks_at, reason_rows, tells_once as scope_tells_once};
 
 use crate::judgement::{Finding, one_if};
+use crate::kept::KeptReason;
 use crate::news::{put_if_new, put_unless};
 use crate::reason::{At, reason_text};
 use crate::texts::Texts;
 use mst_kinds::{Kind, VerifyLine};
 use mst_policy::{NameItem, NameList, Promise, Scope};
-use mst_reasons::{Cause, Event, Reason, asks, asks_now, has_now};
+use mst_reasons::{Cause, Event, asks, asks_now, has_now};
 use mst_rows::{Rows, Value, put};
 use std::alloc::{AllocError, Global};
 
@@ -96,7 +97,7 @@ fn add_reasons(
     alloc: Global,
     number: u64,
     place: &Option<Cause>,
-    reasons: &[Reason],
+    reasons: &[KeptReason],
     texts: &mut Texts,
 ) -> Result<(), AllocError>
     ensures { (rows : List Row) → AreTexts rows texts.old → OnOk result (AreTexts (rows ++ reason_rows number place.now reasons.now) texts.new) }
@@ -171,7 +172,7 @@ fn is_left_out(
     alloc: Global,
     folding: &Folding,
     place: &Option<Cause>,
-    reason: &Reason,
+    reason: &KeptReason,
 ) -> Result<bool, AllocError>
     ensures { (nows : List Row) → FoldsBy nows folding.now → IfOk result (λ is. is ≡ is_left folding.now.number folding.now.scope.now nows place.now reason.now) }
 {
@@ -192,7 +193,7 @@ fn add_if_left(
     alloc: Global,
     folding: &Folding,
     place: &Option<Cause>,
-    reason: &Reason,
+    reason: &KeptReason,
     texts: &mut Texts,
 ) -> Result<bool, AllocError>
     ensures is { (nows : List Row) → FoldsBy nows folding.now → IfOk result (λ is. is ≡ is_left folding.now.number folding.now.scope.now nows place.now reason.now) }
@@ -252,7 +253,7 @@ fn add_all_left(
 fn put_told<R: Rows>(
     alloc: Global,
     at: At,
-    reasons: &[Reason],
+    reasons: &[KeptReason],
     left: &Texts,
     told: &Texts,
     out: &mut R,
@@ -272,7 +273,7 @@ fn put_told<R: Rows>(
 fn put_told_now<R: Rows>(
     alloc: Global,
     folding: &Folding,
-    reasons: &[Reason],
+    reasons: &[KeptReason],
     left: &Texts,
     out: &mut R,
 ) -> Result<(), AllocError>
@@ -338,7 +339,7 @@ fn put_kept<R: Rows>(
     alloc: Global,
     folding: &Folding,
     place: &Option<Cause>,
-    reasons: &[Reason],
+    reasons: &[KeptReason],
     out: &mut R,
 ) -> Result<(), AllocError>
     ensures { (nows before : List Row) → FoldsBy nows folding.now → AreTexts before folding.now.told.now → (first : R) (rows : List Row) → R.grew first out.old rows

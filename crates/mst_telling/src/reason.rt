@@ -5,6 +5,7 @@ ghost use Rattle.mst_ids.specs.Vids.{runs_from};
 ghost use Rattle.mst_rows.specs.Cells as a_cell;
 ghost use Rattle.mst_telling.specs.Rows.{front_cells, kind_at, limit_cells, name_or_none, place as place_of, reason_cells, reason_line, reason_row, role_or_none, row_at};
 
+use crate::kept::KeptReason;
 use mst_ids::{Name, Tree, VidSet};
 use mst_kinds::{Kind, VerifyLine};
 use mst_reasons::{Cause, Parts, Reason, Word, cause_value};
@@ -251,7 +252,7 @@ fn kind_of(step: Option<u64>, line: VerifyLine) -> Kind
 }
 
 /// Puts why the expectation of a line doesn't hold, by what failed.
-pub(crate) fn put_reason<R: Rows>(
+fn put_own<R: Rows>(
     alloc: Global,
     at: At,
     cause: &Option<Cause>,
@@ -265,12 +266,26 @@ pub(crate) fn put_reason<R: Rows>(
     out.row(kind_of(at.step, line_of(reason)), values.as_slice())
 }
 
+/// The same by a reason as it is kept.
+pub(crate) fn put_reason<R: Rows>(
+    alloc: Global,
+    at: At,
+    cause: &Option<Cause>,
+    reason: &KeptReason,
+    out: &mut R,
+) -> Result<(), AllocError>
+    ensures { (first : R) (rows : List Row) → R.grew first out.old rows → OnOk result (R.grew first out.new (rows ++ row_at at.step (reason_row at.number cause.now reason.now) ∷ [])) }
+{
+    let told = reason.told(alloc)?;
+    put_own(alloc, at, cause, told.reason(), out)
+}
+
 /// The line of text of that.
 pub(crate) fn reason_text(
     alloc: Global,
     number: u64,
     cause: &Option<Cause>,
-    reason: &Reason,
+    reason: &KeptReason,
 ) -> Result<Vec<u8>, AllocError>
     ensures { IfOk result (λ text. text.items ≡ row_line (reason_row number cause.now reason.now)) }
 {

@@ -260,6 +260,7 @@ fn has_some(reasons: &[Vec<Reason>]) -> bool
 
 /// Keeps the reasons of lines in a place behind what was found, if there are some.
 fn add_finding(
+    alloc: Global,
     place: Option<Cause>,
     reasons: Vec<Vec<Reason>>,
     found: &mut Vec<Finding>,
@@ -267,7 +268,8 @@ fn add_finding(
     ensures { OnOk result ((n : ℕ) → line_found n found.new.items ≡ line_found n found.old.items ++ filter has_reason (found_of place (reasons_in reasons) n ∷ [])) }
 {
     if has_some(reasons.as_slice()) {
-        found.push(Finding { place, reasons })?;
+        let finding = Finding::beside(alloc, found.as_slice(), place, reasons)?;
+        found.push(finding)?;
     } else {
         drop(reasons);
     }
@@ -339,7 +341,7 @@ fn find_now(
         None => Ok(()),
         Some(vids) => {
             let reasons = reasons_now(alloc, network, judging, &vids)?;
-            add_finding(None, reasons, found)
+            add_finding(alloc, None, reasons, found)
         }
     }
 }
@@ -399,7 +401,7 @@ fn find_after(
         Some(vids) => {
             let reasons = reasons_failed(alloc, network, judging, event, &vids, seen)?;
             without_failures(alloc, network, event.failures(), seen)?;
-            add_finding(Some(*event.cause()), reasons, found)
+            add_finding(alloc, Some(*event.cause()), reasons, found)
         }
     }
 }
