@@ -1,9 +1,9 @@
 /// The number of this release, which `--version` prints behind the program's name.
-pub(crate) const VERSION: &str = "0.63.0";
+pub(crate) const VERSION: &str = "0.63.1";
 
 /// What `--version --json` prints: the release, the version of the lines of JSON, and the latest version of scripts.
 pub(crate) const VERSION_RECORD: &str =
-    "{\"kind\":\"version\",\"release\":\"0.63.0\",\"json\":2,\"script\":2}\n";
+    "{\"kind\":\"version\",\"release\":\"0.63.1\",\"json\":2,\"script\":2}\n";
 
 /// What stands at the end of the program's help: the commands of scripts, the exit statuses, and where all of it is said.
 pub(crate) const PAGE: &str = "\
